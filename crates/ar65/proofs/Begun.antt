@@ -13,9 +13,9 @@ use Rattle.library65.specs.declared.index.UnplacedEntry.{UnplacedEntry}
 use Rattle.library65.specs.declared.fault.LibraryFault.{LibraryFault}
 use Rattle.library65.specs.declared.fault.LibraryFault.TheVariants.{FileNotFound, BadIndex, BadMemberName, CutShort, IndexDisagrees, NotALibrary}
 use Rattle.library65.specs.Fault.{is_system_error}
-use Rattle.library65.specs.Libraries.{indexed_contents, has_index_names, as_member, member_contents, contents_in, with_library_entry, joined_all, library_at, object_in, piece_at}
+use Rattle.library65.specs.Libraries.{indexed_contents, has_index_names, as_member, member_contents, contents_in, with_library_entry, with_library_entries, library_at, object_in, member_bytes_at}
 use Rattle.library65.specs.Spelling.{is_among, is_member_name, is_name, Member, library_head}
-use Rattle.library65.specs.Reading.{count_at, counted_at, end_at, entry_at, field_at, head_at, in_file, index_at, list_at, listing_at, listings_at, member_name_at, name_at, number_at, members_with_offsets, symbol_at, symbols_at}
+use Rattle.library65.specs.Reading.{count_at, counted_names_at, end_at, entry_at, field_at, head_at, in_file, index_at, member_entries_at, unplaced_entry_at, unplaced_entries_at, member_name_at, name_at, number_at, members_with_offsets, symbol_at, symbols_at}
 use Rattle.ar65.specs.Librarian.{library_or_empty}
 
 abbrev is_missing : LibraryFault → Bool
@@ -61,8 +61,8 @@ symbols_there : (n : ℕ) (before : List (List ℕ)) (at : ℕ) (bytes : List �
 symbols_there zero before at bytes = refl
 symbols_there (suc n) before at bytes = then (symbol_at at bytes) _ (symbol_there at bytes) (λ s. symbols_there n (before ++ s.0 ∷ []) s.1 bytes)
 
-counted_there : (at : ℕ) (bytes : List ℕ) → IsThere (counted_at at bytes)
-unfolding counted_at
+counted_there : (at : ℕ) (bytes : List ℕ) → IsThere (counted_names_at at bytes)
+unfolding counted_names_at
 counted_there at bytes = then (number_at at bytes) _ (number_there at bytes) (λ n. symbols_there n [] (at + 4) bytes)
 
 member_name_there : (names : List (List ℕ)) (at : ℕ) (bytes : List ℕ) → IsThere (member_name_at names at bytes)
@@ -70,18 +70,18 @@ unfolding member_name_at
 member_name_there names at bytes =
     then (name_at at bytes) _ (name_there at bytes) (λ n. one_of (is_member_name n.0 && not (is_among names n.0)) (Ok n) (Err BadIndex) refl refl)
 
-listing_there : (names : List (List ℕ)) (at : ℕ) (bytes : List ℕ) → IsThere (listing_at names at bytes)
-unfolding listing_at
+listing_there : (names : List (List ℕ)) (at : ℕ) (bytes : List ℕ) → IsThere (unplaced_entry_at names at bytes)
+unfolding unplaced_entry_at
 listing_there names at bytes =
     then (member_name_at names at bytes) _ (member_name_there names at bytes) (λ n.
     then (number_at n.1 bytes) _ (number_there n.1 bytes) (λ size.
-    then (counted_at (n.1 + 4) bytes) _ (counted_there (n.1 + 4) bytes) (λ e.
-    then (counted_at e.1 bytes) _ (counted_there e.1 bytes) (λ i. refl))))
+    then (counted_names_at (n.1 + 4) bytes) _ (counted_there (n.1 + 4) bytes) (λ e.
+    then (counted_names_at e.1 bytes) _ (counted_there e.1 bytes) (λ i. refl))))
 
-listings_there : (n : ℕ) (before : List UnplacedEntry) (at : ℕ) (bytes : List ℕ) → IsThere (listings_at n before at bytes)
+listings_there : (n : ℕ) (before : List UnplacedEntry) (at : ℕ) (bytes : List ℕ) → IsThere (unplaced_entries_at n before at bytes)
 listings_there zero before at bytes = refl
 listings_there (suc n) before at bytes =
-    then (listing_at (map (λ m. m.name) before) at bytes) _ (listing_there (map (λ m. m.name) before) at bytes) (λ m. listings_there n (before ++ m.0 ∷ []) m.1 bytes)
+    then (unplaced_entry_at (map (λ m. m.name) before) at bytes) _ (listing_there (map (λ m. m.name) before) at bytes) (λ m. listings_there n (before ++ m.0 ∷ []) m.1 bytes)
 
 placed_there : (before : List Entry) (at : ℕ) (ms : List UnplacedEntry) → IsThere (members_with_offsets before at ms)
 placed_there before at [] = refl
@@ -93,15 +93,15 @@ end_there end bytes = one_of (nat_lt (length bytes) end) (Err CutShort) _ refl (
 head_there : (bytes : List ℕ) → IsThere (head_at bytes)
 head_there bytes = one_of (nat_lt (length (take 5 bytes)) 5 || not (bytes_eq (take 5 bytes) library_head)) (Err NotALibrary) (Ok tt) refl refl
 
-list_there : (bytes : List ℕ) → IsThere (list_at bytes)
-unfolding list_at
+list_there : (bytes : List ℕ) → IsThere (member_entries_at bytes)
+unfolding member_entries_at
 list_there bytes =
     then (count_at bytes) _ (then (head_at bytes) _ (head_there bytes) (λ u. number_there 5 bytes)) (λ n. listings_there n [] 9 bytes)
 
 index_there : (bytes : List ℕ) → IsThere (index_at bytes)
 unfolding index_at
 index_there bytes =
-    then (list_at bytes) _ (list_there bytes) (λ l.
+    then (member_entries_at bytes) _ (list_there bytes) (λ l.
     then (members_with_offsets [] l.1 l.0) _ (placed_there [] l.1 l.0) (λ es.
     then (end_at es.1 bytes) _ (end_there es.1 bytes) (λ u. refl)))
 
@@ -123,10 +123,10 @@ joined_there : (before : List Member) (e : Entry) (bytes : List ℕ) → IsThere
 unfolding with_library_entry
 joined_there before e bytes =
     let piece = take e.size (drop e.place bytes) in
-    then (piece_at e.size e.place bytes) _ (one_of (nat_lt (length piece) e.size) (Err CutShort) (Ok piece) refl refl) (λ found.
+    then (member_bytes_at e.size e.place bytes) _ (one_of (nat_lt (length piece) e.size) (Err CutShort) (Ok piece) refl refl) (λ found.
     then (indexed_contents e found) _ (agreed_there e found) (λ c. refl))
 
-all_there : (before : List Member) (es : List Entry) (bytes : List ℕ) → IsThere (joined_all before es bytes)
+all_there : (before : List Member) (es : List Entry) (bytes : List ℕ) → IsThere (with_library_entries before es bytes)
 all_there before [] bytes = refl
 all_there before (e ∷ es) bytes = then (with_library_entry before e bytes) _ (joined_there before e bytes) (λ ms. all_there ms es bytes)
 

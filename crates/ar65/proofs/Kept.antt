@@ -9,14 +9,14 @@ use Rattle.library65.specs.declared.fault.LibraryFault.{LibraryFault}
 use Rattle.library65.specs.Libraries.{without_named_member, library_at, with_new_member, bytes_within_limit}
 use Rattle.library65.specs.Reading.{in_file}
 use Rattle.library65.specs.Spelling.{IsLibrary, IsMemberList, Member}
-use Rattle.library65.proofs.Made.{written_is}
-use Rattle.library65.proofs.Read.{library_taken, stock_law}
+use Rattle.library65.proofs.WrittenLibraries.{written_is}
+use Rattle.library65.proofs.LoadedLibraries.{library_taken, stock_law}
 use Rattle.cli65.specs.declared.line.Operation.{Operation}
 use Rattle.cli65.specs.declared.line.Operation.TheVariants as operation
-use Rattle.cli65.specs.Line.{Archiving}
-use Rattle.ar65.specs.declared.archiving.Archived.TheVariants as archived
+use Rattle.cli65.specs.Line.{ArchiveView}
+use Rattle.ar65.specs.declared.archiving.ArchiveResult.TheVariants as archived
 use Rattle.ar65.specs.Laws.{HaveBytes, EditsPreserveLibrary, files_read}
-use Rattle.ar65.specs.Librarian.{as_file, as_library, library_or_empty, deleted_by, done, extracted_files, extracted_by, listed_by, member_name, members_in, replaced_by, rewritten_library, with_file, with_files, without_files}
+use Rattle.ar65.specs.Librarian.{as_file, as_library, library_or_empty, delete_result, operation_result, extracted_files, extract_result, list_result, member_name, members_in, replace_result, rewritten_library, with_file, with_files, without_files}
 
 bound : {E A B : Type 0} (r : Result A E) (f : A → Result B E) (y : B) → (r >>= f) ≡ Ok y → (x : A) × (r ≡ Ok x) × (f x ≡ Ok y)
 bound (Ok x) f y e = (x, refl, e)
@@ -65,34 +65,34 @@ written_anew ns bytes stock e =
     let same : made.0 ≡ bytes = cc (made.2) in
     (ns, written_is ns bytes stock (made.1 ∙ ap (λ b. Ok b) same))
 
-by_replacing : (m : Files) (a : Archiving) (bytes : List ℕ) → HaveBytes m (a.library ∷ a.files) → replaced_by m a ≡ Ok (archived.Library bytes) → (ms : List Member) × IsLibrary bytes ms
-unfolding replaced_by
+by_replacing : (m : Files) (a : ArchiveView) (bytes : List ℕ) → HaveBytes m (a.library ∷ a.files) → replace_result m a ≡ Ok (archived.Library bytes) → (ms : List Member) × IsLibrary bytes ms
+unfolding replace_result
 by_replacing m a bytes hold e =
     let old = bound (as_library (library_or_empty (get m a.library))) _ _ e in
     let new = bound (with_files m old.0 0 a.files) _ _ old.2 in
     let first = begun_stock (get m a.library) old.0 hold.0 (of_library (library_or_empty (get m a.library)) old.0 old.1) in
     written_anew new.0 bytes (with_stock m old.0 new.0 0 a.files hold.1 first new.1) new.2
 
-by_deleting : (m : Files) (a : Archiving) (bytes : List ℕ) → IfSome (get m a.library) IsBytes → deleted_by m a ≡ Ok (archived.Library bytes) → (ms : List Member) × IsLibrary bytes ms
-unfolding deleted_by
+by_deleting : (m : Files) (a : ArchiveView) (bytes : List ℕ) → IfSome (get m a.library) IsBytes → delete_result m a ≡ Ok (archived.Library bytes) → (ms : List Member) × IsLibrary bytes ms
+unfolding delete_result
 by_deleting m a bytes hold e =
     let old = bound (as_library (members_in m a.library)) _ _ e in
     let new = bound (as_library (without_files old.0 a.files)) _ _ old.2 in
     let first = read_stock (get m a.library) old.0 hold (of_library (members_in m a.library) old.0 old.1) in
     written_anew new.0 bytes (without_stock old.0 new.0 a.files first (of_library (without_files old.0 a.files) new.0 new.1)) new.2
 
-not_listed : (m : Files) (a : Archiving) (bytes : List ℕ) → listed_by m a ≡ Ok (archived.Library bytes) → ⊥
-unfolding listed_by
+not_listed : (m : Files) (a : ArchiveView) (bytes : List ℕ) → list_result m a ≡ Ok (archived.Library bytes) → ⊥
+unfolding list_result
 not_listed m a bytes e = let old = bound (as_library (members_in m a.library)) _ _ e in cc (old.2)
 
-not_extracted : (m : Files) (a : Archiving) (bytes : List ℕ) → extracted_by m a ≡ Ok (archived.Library bytes) → ⊥
-unfolding extracted_by
+not_extracted : (m : Files) (a : ArchiveView) (bytes : List ℕ) → extract_result m a ≡ Ok (archived.Library bytes) → ⊥
+unfolding extract_result
 not_extracted m a bytes e =
     let old = bound (as_library (members_in m a.library)) _ _ e in
     let files = bound (as_library (extracted_files old.0 a.files)) _ _ old.2 in
     cc (files.2)
 
-by_operation : (op : Operation) (m : Files) (a : Archiving) (bytes : List ℕ) → HaveBytes m (a.library ∷ files_read op a.files) → done op m a ≡ Ok (archived.Library bytes) → (ms : List Member) × IsLibrary bytes ms
+by_operation : (op : Operation) (m : Files) (a : ArchiveView) (bytes : List ℕ) → HaveBytes m (a.library ∷ files_read op a.files) → operation_result op m a ≡ Ok (archived.Library bytes) → (ms : List Member) × IsLibrary bytes ms
 by_operation operation.Replace m a bytes hold e = by_replacing m a bytes hold e
 by_operation operation.Delete m a bytes hold e = by_deleting m a bytes hold.0 e
 by_operation operation.List m a bytes hold e = absurd (not_listed m a bytes e)

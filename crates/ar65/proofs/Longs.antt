@@ -6,10 +6,10 @@ use Rattle.object65.specs.declared.fault.ObjectFault.{ObjectFault}
 use Rattle.object65.specs.declared.fault.ObjectFault.TheVariants.{BadSize, BytesAfterEnd}
 use Rattle.object65.specs.declared.object.Object.{Object}
 use Rattle.base65.specs.Outcome.{◌>>=◌}
-use Rattle.object65.specs.Reading.{end_at, file_limit, front_of, head_at, record_at, bytes_before, body_or_cut_short, object_at, records_at}
+use Rattle.object65.specs.Reading.{end_at, file_limit, record_header, head_at, record_at, bytes_between, body_or_cut_short, object_at, records_at}
 use Rattle.object65.specs.Record.{RawRecord}
-use Rattle.object65.specs.Scanning.{State, after, object_of_state, start}
-use Rattle.object65.proofs.Trails.{bound, passes}
+use Rattle.object65.specs.Scanning.{State, state_after_record, object_of_state, start}
+use Rattle.object65.proofs.RecordSequences.{bound, passes}
 use Rattle.library65.specs.declared.fault.LibraryFault.{LibraryFault}
 use Rattle.library65.specs.declared.fault.LibraryFault.TheVariants.{BadMemberName, NotAnObject}
 use Rattle.library65.specs.Libraries.{as_member, member_contents, contents_from, contents_in, object_in, with_new_member, with_member}
@@ -19,8 +19,8 @@ use Rattle.library65.specs.Spelling.{is_member_name, Member}
 record_ends : (v : ℕ) (bytes : List ℕ) (at limit : ℕ) (x : RawRecord × ℕ) → record_at v at limit bytes ≡ Ok x → x.1 ≤ file_limit
 unfolding record_at
 record_ends v bytes at limit x e =
-    let f = bound (front_of v (take 3 (bytes_before bytes at limit))) _ _ e in
-    let b = bound (body_or_cut_short f.0.1 (take f.0.1 (bytes_before bytes (at + 3) limit))) _ _ f.2 in
+    let f = bound (record_header v (take 3 (bytes_between bytes at limit))) _ _ e in
+    let b = bound (body_or_cut_short f.0.1 (take f.0.1 (bytes_between bytes (at + 3) limit))) _ _ f.2 in
     let last = passes (nat_lt file_limit (at + 3 + f.0.1)) BadSize _ _ b.2 in
     let x_is : ◌≡◌ {A = RawRecord × ℕ} (record { kind = f.0.0; body = b.0 }, at + 3 + f.0.1) x = cc (last.1) in
     let end : at + 3 + f.0.1 ≡ x.1 = ap (λ p. p.1) x_is in
@@ -33,7 +33,7 @@ records_end : (left : ℕ) (s : State) (at limit : ℕ) (bytes : List ℕ) (x : 
 records_end zero s at limit bytes x e = absurd cc
 records_end (suc left) s at limit bytes x e =
     let r = bound (record_at s.version at limit bytes) _ _ e in
-    let u = bound (after s r.0.0) _ _ r.2 in
+    let u = bound (state_after_record s r.0.0) _ _ r.2 in
     go u.0.ended r.0 u.0 (record_ends s.version bytes at limit r.0 r.1) (λ t next h. records_end left t next limit bytes x h) u.2
   where
     go : (b : Bool) (r : RawRecord × ℕ) (t : State) → r.1 ≤ file_limit → ((t : State) (next : ℕ) → records_at left t next limit bytes ≡ Ok x → x.1 ≤ file_limit) → (if b then Ok (t, r.1) else records_at left t r.1 limit bytes) ≡ Ok x → x.1 ≤ file_limit
@@ -43,9 +43,9 @@ records_end (suc left) s at limit bytes x e =
 -- where more follows, the object doesn't end there
 more_after : (end : ℕ) (bytes : List ℕ) → end < length bytes → end_at end (length bytes) bytes ≡ Err BytesAfterEnd
 more_after end bytes h =
-    let left : length (take 1 (bytes_before bytes end (length bytes))) ≡ min 1 (min (length bytes - end) (length bytes - end)) =
-    length-take 1 (bytes_before bytes end (length bytes)) ∙ ap (min 1) (length-take (length bytes - end) (drop end bytes) ∙ ap (min (length bytes - end)) (length-drop end bytes)) in
-    let some : nat_lt 0 (length (take 1 (bytes_before bytes end (length bytes)))) ≡ true = grind (arith, nat_tests) in
+    let left : length (take 1 (bytes_between bytes end (length bytes))) ≡ min 1 (min (length bytes - end) (length bytes - end)) =
+    length-take 1 (bytes_between bytes end (length bytes)) ∙ ap (min 1) (length-take (length bytes - end) (drop end bytes) ∙ ap (min (length bytes - end)) (length-drop end bytes)) in
+    let some : nat_lt 0 (length (take 1 (bytes_between bytes end (length bytes)))) ≡ true = grind (arith, nat_tests) in
     rw some refl
 
 pub long_file : (bytes : List ℕ) → file_limit < length bytes → object_in bytes ≡ Err NotAnObject

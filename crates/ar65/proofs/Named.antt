@@ -4,9 +4,9 @@ use Rattle.base65.specs.Store.{FailedOn, LastFailure}
 use Rattle.library65.specs.declared.fault.LibraryFault.{LibraryFault}
 use Rattle.library65.specs.declared.fault.LibraryFault.TheVariants.{BadIndex, BadMemberName, CutShort, FileError, FileNotFound, IndexDisagrees, NoSuchMember, NotALibrary, NotAnObject, OutOfMemory}
 use Rattle.ar65.specs.declared.fault.ArchiveFault.TheVariants.{File}
-use Rattle.ar65.specs.Naming.{NamesFiles}
+use Rattle.ar65.specs.Naming.{NamesFileFailure}
 
-pub of_file : (last_failure : LastFailure) (files : List (List ℕ)) (index : ℕ) (name : List ℕ) (f : LibraryFault) → slice_get files index ≡ Some name → (f ≡ FileError → FailedOn last_failure name) → NamesFiles last_failure files (File index f)
+pub of_file : (last_failure : LastFailure) (files : List (List ℕ)) (index : ℕ) (name : List ℕ) (f : LibraryFault) → slice_get files index ≡ Some name → (f ≡ FileError → FailedOn last_failure name) → NamesFileFailure last_failure files (File index f)
 of_file last_failure files index name FileError at asked h = (index, name, at, refl, asked refl)
 of_file last_failure files index name OutOfMemory at asked h = absurd cc
 of_file last_failure files index name NotALibrary at asked h = absurd cc

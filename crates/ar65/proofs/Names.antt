@@ -13,12 +13,12 @@ use Rattle.std.specs.Path.{rfind_below, rsplit_once, slash}
 use Rattle.std.specs.Str.{NoCharPasses, bytes_eq, is_utf8}
 use Rattle.library65.specs.declared.contents.Contents.{Contents}
 use Rattle.library65.specs.declared.index.Entry.{Entry}
-use Rattle.library65.specs.Libraries.{indexed_contents, member_contents, with_library_entry, joined_all, library_at, member_names, piece_at, with_member}
+use Rattle.library65.specs.Libraries.{indexed_contents, member_contents, with_library_entry, with_library_entries, library_at, member_names, member_bytes_at, with_member}
 use Rattle.library65.specs.Spelling.{is_folder, is_member_name, is_plain, Member}
 use Rattle.library65.specs.Reading.{index_at}
 use Rattle.library65.proofs.Edits.{checked_good, left, right}
-use Rattle.library65.proofs.Indexed.{bound}
-use Rattle.ar65.specs.Librarian.{AreTexts, last_part, member_name}
+use Rattle.library65.proofs.ReadIndexes.{bound}
+use Rattle.ar65.specs.Librarian.{AreUtf8, last_part, member_name}
 
 -- ---- The name behind a file's last `/`.
 
@@ -79,12 +79,12 @@ agreed_checked e found c is = let b = bound (member_contents e.name found) _ _ i
 checked_joined : (before ms : List Member) (e : Entry) (bytes : List ℕ) → with_library_entry before e bytes ≡ Ok ms → AllByRecursion IsChecked before → AllByRecursion IsChecked ms
 unfolding with_library_entry
 checked_joined before ms e bytes is all =
-    let piece = bound (piece_at e.size e.place bytes) _ _ is in
+    let piece = bound (member_bytes_at e.size e.place bytes) _ _ is in
     let own = bound (indexed_contents e piece.0) _ _ piece.2 in
     let made : with_member before e.name piece.0 ≡ ms = cc in
     subst (AllByRecursion IsChecked) made (checked_with before e.name piece.0 (agreed_checked e piece.0 own.0 own.1) all)
 
-checked_all : (before ms : List Member) (es : List Entry) (bytes : List ℕ) → joined_all before es bytes ≡ Ok ms → AllByRecursion IsChecked before → AllByRecursion IsChecked ms
+checked_all : (before ms : List Member) (es : List Entry) (bytes : List ℕ) → with_library_entries before es bytes ≡ Ok ms → AllByRecursion IsChecked before → AllByRecursion IsChecked ms
 checked_all before ms [] bytes is all = let same : before ≡ ms = cc in subst (AllByRecursion IsChecked) same all
 checked_all before ms (e ∷ es) bytes is all =
     let one = bound (with_library_entry before e bytes) _ _ is in
@@ -96,11 +96,11 @@ members_checked bytes ms is =
     let index = bound (index_at bytes) _ _ is in
     checked_all [] ms index.0 bytes index.2 tt
 
-texts_of : (ms : List Member) → AllByRecursion IsChecked ms → AreTexts (member_names ms)
+texts_of : (ms : List Member) → AllByRecursion IsChecked ms → AreUtf8 (member_names ms)
 texts_of [] all = tt
 texts_of (m ∷ ms) all = (text_name m.0 (checked_good m.0 m.1 all.0.0 all.0.1), texts_of ms all.1)
 
-pub names_are_texts : (bytes : List ℕ) (ms : List Member) → library_at bytes ≡ Ok ms → AreTexts (member_names ms)
+pub names_are_texts : (bytes : List ℕ) (ms : List Member) → library_at bytes ≡ Ok ms → AreUtf8 (member_names ms)
 names_are_texts bytes ms is = texts_of ms (members_checked bytes ms is)
 
 -- ---- A member's name is the name of a file of its name.

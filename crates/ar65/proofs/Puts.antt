@@ -4,7 +4,7 @@ use Rattle.std.specs.Prelude.{IfSome, IsErrOf}
 use Rattle.std.specs.FinMap.{get}
 use Rattle.std.proofs.lemmas.List.{drop_all}
 use Rattle.base65.specs.Outcome.{◌>>=◌, Refines, RefinesErr, Unless}
-use Rattle.base65.specs.Reading.{front_in}
+use Rattle.base65.specs.Reading.{file_prefix}
 use Rattle.base65.specs.Store.{Files, HasFailed, PropagatesIoError, PropagatesIoErrors}
 use Rattle.object65.specs.Reading.{file_limit}
 use Rattle.library65.specs.declared.contents.Contents.{Contents}
@@ -15,7 +15,7 @@ use Rattle.library65.specs.Libraries.{member_contents, with_new_member, with_mem
 use Rattle.library65.specs.Reading.{in_file}
 use Rattle.library65.specs.Spelling.{Member}
 use Rattle.library65.proofs.Members.{not_stored}
-use Rattle.ar65.specs.declared.fault.ArchiveFault.TheVariants as refusal
+use Rattle.ar65.specs.declared.fault.ArchiveFault.TheVariants as error
 use Rattle.ar65.specs.Librarian.{as_file, member_name, with_file, with_files}
 use Rattle.ar65.specs.Laws.{HaveBytes}
 use Rattle.ar65.specs.Faults.{is_failure, is_system_error}
@@ -34,11 +34,11 @@ weaker_result view (Ok x) whole h = h
 weaker_result view (Err e) whole h = weaker e whole h
 
 -- what was put in is the file's object
-pub put_of : (known : Option Files) (ms : List Member) (name front put : List ℕ) (new : List Member) (r : Result (Unit {0}) LibraryFault) → put ≡ member_name name → IfSome known (λ m. front_in (get m name) (file_limit + 1) ≡ Ok front) → Refines is_library_memory (λ _. new) r (with_new_member ms put front) → IfSome known (λ m. Refines is_library_system_error (λ _. new) r (with_file m ms name))
+pub put_of : (known : Option Files) (ms : List Member) (name front put : List ℕ) (new : List Member) (r : Result (Unit {0}) LibraryFault) → put ≡ member_name name → IfSome known (λ m. file_prefix (get m name) (file_limit + 1) ≡ Ok front) → Refines is_library_memory (λ _. new) r (with_new_member ms put front) → IfSome known (λ m. Refines is_library_system_error (λ _. new) r (with_file m ms name))
 put_of None ms name front put new r named read gives = tt
 put_of (Some m) ms name front put new r named read gives = go (get m name) read
   where
-    go : (file : Option (List ℕ)) → front_in file (file_limit + 1) ≡ Ok front → Refines is_library_system_error (λ _. new) r (in_file file (with_new_member ms (member_name name)))
+    go : (file : Option (List ℕ)) → file_prefix file (file_limit + 1) ≡ Ok front → Refines is_library_system_error (λ _. new) r (in_file file (with_new_member ms (member_name name)))
     go None read = absurd cc
     go (Some bytes) read =
         let same : take (file_limit + 1) bytes ≡ front = cc in
@@ -64,29 +64,29 @@ not_failed ms name bytes new (Err e) gives h =
 -- the count of failures goes by the call before
 pub passes_on : {T U E : Type 0} (f : E) (old new : ℕ) (x : T) (r : Result U LibraryFault) → PropagatesIoError f old new (Ok x) → (IsErrOf r fault.FileError → ⊥) → PropagatesIoError fault.FileError old new r
 passes_on f old new x r p none = record {
-  later = p.later;
-  told = λ h. absurd (cc (p.told h));
-  cause = λ h. absurd (none h);
+  monotone = p.monotone;
+  reported = λ h. absurd (cc (p.reported h));
+  caused = λ h. absurd (none h);
 }
 
 -- ---- One behind the other.
 
 pub same_count : {T : Type 0} (start mid new : ℕ) (x : T) → mid ≡ start → PropagatesIoError fault.FileError mid new (Ok x) → new ≡ start
 same_count start mid new x e p =
-    let not_later : mid < new → ⊥ = λ h. cc (p.told h) in
-    omega (arith, e, p.later, not_later)
+    let not_later : mid < new → ⊥ = λ h. cc (p.reported h) in
+    omega (arith, e, p.monotone, not_later)
 
-is_stored : (k : ℕ) (e : LibraryFault) → is_failure (refusal.File k e) ≡ true → e ≡ fault.FileError
+is_stored : (k : ℕ) (e : LibraryFault) → is_failure (error.File k e) ≡ true → e ≡ fault.FileError
 is_stored k fault.FileError h = refl
 is_stored k e h = absurd cc
 
-pub refused_count : {T U : Type 0} (start mid new k : ℕ) (e : LibraryFault) → mid ≡ start → PropagatesIoError {T = T} fault.FileError mid new (Err e) → PropagatesIoErrors {T = U} is_failure start new (Err (refusal.File k e))
+pub refused_count : {T U : Type 0} (start mid new k : ℕ) (e : LibraryFault) → mid ≡ start → PropagatesIoError {T = T} fault.FileError mid new (Err e) → PropagatesIoErrors {T = U} is_failure start new (Err (error.File k e))
 refused_count start mid new k e same p = record {
-  later = subst (λ n. n ≤ new) same p.later;
-  told = λ h.
-      let stored : e ≡ fault.FileError = cc (p.told (subst (λ n. n < new) (sym same) h)) in
-      ap (λ x. is_failure (refusal.File k x)) stored;
-  cause = λ h. subst (λ n. HasFailed n new) same (p.cause (ap (λ x. Err x) (is_stored k e h)));
+  monotone = subst (λ n. n ≤ new) same p.monotone;
+  reported = λ h.
+      let stored : e ≡ fault.FileError = cc (p.reported (subst (λ n. n < new) (sym same) h)) in
+      ap (λ x. is_failure (error.File k x)) stored;
+  caused = λ h. subst (λ n. HasFailed n new) same (p.caused (ap (λ x. Err x) (is_stored k e h)));
 }
 
 -- what is left of the FILEs comes to the same as all of them
@@ -101,7 +101,7 @@ file_more (Some m) next before ms ns names k name same at left put =
     ∙ sym (ap (with_files m ms k) at)
     ∙ left
 
-file_outside : (k : ℕ) (e : LibraryFault) (P : Type 0) → Unless (is_library_system_error e) P → Unless (is_system_error (refusal.File k e)) P
+file_outside : (k : ℕ) (e : LibraryFault) (P : Type 0) → Unless (is_library_system_error e) P → Unless (is_system_error (error.File k e)) P
 file_outside k fault.OutOfMemory P h = tt
 file_outside k fault.FileError P h = tt
 file_outside k e P h = h
@@ -110,13 +110,13 @@ unless_then : {P Q : Type 0} (b : Bool) → (P → Q) → Unless b P → Unless 
 unless_then true f h = tt
 unless_then false f h = f h
 
-pub file_none : (known next : Option Files) (before ms : List Member) (names : List (List ℕ)) (k : ℕ) (name : List ℕ) (e : LibraryFault) → next ≡ known → drop k names ≡ name ∷ drop (k + 1) names → IsLeft known before names ms k → IfSome next (λ m. RefinesErr is_library_system_error e (with_file m ms name)) → IfSome known (λ m. RefinesErr is_system_error (refusal.File k e) (with_files m before 0 names))
+pub file_none : (known next : Option Files) (before ms : List Member) (names : List (List ℕ)) (k : ℕ) (name : List ℕ) (e : LibraryFault) → next ≡ known → drop k names ≡ name ∷ drop (k + 1) names → IsLeft known before names ms k → IfSome next (λ m. RefinesErr is_library_system_error e (with_file m ms name)) → IfSome known (λ m. RefinesErr is_system_error (error.File k e) (with_files m before 0 names))
 file_none None next before ms names k name e same at left put = tt
 file_none (Some m) next before ms names k name e same at left put =
     let here : RefinesErr is_library_system_error e (with_file m ms name) = rw same at put in
-    let whole : with_file m ms name ≡ Err e → with_files m before 0 names ≡ Err (refusal.File k e) = λ h.
+    let whole : with_file m ms name ≡ Err e → with_files m before 0 names ≡ Err (error.File k e) = λ h.
     sym left ∙ ap (with_files m ms k) at ∙ ap (λ r. as_file k r >>= (λ xs. with_files m xs (k + 1) (drop (k + 1) names))) h in
-    file_outside k e (with_files m before 0 names ≡ Err (refusal.File k e)) (unless_then (is_library_system_error e) whole here)
+    file_outside k e (with_files m before 0 names ≡ Err (error.File k e)) (unless_then (is_library_system_error e) whole here)
 
 -- ---- What was read are bytes.
 

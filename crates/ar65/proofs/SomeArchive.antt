@@ -9,23 +9,23 @@ use Rattle.library65.specs.Fault.{is_system_error as is_library_system_error}
 use Rattle.library65.specs.Libraries.{bytes_of, without_named_member, library_at, member_names, with_new_member, bytes_within_limit}
 use Rattle.library65.specs.Reading.{in_file}
 use Rattle.library65.specs.Spelling.{Member}
-use Rattle.library65.proofs.SomeLibrary as from
-use Rattle.cli65.specs.Line.{Archiving}
+use Rattle.library65.proofs.LibraryExistence as from
+use Rattle.cli65.specs.Line.{ArchiveView}
 use Rattle.cli65.specs.declared.line.Operation.{Operation}
 use Rattle.cli65.specs.declared.line.Operation.TheVariants as operation
 use Rattle.ar65.specs.Laws.{ArchiveExists}
-use Rattle.ar65.specs.Librarian.{as_file, as_library, library_or_empty, deleted_by, done, extracted_files, extracted_by, file_of, files_of, member_or_error, listed_by, member_name, members_in, replaced_by, rewritten_library, with_file, with_files, without_files}
+use Rattle.ar65.specs.Librarian.{as_file, as_library, library_or_empty, delete_result, operation_result, extracted_files, extract_result, file_of, files_of, member_or_error, list_result, member_name, members_in, replace_result, rewritten_library, with_file, with_files, without_files}
 use Rattle.ar65.specs.Faults.{is_system_error}
-use Rattle.ar65.specs.declared.fault.ArchiveFault.TheVariants as refusal
+use Rattle.ar65.specs.declared.fault.ArchiveFault.TheVariants as error
 
 -- ---- Answers that come from no outside.
 
-library_fault : (f : LibraryFault) → is_library_system_error f ≡ false → is_system_error (refusal.Library f) ≡ false
+library_fault : (f : LibraryFault) → is_library_system_error f ≡ false → is_system_error (error.Library f) ≡ false
 library_fault library.OutOfMemory h = h
 library_fault library.FileError h = h
 library_fault _ h = refl
 
-file_fault : (k : ℕ) (f : LibraryFault) → is_library_system_error f ≡ false → is_system_error (refusal.File k f) ≡ false
+file_fault : (k : ℕ) (f : LibraryFault) → is_library_system_error f ≡ false → is_system_error (error.File k f) ≡ false
 file_fault k library.OutOfMemory h = h
 file_fault k library.FileError h = h
 file_fault k _ h = refl
@@ -78,8 +78,8 @@ rewritten_own ms = of_library (rewritten_library ms) (next (bytes_within_limit m
 
 -- ---- The operations.
 
-done_own : (o : Operation) (m : Files) (a : Archiving) → Own is_system_error (done o m a)
-unfolding replaced_by deleted_by listed_by extracted_by
+done_own : (o : Operation) (m : Files) (a : ArchiveView) → Own is_system_error (operation_result o m a)
+unfolding replace_result delete_result list_result extract_result
 done_own operation.Replace m a =
     next (as_library (library_or_empty (get m a.library))) _ (of_library (library_or_empty (get m a.library)) (begun_own (get m a.library))) (λ ms.
     next (with_files m ms 0 a.files) _ (with_own m ms 0 a.files) (λ ns. rewritten_own ns))

@@ -10,11 +10,11 @@ use Rattle.library65.specs.Fault.{is_memory as is_library_memory}
 use Rattle.library65.specs.Libraries.{without_named_member, library_at, member_names}
 use Rattle.library65.specs.Reading.{in_file}
 use Rattle.library65.specs.Spelling.{Member}
-use Rattle.cli65.specs.Line.{Archiving}
-use Rattle.ar65.specs.declared.archiving.Archived.TheVariants as archived
+use Rattle.cli65.specs.Line.{ArchiveView}
+use Rattle.ar65.specs.declared.archiving.ArchiveResult.TheVariants as archived
 use Rattle.ar65.specs.declared.members.MemberFile.{MemberFile}
-use Rattle.ar65.specs.declared.fault.ArchiveFault.TheVariants as refusal
-use Rattle.ar65.specs.Librarian.{AreTexts, extracted_files, extracted_by, file_of, files_of, member_name, without_files}
+use Rattle.ar65.specs.declared.fault.ArchiveFault.TheVariants as error
+use Rattle.ar65.specs.Librarian.{AreUtf8, extracted_files, extract_result, file_of, files_of, member_name, without_files}
 use Rattle.ar65.specs.Faults.{is_system_error}
 use Rattle.ar65.proofs.Names.{names_are_texts}
 use Rattle.ar65.proofs.Turns.{ahead, each_none, refused_so}
@@ -47,28 +47,28 @@ some_named ms (x ∷ xs) b filled is = refl
 
 -- ---- The operation.
 
-library_outside : (e : LibraryFault) (P : Type 0) → Unless (is_library_memory e) P → Unless (is_system_error (refusal.Library e)) P
+library_outside : (e : LibraryFault) (P : Type 0) → Unless (is_library_memory e) P → Unless (is_system_error (error.Library e)) P
 library_outside fault.OutOfMemory P h = tt
 library_outside fault.FileError P h = tt
 library_outside e P h = h
 
-texts_in : (file : Option (List ℕ)) (ms : List Member) → in_file file library_at ≡ Ok ms → AreTexts (member_names ms)
+texts_in : (file : Option (List ℕ)) (ms : List Member) → in_file file library_at ≡ Ok ms → AreUtf8 (member_names ms)
 texts_in None ms e = absurd cc
 texts_in (Some bytes) ms e = names_are_texts bytes ms e
 
-pub extracts : (known : Option Files) (a : Archiving) (ms : List Member) (names : List (List ℕ)) (found : List MemberFile) → names ≡ a.files → IfSome known (λ m. in_file (get m a.library) library_at ≡ Ok ms) → (AreTexts (member_names ms) → extracted_files ms names ≡ Ok found) → IfSome known (λ m. extracted_by m a ≡ Ok (archived.Members found))
-unfolding extracted_by
+pub extracts : (known : Option Files) (a : ArchiveView) (ms : List Member) (names : List (List ℕ)) (found : List MemberFile) → names ≡ a.files → IfSome known (λ m. in_file (get m a.library) library_at ≡ Ok ms) → (AreUtf8 (member_names ms) → extracted_files ms names ≡ Ok found) → IfSome known (λ m. extract_result m a ≡ Ok (archived.Members found))
+unfolding extract_result
 extracts None a ms names found same read gives = tt
 extracts (Some m) a ms names found same read gives =
     let given : extracted_files ms a.files ≡ Ok found = ap (extracted_files ms) (sym same) ∙ gives (texts_in (get m a.library) ms read) in
     rw (read, given) refl
 
-pub not_extracted : (known : Option Files) (a : Archiving) (ms : List Member) (names : List (List ℕ)) (e : LibraryFault) → names ≡ a.files → IfSome known (λ m. in_file (get m a.library) library_at ≡ Ok ms) → (AreTexts (member_names ms) → RefinesErr is_library_memory e (extracted_files ms names)) → IfSome known (λ m. RefinesErr is_system_error (refusal.Library e) (extracted_by m a))
-unfolding extracted_by
+pub not_extracted : (known : Option Files) (a : ArchiveView) (ms : List Member) (names : List (List ℕ)) (e : LibraryFault) → names ≡ a.files → IfSome known (λ m. in_file (get m a.library) library_at ≡ Ok ms) → (AreUtf8 (member_names ms) → RefinesErr is_library_memory e (extracted_files ms names)) → IfSome known (λ m. RefinesErr is_system_error (error.Library e) (extract_result m a))
+unfolding extract_result
 not_extracted None a ms names e same read gives = tt
 not_extracted (Some m) a ms names e same read gives =
-    library_outside e (extracted_by m a ≡ Err (refusal.Library e)) (go (is_library_memory e) (gives (texts_in (get m a.library) ms read)))
+    library_outside e (extract_result m a ≡ Err (error.Library e)) (go (is_library_memory e) (gives (texts_in (get m a.library) ms read)))
   where
-    go : (b : Bool) → Unless b (extracted_files ms names ≡ Err e) → Unless b (extracted_by m a ≡ Err (refusal.Library e))
+    go : (b : Bool) → Unless b (extracted_files ms names ≡ Err e) → Unless b (extract_result m a ≡ Err (error.Library e))
     go true h = tt
     go false h = let given : extracted_files ms a.files ≡ Err e = ap (extracted_files ms) (sym same) ∙ h in rw (read, given) refl

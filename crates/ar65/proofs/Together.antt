@@ -15,10 +15,10 @@ use Rattle.library65.specs.Libraries.{bytes_of, library_bytes, member_names, wit
 use Rattle.library65.specs.Spelling.{are_member_names, is_among, IsLibrary, Member}
 use Rattle.library65.specs.Reading.{in_file}
 use Rattle.library65.proofs.Edits.{checked_good, good_names}
-use Rattle.library65.proofs.Read.{library_loaded, put_last, stock_law}
-use Rattle.library65.proofs.Made.{library_is}
+use Rattle.library65.proofs.LoadedLibraries.{library_loaded, put_last, stock_law}
+use Rattle.library65.proofs.WrittenLibraries.{library_is}
 use Rattle.ar65.specs.declared.members.MemberFile.{MemberFile}
-use Rattle.ar65.specs.Laws.{AreWritten, ExtractThenAddIsIdentity}
+use Rattle.ar65.specs.Laws.{HasMemberFiles, ExtractThenAddIsIdentity}
 use Rattle.ar65.specs.Librarian.{as_file, files_of, member_or_error, member_name, with_file, with_files}
 use Rattle.ar65.proofs.Names.{IsChecked, its_own_name, members_checked}
 
@@ -90,7 +90,7 @@ put_after m before x new good there =
     ∙ ap (λ r. r >>= (λ c. Ok (with_member before x.0 x.1))) good.1
     ∙ ap (λ xs. Ok xs) (put_last before x.0 x.1 new)
 
-put_all : (m : Files) (before ms : List Member) (k : ℕ) → are_member_names (member_names ms) ≡ true → Fresh before ms → AllByRecursion IsChecked ms → AreWritten m (map member_file ms) → with_files m before k (map (λ f. f.name) (map member_file ms)) ≡ Ok (before ++ ms)
+put_all : (m : Files) (before ms : List Member) (k : ℕ) → are_member_names (member_names ms) ≡ true → Fresh before ms → AllByRecursion IsChecked ms → HasMemberFiles m (map member_file ms) → with_files m before k (map (λ f. f.name) (map member_file ms)) ≡ Ok (before ++ ms)
 put_all m before [] k good fresh all there = ap (λ xs. Ok xs) (sym (append-nil before))
 put_all m before (x ∷ xs) k good fresh all there =
     let g = good_names x.0 (member_names xs) good in
@@ -114,5 +114,5 @@ put_together bytes ms files m is extracts there =
     let all = members_checked bytes ms (library_loaded bytes ms is) in
     let made : Ok (map member_file ms) ≡ Ok files = sym (each_found ms ms (all_found ms stock.names)) ∙ extracts in
     let same : map member_file ms ≡ files = cc in
-    let whole = put_all m [] ms 0 stock.names (fresh_none ms) all (subst (AreWritten m) (sym same) there) in
+    let whole = put_all m [] ms 0 stock.names (fresh_none ms) all (subst (HasMemberFiles m) (sym same) there) in
     (ap (λ fs. with_files m [] 0 (map (λ f. f.name) fs)) (sym same) ∙ whole, written_so bytes ms is)

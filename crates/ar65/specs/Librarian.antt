@@ -13,21 +13,21 @@ use Rattle.library65.specs.Reading.{in_file}
 use Rattle.library65.specs.Spelling.{Member}
 use Rattle.cli65.specs.declared.line.Operation.{Operation}
 use Rattle.cli65.specs.declared.line.Operation.TheVariants as operation
-use Rattle.cli65.specs.Line.{Archiving}
-use Rattle.ar65.specs.declared.archiving.Archived.{Archived}
-use Rattle.ar65.specs.declared.archiving.Archived.TheVariants as archived
+use Rattle.cli65.specs.Line.{ArchiveView}
+use Rattle.ar65.specs.declared.archiving.ArchiveResult.{ArchiveResult}
+use Rattle.ar65.specs.declared.archiving.ArchiveResult.TheVariants as archived
 use Rattle.ar65.specs.declared.members.MemberFile.{MemberFile}
 use Rattle.ar65.specs.declared.fault.ArchiveFault.{ArchiveFault}
-use Rattle.ar65.specs.declared.fault.ArchiveFault.TheVariants as refusal
+use Rattle.ar65.specs.declared.fault.ArchiveFault.TheVariants as error
 
--- the faults of the parts as the command's; a FILE is named by its index in the line
+-- the faults of the parts as the command's; a FILE is named by its index among the FILEs
 abbrev pub as_library : {A : Type 0} → Result A LibraryFault → Result A ArchiveFault
 as_library (Ok x) = Ok x
-as_library (Err e) = Err (refusal.Library e)
+as_library (Err e) = Err (error.Library e)
 
 abbrev pub as_file : {A : Type 0} → ℕ → Result A LibraryFault → Result A ArchiveFault
 as_file k (Ok x) = Ok x
-as_file k (Err e) = Err (refusal.File k e)
+as_file k (Err e) = Err (error.File k e)
 
 -- ---- The name of a member.
 
@@ -55,7 +55,7 @@ library_or_empty (Some bytes) = library_at bytes
 abbrev pub with_file : Files → List Member → List ℕ → Result (List Member) LibraryFault
 with_file m ms file = in_file (get m file) (with_new_member ms (member_name file))
 
--- those of FILEs in order, the first of them at an index of the line
+-- those of FILEs in order, of which the first has this index among all of the FILEs
 abbrev pub with_files : Files → List Member → ℕ → List (List ℕ) → Result (List Member) ArchiveFault
 with_files m ms k [] = Ok ms
 with_files m ms k (file ∷ files) = as_file k (with_file m ms file) >>= (λ ns. with_files m ns (k + 1) files)
@@ -86,48 +86,48 @@ extracted_files ms [] = files_of ms (member_names ms)
 extracted_files ms (file ∷ files) = files_of ms (map member_name (file ∷ files))
 
 -- names that can be a file's
-abbrev pub AreTexts : List (List ℕ) → Type 0
-AreTexts names = AllByRecursion (λ name. is_utf8 name ≡ true) names
+abbrev pub AreUtf8 : List (List ℕ) → Type 0
+AreUtf8 names = AllByRecursion (λ name. is_utf8 name ≡ true) names
 
 -- ---- The operations.
 
 -- the library anew
-abbrev pub rewritten_library : List Member → Result Archived LibraryFault
+abbrev pub rewritten_library : List Member → Result ArchiveResult LibraryFault
 rewritten_library ms = bytes_within_limit ms >>= (λ bytes. Ok (archived.Library bytes))
 
 -- `r`
-unfoldable pub replaced_by : Files → Archiving → Result Archived ArchiveFault
-replaced_by m a = do
+unfoldable pub replace_result : Files → ArchiveView → Result ArchiveResult ArchiveFault
+replace_result m a = do
   ms ← as_library (library_or_empty (get m a.library))
   ns ← with_files m ms 0 a.files
   as_library (rewritten_library ns)
 
 -- `d`
-unfoldable pub deleted_by : Files → Archiving → Result Archived ArchiveFault
-deleted_by m a = do
+unfoldable pub delete_result : Files → ArchiveView → Result ArchiveResult ArchiveFault
+delete_result m a = do
   ms ← as_library (members_in m a.library)
   ns ← as_library (without_files ms a.files)
   as_library (rewritten_library ns)
 
 -- `t`, which looks at no FILE
-unfoldable pub listed_by : Files → Archiving → Result Archived ArchiveFault
-listed_by m a = do
+unfoldable pub list_result : Files → ArchiveView → Result ArchiveResult ArchiveFault
+list_result m a = do
   ms ← as_library (members_in m a.library)
   Ok (archived.Names (names_text (member_names ms)))
 
 -- `x`
-unfoldable pub extracted_by : Files → Archiving → Result Archived ArchiveFault
-extracted_by m a = do
+unfoldable pub extract_result : Files → ArchiveView → Result ArchiveResult ArchiveFault
+extract_result m a = do
   ms ← as_library (members_in m a.library)
   files ← as_library (extracted_files ms a.files)
   Ok (archived.Members files)
 
-abbrev pub done : Operation → Files → Archiving → Result Archived ArchiveFault
-done operation.Replace m a = replaced_by m a
-done operation.Delete m a = deleted_by m a
-done operation.List m a = listed_by m a
-done operation.Extract m a = extracted_by m a
+abbrev pub operation_result : Operation → Files → ArchiveView → Result ArchiveResult ArchiveFault
+operation_result operation.Replace m a = replace_result m a
+operation_result operation.Delete m a = delete_result m a
+operation_result operation.List m a = list_result m a
+operation_result operation.Extract m a = extract_result m a
 
 -- the result of a command line, or its first error: first the library is read, then the FILEs in order
-abbrev pub archived_of : Files → Archiving → Result Archived ArchiveFault
-archived_of m a = done a.operation m a
+abbrev pub archive_result : Files → ArchiveView → Result ArchiveResult ArchiveFault
+archive_result m a = operation_result a.operation m a

@@ -2,7 +2,7 @@
 
 ghost use Rattle.std.specs.Prelude.{◌≡◌, IfOk, map};
 ghost use Rattle.library65.specs.Fault.{fault_text};
-ghost use Rattle.cli65.specs.Line.{archiving};
+ghost use Rattle.cli65.specs.Line.{archive_view};
 ghost use Rattle.library65.specs.declared.fault.LibraryFault.TheVariants.{OutOfMemory};
 ghost use Rattle.ar65.specs.declared.fault.ArchiveFault.TheVariants.{Library};
 ghost use Rattle.ar65.specs.Faults.{is_memory, error_message};
@@ -12,12 +12,12 @@ use cli65::{ArchiveArgs, file_message};
 use library65::LibraryFault;
 use std::alloc::{AllocError, Global};
 
-/// An error of the librarian.
+/// An error of the librarian. FILEs are counted as in `ArchiveArgs::files`; the first has the index 0.
 #[derive(Drop)]
 pub enum ArchiveFault {
     /// The library can't be read, isn't valid, has no such member or would be too long.
     Library(LibraryFault),
-    /// The file at this index of the command line can't be read or can't be a member.
+    /// The FILE with this index among the FILEs can't be read or can't be a member.
     File(usize, LibraryFault),
 }
 
@@ -64,27 +64,27 @@ fn fault_text(alloc: Global, fault: &LibraryFault) -> Result<ListVec<u8>, AllocE
 pub fn error_message(
     alloc: Global,
     line: &ArchiveArgs<'_>,
-    refusal: &ArchiveFault,
+    error: &ArchiveFault,
 ) -> Result<ListVec<u8>, AllocError>
-    ensures { IfOk result (λ text. text ≡ error_message (archiving line.now) refusal.now) }
+    ensures { IfOk result (λ message. message ≡ error_message (archive_view line.now) error.now) }
 {
-    if refusal.is_memory() {
+    if error.is_memory() {
         return join(
             alloc,
             &[line.library.as_bytes(), b": Error: out of memory\n"],
         );
     }
-    match refusal {
+    match error {
         ArchiveFault::Library(fault) => file_message(
             alloc,
             line.library.as_bytes(),
             fault_text(alloc, fault)?.as_slice(),
         ),
         ArchiveFault::File(index, fault) => {
-            let message = fault_text(alloc, fault)?;
+            let text = fault_text(alloc, fault)?;
             match line.files.as_slice().get(*index) {
-                Some(name) => file_message(alloc, name.as_bytes(), message.as_slice()),
-                None => file_message(alloc, b"", message.as_slice()),
+                Some(name) => file_message(alloc, name.as_bytes(), text.as_slice()),
+                None => file_message(alloc, b"", text.as_slice()),
             }
         }
     }

@@ -6,6 +6,6 @@ mod fault;
 pub mod laws;
 mod members;
 
-pub use archiving::{Archived, archive};
+pub use archiving::{ArchiveResult, archive};
 pub use fault::{ArchiveFault, error_message};
 pub use members::MemberFile;

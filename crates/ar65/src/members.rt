@@ -4,18 +4,18 @@ ghost use Rattle.std.specs.Prelude.{◌≡◌, IfErr, IfOk, IfSome, IsErrOf, OnO
 ghost use Rattle.std.specs.FinMap as map;
 ghost use Rattle.std.specs.Str.{is_utf8};
 ghost use Rattle.base65.specs.Outcome.{Refines};
-ghost use Rattle.base65.specs.Store.{FailsAtLastCount, HoldsBytes, PropagatesIoErrors};
+ghost use Rattle.base65.specs.Store.{FailsAtLastCount, HasOnlyBytes, PropagatesIoErrors};
 ghost use Rattle.object65.specs.Reading.{StoreFrame};
 ghost use Rattle.library65.specs.declared.fault.LibraryFault.TheVariants.{FileError};
 ghost use Rattle.library65.specs.Fault.{is_memory, is_system_error as is_library_system_error};
 ghost use Rattle.library65.specs.Libraries.{member_names, bytes_within_limit};
-ghost use Rattle.ar65.specs.Librarian.{AreTexts, library_or_empty, extracted_files, file_of, files_of, member_name, names_text, with_file, with_files, without_files};
+ghost use Rattle.ar65.specs.Librarian.{AreUtf8, library_or_empty, extracted_files, file_of, files_of, member_name, names_text, with_file, with_files, without_files};
 ghost use Rattle.ar65.specs.Laws.{HaveBytes};
-ghost use Rattle.ar65.specs.Naming.{NamesFiles};
+ghost use Rattle.ar65.specs.Naming.{NamesFileFailure};
 ghost use Rattle.ar65.specs.Faults.{is_failure, is_system_error};
 
 use crate::fault::ArchiveFault;
-use base65::{ListVec, PathString, Store, read_front};
+use base65::{ListVec, PathString, Store, read_prefix};
 use library65::{Library, LibraryFault};
 use object65::format::FILE_LIMIT;
 use std::alloc::{AllocError, Global};
@@ -31,14 +31,14 @@ fn member_name(file: &str) -> &str
 }
 
 /// Reads the library of a file; if the file doesn't exist, returns a library without members.
-pub fn load_or_begin<S: Store>(
+pub fn load_or_create<S: Store>(
     alloc: Global,
     store: &mut S,
     file: &str,
 ) -> Result<Library, LibraryFault>
     ensures read { IfSome (S.files store.old) (λ m.
         Refines is_library_system_error (λ l. l) result (library_or_empty (map.get m file.now))) }
-    ensures bytes { IfSome (S.files store.old) (λ m. HoldsBytes (map.get m file.now) result) }
+    ensures bytes { IfSome (S.files store.old) (λ m. HasOnlyBytes (map.get m file.now) result) }
     ensures frame { StoreFrame S.files S.failures S.last_failure FileError file.now store.old store.new result }
     ensures at_last_count { FailsAtLastCount is_library_system_error (S.failures store.old) result }
 {
@@ -50,7 +50,7 @@ pub fn load_or_begin<S: Store>(
 
 /// Adds the object of a file, under the name of the file. The errors of the file come first, then
 /// that of the name, then those of the object. At most one byte more than the size limit is read.
-fn put_file<S: Store>(
+fn add_file<S: Store>(
     alloc: Global,
     store: &mut S,
     library: &mut Library,
@@ -58,15 +58,15 @@ fn put_file<S: Store>(
 ) -> Result<(), LibraryFault>
     ensures put { IfSome (S.files store.old) (λ m.
         Refines is_library_system_error (λ _. library.new) result (with_file m library.old file.now)) }
-    ensures bytes { IfSome (S.files store.old) (λ m. HoldsBytes (map.get m file.now) result) }
+    ensures bytes { IfSome (S.files store.old) (λ m. HasOnlyBytes (map.get m file.now) result) }
     ensures frame { StoreFrame S.files S.failures S.last_failure FileError file.now store.old store.new result }
 {
-    let bytes = read_front(alloc, store, file, FILE_LIMIT as usize + 1)?;
+    let bytes = read_prefix(alloc, store, file, FILE_LIMIT as usize + 1)?;
     library.replace(member_name(file).as_bytes(), &bytes)
 }
 
 /// Adds the objects of files, in order. The first error is that of the first file that has one.
-pub fn put_files<S: Store>(
+pub fn add_files<S: Store>(
     alloc: Global,
     store: &mut S,
     library: &mut Library,
@@ -78,10 +78,10 @@ pub fn put_files<S: Store>(
         OnOk result (HaveBytes m (map (λ s. s.now) files.now))) }
     ensures files { S.files store.new ≡ S.files store.old }
     ensures count { PropagatesIoErrors is_failure (S.failures store.old) (S.failures store.new) result }
-    ensures named { IfErr result (NamesFiles (S.last_failure store.new) (map (λ s. s.now) files.now)) }
+    ensures named { IfErr result (NamesFileFailure (S.last_failure store.new) (map (λ s. s.now) files.now)) }
 {
     for (index, file) in files.iter().enumerate() {
-        match put_file(alloc, store, library, file) {
+        match add_file(alloc, store, library, file) {
             Ok(()) => {}
             Err(fault) => return Err(ArchiveFault::File(index, fault)),
         }
@@ -163,7 +163,7 @@ fn text_of(name: &[u8]) -> &str
 
 /// Returns the files of all members of a library whose names are text, in order.
 fn all_files(alloc: Global, library: &Library) -> Result<ListVec<MemberFile>, LibraryFault>
-    ensures found { AreTexts (member_names library.now) →
+    ensures found { AreUtf8 (member_names library.now) →
         Refines is_memory (λ found. found) result (files_of library.now (member_names library.now)) }
     ensures cause { IsErrOf result FileError → ⊥ }
 {
@@ -181,7 +181,7 @@ pub fn extract_files(
     library: &Library,
     files: &[&str],
 ) -> Result<ListVec<MemberFile>, LibraryFault>
-    ensures found { AreTexts (member_names library.now) →
+    ensures found { AreUtf8 (member_names library.now) →
         Refines is_memory (λ found. found) result (extracted_files library.now (map (λ s. s.now) files.now)) }
     ensures cause { IsErrOf result FileError → ⊥ }
 {

@@ -6,7 +6,7 @@ use Rattle.syntax65.specs.declared.source_location.SourceLocation.{SourceLocatio
 use Rattle.ast65.specs.declared.fault.AsmFault.{AsmFault}
 use Rattle.ast65.specs.Faults.{is_system_error}
 use Rattle.ast65.specs.declared.language.Statement.TheVariants.{Constant}
-use Rattle.sources65.specs.Reading.{RepresentsOrFails, AreDefined, Define}
+use Rattle.sources65.specs.Reading.{RepresentsOrFails, DefinesConstants, Define}
 use Rattle.sources65.specs.Machine.{State, StepsTo, initial_state}
 use Rattle.sources65.proofs.Taken.{DefinesOn, faulty_constant, first_constant, next_constant}
 use Rattle.asm65.specs.declared.assembler.Assembler.{Assembler}
@@ -33,7 +33,7 @@ defines_by location d old new (Err e) taken same = λ count t room h.
 -- what is defined so far, with constants that are left
 pub record SoFar (location : SourceLocation) (ds left : List Define) (a : Assembler) : Type 0 where
   pub state : State
-  pub goes : DefinesOn StepsTo location (AreDefined StepsTo initial_state location ds) left state
+  pub goes : DefinesOn StepsTo location (DefinesConstants StepsTo initial_state location ds) left state
   pub reached : IsReached state
   pub holds : Represents 0 state a
   pub out : state.out ≡ initial_state.out
@@ -60,17 +60,17 @@ one_more location ds left d old new v s defines =
     let quiet = takes_quiet s.state a.0 location (Constant d.0 (number d.1)) (refl, refl) a.1 in
     record {
       state = a.0;
-      goes = next_constant StepsTo location (AreDefined StepsTo initial_state location ds) d left s.state a.0 s.goes a.1;
+      goes = next_constant StepsTo location (DefinesConstants StepsTo initial_state location ds) d left s.state a.0 s.goes a.1;
       reached = a.2 s.reached;
       holds = zero_within a.3.0 a.0 new a.3.1 a.3.2;
       out = quiet.0 ∙ s.out;
       err = quiet.1 ∙ s.err;
     }
 
-pub one_wrong : (location : SourceLocation) (ds left : List Define) (d : Define) (old new : Assembler) (e : AsmFault) (r : Answer) → r ≡ Err e → SoFar location ds (d ∷ left) old → DefinesBy location d old new (Err e) → RefinesTransition ⊤ (AreDefined StepsTo initial_state location ds) 0 initial_state new r
+pub one_wrong : (location : SourceLocation) (ds left : List Define) (d : Define) (old new : Assembler) (e : AsmFault) (r : Answer) → r ≡ Err e → SoFar location ds (d ∷ left) old → DefinesBy location d old new (Err e) → RefinesTransition ⊤ (DefinesConstants StepsTo initial_state location ds) 0 initial_state new r
 one_wrong location ds left d old new e r fails s defines =
-    let P : Answer → Type 0 = λ q. RefinesTransition ⊤ (AreDefined StepsTo initial_state location ds) 0 initial_state new q in
-    subst P (sym fails) (fault_then ⊤ ⊤ (StepsTo s.state location (Constant d.0 (number d.1))) (AreDefined StepsTo initial_state location ds) 0 0 initial_state s.state new e (λ x. x) (λ p. faulty_constant StepsTo location (AreDefined StepsTo initial_state location ds) d left s.state e s.goes p) (λ says. (says.0 ∙ s.out, says.1 ∙ s.err)) (defines 0 s.state (omega arith) s.holds))
+    let P : Answer → Type 0 = λ q. RefinesTransition ⊤ (DefinesConstants StepsTo initial_state location ds) 0 initial_state new q in
+    subst P (sym fails) (fault_then ⊤ ⊤ (StepsTo s.state location (Constant d.0 (number d.1))) (DefinesConstants StepsTo initial_state location ds) 0 0 initial_state s.state new e (λ x. x) (λ p. faulty_constant StepsTo location (DefinesConstants StepsTo initial_state location ds) d left s.state e s.goes p) (λ says. (says.0 ∙ s.out, says.1 ∙ s.err)) (defines 0 s.state (omega arith) s.holds))
 
 -- ---- Lists.
 

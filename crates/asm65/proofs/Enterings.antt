@@ -7,7 +7,7 @@ use Rattle.syntax65.specs.Trees.{Tree, number}
 use Rattle.syntax65.specs.declared.source_location.SourceLocation.{SourceLocation}
 use Rattle.object65.specs.Form.{Form, lit}
 use Rattle.object65.specs.Objects.{fits_width, value_bytes}
-use Rattle.object65.proofs.Goods.{left, right}
+use Rattle.object65.proofs.SmallParts.{left, right}
 use Rattle.base65.specs.declared.action.Action.{Action}
 use Rattle.base65.specs.declared.action.Action.TheVariants as action
 use Rattle.base65.specs.declared.width.Width.{Width}
@@ -18,11 +18,11 @@ use Rattle.symbols65.proofs.Evaluations.{finals_rest}
 use Rattle.semantics65.specs.Contents.{Content, Known, Part, section_part, value_part, declaration_content}
 use Rattle.ast65.specs.declared.fault.AsmFault.{AsmFault}
 use Rattle.semantics65.specs.Norms.{IsFinal, literal_in}
-use Rattle.semantics65.specs.declared.laid.Context.{Context}
-use Rattle.sources65.specs.Machine.{IsSettled, PieceSteps, State, at_once, with_content}
-use Rattle.semantics65.specs.Module.{Piece, Purpose, as_part, asserted, datum, given, operand, quietly, value_result, valued, item_piece, Slot, resolved}
+use Rattle.semantics65.specs.declared.contexts.Context.{Context}
+use Rattle.sources65.specs.Machine.{HasFinalContent, PieceSteps, State, emitted_now, with_content}
+use Rattle.semantics65.specs.Module.{Piece, Purpose, part_result, asserted, datum, known_part, operand, without_warning, value_result, expression_value, item_piece, Slot, resolved}
 use Rattle.sources65.proofs.Resolving.{final_settles, settled_given}
-use Rattle.semantics65.specs.Numbering.{all_said}
+use Rattle.semantics65.specs.Numbering.{all_declarations}
 use Rattle.semantics65.specs.Symbols.{Symbols}
 use Rattle.emit65.specs.declared.sections.Sections.{Sections}
 use Rattle.emit65.specs.SectionContents.{AppendsSlot, RepresentsSlots}
@@ -30,7 +30,7 @@ use Rattle.emit65.proofs.Alikes.{alike_sym, empty_alike}
 use Rattle.emit65.proofs.Pieces.{held_stand, runs, runs_stand}
 use Rattle.symbols65.specs.Views.{table_of}
 use Rattle.asm65.specs.declared.assembler.Assembler.{Assembler}
-use Rattle.asm65.specs.Internal.AssemblerState.{EmitsPieces, AreStored, IsNext, IsPut, EmitsIfResolved, DefersPiece, operand_stored}
+use Rattle.asm65.specs.Internal.AssemblerState.{EmitsPieces, AreEncodedNumbers, IsNextForm, AppendsPart, EmitsIfResolved, DefersPiece, operand_part}
 use Rattle.asm65.proofs.Puttings.{literal_is, stored_is}
 use Rattle.asm65.proofs.Waitings.{all_entered, holds_all, holds_entered, waits_enters}
 
@@ -54,34 +54,34 @@ enters_both location s ps qs old mid new first second count t h =
 abbrev fed : Assembler → Sections → Assembler
 fed a x = record a { sections = x }
 
-pub fed_enters : (old : Assembler) (x : Sections) (location : SourceLocation) (s : Context) (p : Piece) (c : Content) → c.said ≡ [] → AppendsSlot old.sections x (resolved c) → IsSettled (table_of old.symbols) location s p c → EmitsPieces location s (p ∷ []) old (fed old x)
-fed_enters old x location s p c quiet feeds settled count t h =
-    let there : IsSettled t.symbols location s p c = subst (λ y. IsSettled y location s p c) h.symbols settled in
-    (with_content t c, (with_content t c, at_once c there, refl), holds_entered count t old (fed old x) h (record { symbols = refl; cursor = refl; texts = refl }) c quiet feeds)
+pub fed_enters : (old : Assembler) (x : Sections) (location : SourceLocation) (s : Context) (p : Piece) (c : Content) → c.said ≡ [] → AppendsSlot old.sections x (resolved c) → HasFinalContent (table_of old.symbols) location s p c → EmitsPieces location s (p ∷ []) old (fed old x)
+fed_enters old x location s p c quiet feeds encoding count t h =
+    let there : HasFinalContent t.symbols location s p c = subst (λ y. HasFinalContent y location s p c) h.symbols encoding in
+    (with_content t c, (with_content t c, emitted_now c there, refl), holds_entered count t old (fed old x) h (record { symbols = refl; cursor = refl; texts = refl }) c quiet feeds)
 
 -- what needs no value
-pub given_enters : (old : Assembler) (x : Sections) (location : SourceLocation) (s : Context) (p : Part) → AppendsSlot old.sections x (resolved (section_part s.segment p)) → EmitsPieces location s (given p ∷ []) old (fed old x)
-given_enters old x location s p feeds = fed_enters old x location s (given p) (section_part s.segment p) refl feeds (settled_given (table_of old.symbols) location s p)
+pub given_enters : (old : Assembler) (x : Sections) (location : SourceLocation) (s : Context) (p : Part) → AppendsSlot old.sections x (resolved (section_part s.segment p)) → EmitsPieces location s (known_part p ∷ []) old (fed old x)
+given_enters old x location s p feeds = fed_enters old x location s (known_part p) (section_part s.segment p) refl feeds (settled_given (table_of old.symbols) location s p)
 
 -- a value whose form is final and puts a part
 module _ (old : Assembler) (x : Sections) (location : SourceLocation) (s : Context) (why : Purpose) (e : Tree) (f : Form) (final : IsFinal (table_of old.symbols) s e f) where
-  value_entered : (r : Result Part AsmFault) → value_result location s why f ≡ (r >>= as_part s.segment) → IsPut old.sections x s.segment r true → EmitsPieces location s (valued why e ∷ []) old (fed old x)
-  value_entered (Ok p) is feeds = fed_enters old x location s (valued why e) (section_part s.segment p) refl feeds (final_settles (table_of old.symbols) location s why e f (section_part s.segment p) final is)
+  value_entered : (r : Result Part AsmFault) → value_result location s why f ≡ (r >>= part_result s.segment) → AppendsPart old.sections x s.segment r true → EmitsPieces location s (expression_value why e ∷ []) old (fed old x)
+  value_entered (Ok p) is feeds = fed_enters old x location s (expression_value why e) (section_part s.segment p) refl feeds (final_settles (table_of old.symbols) location s why e f (section_part s.segment p) final is)
   value_entered (Err e) is feeds = absurd feeds
 
-  value_tried : (r : Result Part AsmFault) (b : Bool) → value_result location s why f ≡ (r >>= as_part s.segment) → IsPut old.sections x s.segment r b → EmitsIfResolved location s (valued why e) old (fed old x) b
+  value_tried : (r : Result Part AsmFault) (b : Bool) → value_result location s why f ≡ (r >>= part_result s.segment) → AppendsPart old.sections x s.segment r b → EmitsIfResolved location s (expression_value why e) old (fed old x) b
   value_tried r true is h = value_entered r is h
   value_tried r false is h = ap (fed old) h
 
-pub datum_tried : (old : Assembler) (x : Sections) (location : SourceLocation) (s : Context) (width : Width) (e : Tree) (f : Form) (b : Bool) → IsFinal (table_of old.symbols) s e f → IsPut old.sections x s.segment (value_part width location f) b → EmitsIfResolved location s (valued (datum width) e) old (fed old x) b
+pub datum_tried : (old : Assembler) (x : Sections) (location : SourceLocation) (s : Context) (width : Width) (e : Tree) (f : Form) (b : Bool) → IsFinal (table_of old.symbols) s e f → AppendsPart old.sections x s.segment (value_part width location f) b → EmitsIfResolved location s (expression_value (datum width) e) old (fed old x) b
 datum_tried old x location s width e f b final h = value_tried old x location s (datum width) e f final (value_part width location f) b refl h
 
-pub operand_tried : (old : Assembler) (x : Sections) (location : SourceLocation) (s : Context) (width : Width) (e : Tree) (f : Form) (b : Bool) → IsFinal (table_of old.symbols) s e f → IsPut old.sections x s.segment (operand_stored width s location f) b → EmitsIfResolved location s (valued (operand width) e) old (fed old x) b
-operand_tried old x location s width e f b final h = value_tried old x location s (operand width) e f final (operand_stored width s location f) b refl h
+pub operand_tried : (old : Assembler) (x : Sections) (location : SourceLocation) (s : Context) (width : Width) (e : Tree) (f : Form) (b : Bool) → IsFinal (table_of old.symbols) s e f → AppendsPart old.sections x s.segment (operand_part width s location f) b → EmitsIfResolved location s (expression_value (operand width) e) old (fed old x) b
+operand_tried old x location s width e f b final h = value_tried old x location s (operand width) e f final (operand_part width s location f) b refl h
 
 -- ---- Elements of lists, one behind the other, and their final forms.
 
-pub next_finals : (y : Symbols) (s : Context) (x : Item) (items : List Item) (forms : List (Option Form)) (o : Option Form) (rest : List (Option Form)) → HaveFinals y s (x ∷ items) forms → IsNext forms o rest → HasFinal y s (item_tree x) o × HaveFinals y s items rest
+pub next_finals : (y : Symbols) (s : Context) (x : Item) (items : List Item) (forms : List (Option Form)) (o : Option Form) (rest : List (Option Form)) → HaveFinals y s (x ∷ items) forms → IsNextForm forms o rest → HasFinal y s (item_tree x) o × HaveFinals y s items rest
 next_finals y s x items [] o rest h n = (subst (HasFinal y s (item_tree x)) (sym n.0) (none_final (item_tree x)), subst (HaveFinals y s items) (sym n.1) (λ i z p at held. absurd cc))
   where
     none_final : (e : Option Tree) → HasFinal y s e None
@@ -94,10 +94,10 @@ next_finals y s x items (f ∷ fs) o rest h n =
 -- ---- Numbers in one go.
 
 -- a number that is in range
-number_settled : (y : Symbols) (location : SourceLocation) (s : Context) (width : Width) (n : ℕ) → fits_width width (pos n) ≡ true → IsSettled y location s (valued (datum width) (number n)) (section_part s.segment (Known (value_bytes width (pos n))))
+number_settled : (y : Symbols) (location : SourceLocation) (s : Context) (width : Width) (n : ℕ) → fits_width width (pos n) ≡ true → HasFinalContent y location s (expression_value (datum width) (number n)) (section_part s.segment (Known (value_bytes width (pos n))))
 number_settled y location s width n fits =
     final_settles y location s (datum width) (number n) (lit (pos n)) (section_part s.segment (Known (value_bytes width (pos n)))) (λ z more. refl)
-    (ap (λ (r : Result Part AsmFault). r >>= as_part s.segment) (stored_is width location (pos n) fits))
+    (ap (λ (r : Result Part AsmFault). r >>= part_result s.segment) (stored_is width location (pos n) fits))
 
 numbers_put : (location : SourceLocation) (s : Context) (t : State) (width : Width) (ns : List ℕ) → list_all (λ (n : ℕ). fits_width width (pos n)) ns ≡ true → PieceSteps location s t (map (item_piece width) (map literal_item ns)) (all_entered t (runs s.segment (λ (n : ℕ). value_bytes width (pos n)) ns))
 numbers_put location s t width [] fit = ap (λ (slots : List Slot). record t { slots = slots }) (append-nil t.slots)
@@ -107,16 +107,16 @@ numbers_put location s t width (n ∷ ns) fit =
     let first = left (fits_width width (pos n)) (list_all (λ (n : ℕ). fits_width width (pos n)) ns) fit in
     let others = right (fits_width width (pos n)) (list_all (λ (n : ℕ). fits_width width (pos n)) ns) fit in (
       with_content t c,
-      at_once c (number_settled t.symbols location s width n first),
+      emitted_now c (number_settled t.symbols location s width n first),
       subst (λ (slots : List Slot). PieceSteps location s (with_content t c) (map (item_piece width) (map literal_item ns)) (record t { slots = slots }))
           (append_assoc t.slots (resolved c ∷ []) (map resolved cs)) (numbers_put location s (with_content t c) width ns others),
     )
 
-runs_say : {A : Type 0} (g : ℕ) (f : A → List ℕ) (xs : List A) → all_said (runs g f xs) ≡ []
+runs_say : {A : Type 0} (g : ℕ) (f : A → List ℕ) (xs : List A) → all_declarations (runs g f xs) ≡ []
 runs_say g f [] = refl
 runs_say g f (x ∷ xs) = runs_say g f xs
 
-pub numbers_enter : (old : Assembler) (x : Sections) (location : SourceLocation) (s : Context) (width : Width) (ns bytes : List ℕ) → AreStored width ns bytes → AppendsSlot old.sections x (resolved (section_part s.segment (Known bytes))) → EmitsPieces location s (map (item_piece width) (map literal_item ns)) old (fed old x)
+pub numbers_enter : (old : Assembler) (x : Sections) (location : SourceLocation) (s : Context) (width : Width) (ns bytes : List ℕ) → AreEncodedNumbers width ns bytes → AppendsSlot old.sections x (resolved (section_part s.segment (Known bytes))) → EmitsPieces location s (map (item_piece width) (map literal_item ns)) old (fed old x)
 numbers_enter old x location s width ns bytes value_part feeds count t h =
     let f : ℕ → List ℕ = λ (n : ℕ). value_bytes width (pos n) in
     let known = subst (λ (b : List ℕ). AppendsSlot old.sections x (resolved (section_part s.segment (Known b)))) value_part.bytes feeds in (
@@ -131,22 +131,22 @@ numbers_enter old x location s width ns bytes value_part feeds count t h =
 pub says_nothing : (x : Sections) → AppendsSlot x x (resolved (declaration_content []))
 says_nothing x xs h = held_stand xs [] (declaration_content [] ∷ []) x (alike_sym (declaration_content [] ∷ []) [] (empty_alike 0 false)) refl (subst (λ (ys : List Slot). RepresentsSlots ys x) (sym (append-nil xs)) h)
 
-so_used : (location : SourceLocation) (s : Context) (act : Action) (message : List ℕ) (v : ℤ) → (v ≡ pos 0 → ⊥) → value_result location s (asserted act message) (lit v) ≡ Ok (quietly (declaration_content []))
-so_used location s action.Error message (pos zero) h = absurd (h refl)
-so_used location s action.Warning message (pos zero) h = absurd (h refl)
-so_used location s action.Error message (pos (suc n)) h = refl
-so_used location s action.Warning message (pos (suc n)) h = refl
-so_used location s action.Error message (negsuc n) h = refl
-so_used location s action.Warning message (negsuc n) h = refl
+so_used : (location : SourceLocation) (s : Context) (act : Action) (text : List ℕ) (v : ℤ) → (v ≡ pos 0 → ⊥) → value_result location s (asserted act text) (lit v) ≡ Ok (without_warning (declaration_content []))
+so_used location s action.Error text (pos zero) h = absurd (h refl)
+so_used location s action.Warning text (pos zero) h = absurd (h refl)
+so_used location s action.Error text (pos (suc n)) h = refl
+so_used location s action.Warning text (pos (suc n)) h = refl
+so_used location s action.Error text (negsuc n) h = refl
+so_used location s action.Warning text (negsuc n) h = refl
 
 -- an assertion that is so whatever statements follow
-pub so_enters : (old : Assembler) (location : SourceLocation) (s : Context) (act : Action) (message : List ℕ) (e : Tree) (v : ℤ) → (v ≡ pos 0 → ⊥) → IsFinal (table_of old.symbols) s e (lit v) → EmitsPieces location s (valued (asserted act message) e ∷ []) old old
-so_enters old location s act message e v h final = fed_enters old old.sections location s (valued (asserted act message) e) (declaration_content []) refl (says_nothing old.sections) (final_settles (table_of old.symbols) location s (asserted act message) e (lit v) (declaration_content []) final (so_used location s act message v h))
+pub so_enters : (old : Assembler) (location : SourceLocation) (s : Context) (act : Action) (text : List ℕ) (e : Tree) (v : ℤ) → (v ≡ pos 0 → ⊥) → IsFinal (table_of old.symbols) s e (lit v) → EmitsPieces location s (expression_value (asserted act text) e ∷ []) old old
+so_enters old location s act text e v h final = fed_enters old old.sections location s (expression_value (asserted act text) e) (declaration_content []) refl (says_nothing old.sections) (final_settles (table_of old.symbols) location s (asserted act text) e (lit v) (declaration_content []) final (so_used location s act text v h))
 
 -- one that may be so
-pub assertion_tried : (old : Assembler) (location : SourceLocation) (s : Context) (act : Action) (message : List ℕ) (e : Tree) (f : Form) (v : ℤ) → IsFinal (table_of old.symbols) s e f → literal_in (Ok f) ≡ Some v → (b : Bool) → (b ≡ true → v ≡ pos 0 → ⊥) → EmitsIfResolved location s (valued (asserted act message) e) old old b
-assertion_tried old location s act message e f v final is true other = so_enters old location s act message e v (other refl) (subst (IsFinal (table_of old.symbols) s e) (literal_is f v is) final)
-assertion_tried old location s act message e f v final is false other = refl
+pub assertion_tried : (old : Assembler) (location : SourceLocation) (s : Context) (act : Action) (text : List ℕ) (e : Tree) (f : Form) (v : ℤ) → IsFinal (table_of old.symbols) s e f → literal_in (Ok f) ≡ Some v → (b : Bool) → (b ≡ true → v ≡ pos 0 → ⊥) → EmitsIfResolved location s (expression_value (asserted act text) e) old old b
+assertion_tried old location s act text e f v final is true other = so_enters old location s act text e v (other refl) (subst (IsFinal (table_of old.symbols) s e) (literal_is f v is) final)
+assertion_tried old location s act text e f v final is false other = refl
 
 -- ---- At once, or later.
 

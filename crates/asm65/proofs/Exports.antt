@@ -10,7 +10,7 @@ use Rattle.object65.specs.Form.{Form}
 use Rattle.base65.specs.declared.action.Action.{Action}
 use Rattle.ast65.specs.declared.fault.AsmFault.{AsmFault}
 use Rattle.semantics65.specs.Contents.{exported_names}
-use Rattle.semantics65.specs.declared.laid.Context.{Context}
+use Rattle.semantics65.specs.declared.contexts.Context.{Context}
 use Rattle.semantics65.specs.Module.{PieceResult, asserted, value_result}
 
 -- ---- A name more.
@@ -34,8 +34,8 @@ entered_new ks key n b same added =
 abbrev ExportsNone : Result PieceResult AsmFault → Type 0
 ExportsNone r = IfOk r (λ m. exported_names m.content.said ≡ [])
 
-pub none_asserted : (location : SourceLocation) (s : Context) (act : Action) (message : List ℕ) (f : Form) → ExportsNone (value_result location s (asserted act message) f)
-none_asserted location s x1 message x2 = grind (arith)
+pub none_asserted : (location : SourceLocation) (s : Context) (action : Action) (text : List ℕ) (f : Form) → ExportsNone (value_result location s (asserted action text) f)
+none_asserted location s x1 text x2 = grind (arith)
 
 -- names stay
 pub names_stay : {X : Type 0} (outside : AsmFault → Bool) (view : X → PieceResult) (names : List (List ℕ)) (r : Result X AsmFault) (read : Result PieceResult AsmFault) → ExportsNone read → Refines outside view r read → IfOk r (λ x. names ≡ names ++ exported_names (view x).content.said)

@@ -9,32 +9,32 @@ use Rattle.ast65.specs.declared.fault.AsmFault.{AsmFault}
 use Rattle.ast65.specs.declared.fault.AsmFault.TheVariants.{DefinedTwice, NotUnderstood, FileNotFound}
 use Rattle.semantics65.specs.Contents.{section_request}
 use Rattle.semantics65.specs.Symbols.{LaidOutStatement, needs_section, is_unnamed, Definition, Key, Scope, Symbols, cheap_in, definition_index, definition_with, definitions_of, key_defined, named, same_key, scope_opened, unnamed_at, value_defined}
-use Rattle.semantics65.specs.declared.laid.Context.{Context}
+use Rattle.semantics65.specs.declared.contexts.Context.{Context}
 use Rattle.ast65.specs.declared.language.Statement.{Statement}
 use Rattle.ast65.specs.declared.language.Statement.TheVariants as statement
-use Rattle.semantics65.specs.Layout.{Cursor, laid_out_statement, context_of, cursor_after, defined_twice, first_fault, is_open, line_fault, lost_scopes, opened_twice, or_then, placing_faults, scope_name, stands_outside, trees_of, when, where_there, operand_fault, unless_fault}
-use Rattle.symbols65.specs.Measuring.{AreInside, opened_by, measure_of, naming_fault, unread_fault, IsCounted}
+use Rattle.semantics65.specs.Layout.{Cursor, laid_out_statement, context_of, cursor_after, defined_twice, first_fault, is_not_global, line_fault, missing_scopes_fault, opened_twice, or_then, layout_faults, scope_name, is_global_only, trees_of, fault_if, fault_if_some, operand_fault, unless_fault}
+use Rattle.symbols65.specs.Measuring.{HaveBoundedParents, opening_count, layout_of_statement, naming_fault, unread_fault, HasBoundedCounts}
 use Rattle.symbols65.specs.declared.measuring.StatementLayout.{StatementLayout}
 use Rattle.symbols65.proofs.Following.{inside_after}
 use Rattle.symbols65.proofs.Measures.{faults_are, unless_then}
 use Rattle.semantics65.proofs.Segments.{all_more, all_same}
-use Rattle.sources65.specs.Machine.{PieceStep, PieceSteps, State, StepsWithoutError, StepsTo, UnlessFault, at_once, with_content, with_symbols, later, symbols_after}
-use Rattle.semantics65.specs.Module.{out_of, warning_of, Piece, pieces_of}
+use Rattle.sources65.specs.Machine.{PieceStep, PieceSteps, State, StepsWithoutError, StepsTo, UnlessFault, emitted_now, with_content, with_symbols, deferred_piece_step, symbols_after}
+use Rattle.semantics65.specs.Module.{statement_stdout, statement_warning, Piece, pieces_of}
 use Rattle.symbols65.specs.Views.{table_of}
 use Rattle.symbols65.proofs.Words.{position_none}
 use Rattle.symbols65.specs.declared.table.symbols.Symbols.{Symbols as SymbolTable}
 use Rattle.asm65.specs.declared.assembler.Assembler.{Assembler}
 use Rattle.asm65.specs.declared.texts.ConsoleOutput.{ConsoleOutput}
-use Rattle.asm65.specs.Internal.AssemblerState.{AreBefore, Represents, IsBefore, IsNew, IsMeasuredAt, EmitsThenDefines, asked_of, laid_as, state_after_layout}
+use Rattle.asm65.specs.Internal.AssemblerState.{AreNumberedBelow, Represents, IsNumberedBelow, IsNew, HasLayout, EmitsThenDefines, with_requested_section, statement_with_layout, state_after_layout}
 use Rattle.asm65.proofs.Namings.{IsBeside, puts_beside}
 use Rattle.std.specs.FinMap.{get}
 use Rattle.base65.specs.Store.{Files, FailedOn, FailedWithin, LastFailure, bytes_in}
 use Rattle.syntax65.specs.Trees.{Tree}
-use Rattle.expand65.specs.Expansion.{beside, file_named}
-use Rattle.ast65.specs.Faults.{is_failure, is_memory, is_system_error}
+use Rattle.expand65.specs.Expansion.{sibling_path, file_named}
+use Rattle.ast65.specs.Faults.{is_failure, is_out_of_memory, is_system_error}
 use Rattle.ast65.specs.declared.language.Statement.TheVariants.{Incbin, IncbinPath}
 use Rattle.sources65.specs.Reading.{bytes_for, with_bytes}
-use Rattle.asm65.specs.Internal.RunState.{IsRefusedUnread}
+use Rattle.asm65.specs.Internal.RunState.{IsRejectedUnread}
 
 -- what searches find in a symbol table changes no state that an assembler represents
 pub represents_searched : (count : ℕ) (t : State) (old : Assembler) (symbols : SymbolTable) → table_of symbols ≡ table_of old.symbols → Represents count t old → Represents count t (record old { symbols = symbols })
@@ -45,50 +45,50 @@ represents_searched count t old symbols same h = record {
   inside = h.inside;
   unnamed = h.unnamed;
   sections = h.sections;
-  unsaid = h.unsaid;
+  no_declarations = h.no_declarations;
   out = h.out;
   err = h.err;
 }
 
 -- ---- Unnamed labels.
 
-key_later : (n : ℕ) (k : Key) → IsBefore n k → IsBefore (n + 1) k
+key_later : (n : ℕ) (k : Key) → IsNumberedBelow n k → IsNumberedBelow (n + 1) k
 key_later n (named s m) h = tt
 key_later n (cheap_in r m) h = tt
 key_later n (unnamed_at j) h = omega (arith, h)
 
-all_later : (n : ℕ) (ds : List Definition) → AreBefore n ds → AreBefore (n + 1) ds
-all_later n ds h = all_same (λ (d : Definition). IsBefore n d.key) (λ (d : Definition). IsBefore (n + 1) d.key) (λ d p. key_later n d.key p) ds h
+all_later : (n : ℕ) (ds : List Definition) → AreNumberedBelow n ds → AreNumberedBelow (n + 1) ds
+all_later n ds h = all_same (λ (d : Definition). IsNumberedBelow n d.key) (λ (d : Definition). IsNumberedBelow (n + 1) d.key) (λ d p. key_later n d.key p) ds h
 
-still_before : (x : Statement) (n : ℕ) (ds : List Definition) → AreBefore n ds → AreBefore (if is_unnamed x then n + 1 else n) ds
+still_before : (x : Statement) (n : ℕ) (ds : List Definition) → AreNumberedBelow n ds → AreNumberedBelow (if is_unnamed x then n + 1 else n) ds
 still_before statement.UnnamedLabel n ds h = all_later n ds h
 still_before _ n ds h = h
 
-before_after : (x : Statement) (s : Context) (own : AddressSize) (ds : List Definition) → AreBefore s.unnamed ds → AreBefore (if is_unnamed x then s.unnamed + 1 else s.unnamed) (ds ++ definition_with (key_defined s x) (value_defined x) s own)
+before_after : (x : Statement) (s : Context) (own : AddressSize) (ds : List Definition) → AreNumberedBelow s.unnamed ds → AreNumberedBelow (if is_unnamed x then s.unnamed + 1 else s.unnamed) (ds ++ definition_with (key_defined s x) (value_defined x) s own)
 before_after x s own ds h = by x
   where
-    more : (n : ℕ) (d : Definition) → AreBefore n ds → IsBefore n d.key → AreBefore n (ds ++ d ∷ [])
-    more n d k p = all_more (λ (e : Definition). IsBefore n e.key) ds d k p
+    more : (n : ℕ) (d : Definition) → AreNumberedBelow n ds → IsNumberedBelow n d.key → AreNumberedBelow n (ds ++ d ∷ [])
+    more n d k p = all_more (λ (e : Definition). IsNumberedBelow n e.key) ds d k p
 
-    by : (x : Statement) → AreBefore (if is_unnamed x then s.unnamed + 1 else s.unnamed) (ds ++ definition_with (key_defined s x) (value_defined x) s own)
+    by : (x : Statement) → AreNumberedBelow (if is_unnamed x then s.unnamed + 1 else s.unnamed) (ds ++ definition_with (key_defined s x) (value_defined x) s own)
     by (statement.Label n) = more s.unnamed (record { key = named s.scope n; value = None; context = s; size = own }) h tt
     by (statement.Constant n e) = more s.unnamed (record { key = named s.scope n; value = Some e; context = s; size = own }) h tt
     by (statement.OpenProc n) = more s.unnamed (record { key = named s.scope n; value = None; context = s; size = own }) h tt
     by (statement.CheapLabel n) = more s.unnamed (record { key = cheap_in s.region n; value = None; context = s; size = own }) h tt
     by statement.UnnamedLabel = more (s.unnamed + 1) (record { key = unnamed_at s.unnamed; value = None; context = s; size = own }) (all_later s.unnamed ds h) (omega arith)
-    by _ = subst (λ (es : List Definition). AreBefore s.unnamed es) (sym (append-nil ds)) h
+    by _ = subst (λ (es : List Definition). AreNumberedBelow s.unnamed es) (sym (append-nil ds)) h
 
-before_at : (n : ℕ) (ds : List Definition) (i : ℕ) (d : Definition) → AreBefore n ds → slice_get ds i ≡ Some d → IsBefore n d.key
+before_at : (n : ℕ) (ds : List Definition) (i : ℕ) (d : Definition) → AreNumberedBelow n ds → slice_get ds i ≡ Some d → IsNumberedBelow n d.key
 before_at n [] i d h e = absurd cc
-before_at n (c ∷ ds) zero d h e = let same : c ≡ d = cc in subst (λ (b : Definition). IsBefore n b.key) same h.0
+before_at n (c ∷ ds) zero d h e = let same : c ≡ d = cc in subst (λ (b : Definition). IsNumberedBelow n b.key) same h.0
 before_at n (c ∷ ds) (suc i) d h e = before_at n ds i d h.1 e
 
-other_key : (n : ℕ) (k : Key) → IsBefore n k → same_key k (unnamed_at n) ≡ false
+other_key : (n : ℕ) (k : Key) → IsNumberedBelow n k → same_key k (unnamed_at n) ≡ false
 other_key n (named s m) h = refl
 other_key n (cheap_in r m) h = refl
 other_key n (unnamed_at j) h = grind (arith, nat_tests)
 
-next_free : (y : Symbols) (n : ℕ) → AreBefore n y.definitions → definition_index y (unnamed_at n) ≡ None
+next_free : (y : Symbols) (n : ℕ) → AreNumberedBelow n y.definitions → definition_index y (unnamed_at n) ≡ None
 next_free y n h = position_none (λ (d : Definition). same_key d.key (unnamed_at n)) y.definitions (λ i d e. other_key n d.key (before_at n y.definitions i d h e))
 
 -- ---- What is new.
@@ -97,7 +97,7 @@ or_none : (f g : Option AsmFault) → or_then f g ≡ None → (f ≡ None) × (
 or_none None g h = (refl, h)
 or_none (Some e) g h = absurd cc
 
-there_none : (o : Option ℕ) (e : AsmFault) → where_there o e ≡ None → o ≡ None
+there_none : (o : Option ℕ) (e : AsmFault) → fault_if_some o e ≡ None → o ≡ None
 there_none None e h = refl
 there_none (Some i) e h = absurd cc
 
@@ -109,19 +109,19 @@ unnamed_is (statement.OpenProc n) s j e = absurd cc
 unnamed_is (statement.CheapLabel n) s j e = absurd cc
 unnamed_is _ s j e = absurd cc
 
-key_free : (y : Symbols) (x : Statement) (s : Context) (k : Key) → defined_twice y (Some k) ≡ None → key_defined s x ≡ Some k → AreBefore s.unnamed y.definitions → definition_index y k ≡ None
+key_free : (y : Symbols) (x : Statement) (s : Context) (k : Key) → defined_twice y (Some k) ≡ None → key_defined s x ≡ Some k → AreNumberedBelow s.unnamed y.definitions → definition_index y k ≡ None
 key_free y x s (named scope n) h e before = there_none (definition_index y (named scope n)) (DefinedTwice n) h
 key_free y x s (cheap_in region n) h e before = there_none (definition_index y (cheap_in region n)) (DefinedTwice n) h
 key_free y x s (unnamed_at j) h e before = subst (λ n. definition_index y (unnamed_at n) ≡ None) (unnamed_is x s j e) (next_free y s.unnamed before)
 
 -- a statement without a fault at its line defines and opens what isn't there
-pub is_new : (y : Symbols) (w : Cursor) (x : Statement) → line_fault y w x ≡ None → AreBefore w.unnamed y.definitions → IsNew y (context_of w) x
+pub is_new : (y : Symbols) (w : Cursor) (x : Statement) → line_fault y w x ≡ None → AreNumberedBelow w.unnamed y.definitions → IsNew y (context_of w) x
 is_new y w x h before =
     let opened = opened_twice y.scopes w.scope (scope_name x) in
     let twice = defined_twice y (key_defined (context_of w) x) in
-    let lost = lost_scopes y.scopes w.scope (trees_of x) in
-    let naming = (or_none (naming_fault y (context_of w) x) (first_fault (placing_faults y w x)) (sym (faults_are y w x) ∙ h)).0 in
-    let first = (or_none (when (stands_outside x && is_open w.scope) NotUnderstood) (or_then lost (or_then opened twice)) naming).1 in
+    let lost = missing_scopes_fault y.scopes w.scope (trees_of x) in
+    let naming = (or_none (naming_fault y (context_of w) x) (first_fault (layout_faults y w x)) (sym (faults_are y w x) ∙ h)).0 in
+    let first = (or_none (fault_if (is_global_only x && is_not_global w.scope) NotUnderstood) (or_then lost (or_then opened twice)) naming).1 in
     let second = (or_none lost (or_then opened twice) first).1 in
     let both = or_none opened twice second in
     record {
@@ -131,30 +131,30 @@ is_new y w x h before =
 
 -- ---- Behind a statement.
 
-asked_beside : (segment : ℕ) (x : Statement) (t : State) → IsBeside t (asked_of segment x t)
+asked_beside : (segment : ℕ) (x : Statement) (t : State) → IsBeside t (with_requested_section segment x t)
 asked_beside segment x t = by (needs_section x)
   where
     by : (b : Bool) → IsBeside t (if b then with_content t (section_request segment) else t)
     by true = record { symbols = refl; cursor = refl; out = refl; err = refl }
     by false = record { symbols = refl; cursor = refl; out = refl; err = refl }
 
-wider : (count more : ℕ) (cs : List Scope) → AreInside count cs → AreInside (count + more) cs
+wider : (count more : ℕ) (cs : List Scope) → HaveBoundedParents count cs → HaveBoundedParents (count + more) cs
 wider count more cs h = all_same (λ (c : Scope). c.within ≤ count) (λ (c : Scope). c.within ≤ count + more) (λ c le. omega (arith, le)) cs h
 
-pub holds_stepped : (count : ℕ) (t : State) (location : SourceLocation) (x : Statement) (a : Assembler) (v : Cursor) (said : ConsoleOutput) → Represents count (asked_of (context_of t.cursor).segment x t) a → v ≡ cursor_after t.symbols t.cursor x → IsCounted (count + opened_by x) (cursor_after t.symbols t.cursor x) → said.out ≡ a.texts.out ++ out_of x → said.err ≡ a.texts.err ++ warning_of location x → Represents (count + opened_by x) (state_after_layout t location x) (record a { cursor = v; texts = said })
+pub holds_stepped : (count : ℕ) (t : State) (location : SourceLocation) (x : Statement) (a : Assembler) (v : Cursor) (said : ConsoleOutput) → Represents count (with_requested_section (context_of t.cursor).segment x t) a → v ≡ cursor_after t.symbols t.cursor x → HasBoundedCounts (count + opening_count x) (cursor_after t.symbols t.cursor x) → said.out ≡ a.texts.out ++ statement_stdout x → said.err ≡ a.texts.err ++ statement_warning location x → Represents (count + opening_count x) (state_after_layout t location x) (record a { cursor = v; texts = said })
 holds_stepped count t location x a v said h cursor counted out err =
-    let u : State = asked_of (context_of t.cursor).segment x t in
+    let u : State = with_requested_section (context_of t.cursor).segment x t in
     let same : u.cursor ≡ t.cursor = (asked_beside (context_of t.cursor).segment x t).cursor in
     record {
       symbols = h.symbols;
       cursor = cursor;
       counted = counted;
-      inside = wider count (opened_by x) u.symbols.scopes h.inside;
-      unnamed = still_before x t.cursor.unnamed u.symbols.definitions (subst (λ (w : Cursor). AreBefore w.unnamed u.symbols.definitions) same h.unnamed);
+      inside = wider count (opening_count x) u.symbols.scopes h.inside;
+      unnamed = still_before x t.cursor.unnamed u.symbols.definitions (subst (λ (w : Cursor). AreNumberedBelow w.unnamed u.symbols.definitions) same h.unnamed);
       sections = h.sections;
-      unsaid = h.unsaid;
-      out = out ∙ ap (λ (o : List ℕ). o ++ out_of x) h.out;
-      err = err ∙ ap (λ (o : List ℕ). o ++ warning_of location x) h.err;
+      no_declarations = h.no_declarations;
+      out = out ∙ ap (λ (o : List ℕ). o ++ statement_stdout x) h.out;
+      err = err ∙ ap (λ (o : List ℕ). o ++ statement_warning location x) h.err;
     }
 
 -- ---- A statement is taken.
@@ -171,8 +171,8 @@ abbrev aside : State → Cursor → List ℕ → List ℕ → State
 aside t w o e = record t { cursor = w; out = o; err = e }
 
 one_aside : (location : SourceLocation) (s : Context) (u v : State) (w : Cursor) (o e : List ℕ) (p : Piece) → PieceStep location s (aside u w o e) p v → PieceStep location s u p (aside v u.cursor u.out u.err)
-one_aside location s u _ w o e p (at_once c settled) = at_once c settled
-one_aside location s u _ w o e p later = later
+one_aside location s u _ w o e p (emitted_now c encoding) = emitted_now c encoding
+one_aside location s u _ w o e p deferred_piece_step = deferred_piece_step
 
 -- pieces are put whatever stands beside them
 puts_aside : (location : SourceLocation) (s : Context) (u v : State) (w : Cursor) (o e : List ℕ) (ps : List Piece) → PieceSteps location s (aside u w o e) ps v → PieceSteps location s u ps (aside v u.cursor u.out u.err)
@@ -191,28 +191,28 @@ all_same_state v y z w x o p e f a b c d =
     ∙ ap (λ (r : List ℕ). with_all v z x r e) c
     ∙ ap (λ (r : List ℕ). with_all v z x p r) d
 
-pub takes_entered : (count : ℕ) (t : State) (location : SourceLocation) (x : Statement) (s : Context) (m : StatementLayout) (old mid new : Assembler) → Represents count t old → IsMeasuredAt t x s m → Represents (count + opened_by x) (state_after_layout t location x) mid → EmitsThenDefines location s (pieces_of m.length m.settled x) (λ y. symbols_after y (laid_as location s m x)) mid new → (z : State) × StepsTo t location x (Ok z) × Represents (count + opened_by x) z new
+pub takes_entered : (count : ℕ) (t : State) (location : SourceLocation) (x : Statement) (s : Context) (m : StatementLayout) (old mid new : Assembler) → Represents count t old → HasLayout t x s m → Represents (count + opening_count x) (state_after_layout t location x) mid → EmitsThenDefines location s (pieces_of m.length m.encoding x) (λ y. symbols_after y (statement_with_layout location s m x)) mid new → (z : State) × StepsTo t location x (Ok z) × Represents (count + opening_count x) z new
 takes_entered count t location x s m old mid new h placed held turns =
     let r : LaidOutStatement = laid_out_statement t.symbols t.cursor location x in
-    let u : State = asked_of (context_of t.cursor).segment x t in
-    let beside = asked_beside (context_of t.cursor).segment x t in
-    let ps : List Piece = pieces_of r.length r.settled x in
-    let measured : EmitsThenDefines location s ps (λ y. symbols_after y (laid_as location s (measure_of t.symbols t.cursor x) x)) mid new = subst (λ (n : StatementLayout). EmitsThenDefines location s (pieces_of n.length n.settled x) (λ y. symbols_after y (laid_as location s n x)) mid new) placed.measured turns in
-    let here : EmitsThenDefines location (context_of t.cursor) ps (λ y. symbols_after y r) mid new = subst (λ (q : Context). EmitsThenDefines location q ps (λ y. symbols_after y (laid_as location q (measure_of t.symbols t.cursor x) x)) mid new) placed.context measured in
+    let u : State = with_requested_section (context_of t.cursor).segment x t in
+    let sibling_path = asked_beside (context_of t.cursor).segment x t in
+    let ps : List Piece = pieces_of r.length r.encoding x in
+    let measured : EmitsThenDefines location s ps (λ y. symbols_after y (statement_with_layout location s (layout_of_statement t.symbols t.cursor x) x)) mid new = subst (λ (n : StatementLayout). EmitsThenDefines location s (pieces_of n.length n.encoding x) (λ y. symbols_after y (statement_with_layout location s n x)) mid new) placed.measured turns in
+    let here : EmitsThenDefines location (context_of t.cursor) ps (λ y. symbols_after y r) mid new = subst (λ (q : Context). EmitsThenDefines location q ps (λ y. symbols_after y (statement_with_layout location q (layout_of_statement t.symbols t.cursor x) x)) mid new) placed.context measured in
     let low : t.cursor.scope ≤ count = h.counted.scope in
-    let inside : AreInside (count + opened_by x) (symbols_after u.symbols r).scopes = subst (λ (y : Symbols). AreInside (count + opened_by x) (y.scopes ++ scope_opened t.cursor.scope x)) (sym beside.symbols) (inside_after count t.cursor.scope t.symbols.scopes x low h.inside) in
-    let unnamed : AreBefore (cursor_after t.symbols t.cursor x).unnamed (symbols_after u.symbols r).definitions = subst (λ (y : Symbols). AreBefore (cursor_after t.symbols t.cursor x).unnamed (y.definitions ++ definitions_of r)) (sym beside.symbols) (before_after x (context_of t.cursor) r.size t.symbols.definitions h.unnamed) in
-    let done = here (count + opened_by x) (state_after_layout t location x) held inside unnamed in
+    let inside : HaveBoundedParents (count + opening_count x) (symbols_after u.symbols r).scopes = subst (λ (y : Symbols). HaveBoundedParents (count + opening_count x) (y.scopes ++ scope_opened t.cursor.scope x)) (sym sibling_path.symbols) (inside_after count t.cursor.scope t.symbols.scopes x low h.inside) in
+    let unnamed : AreNumberedBelow (cursor_after t.symbols t.cursor x).unnamed (symbols_after u.symbols r).definitions = subst (λ (y : Symbols). AreNumberedBelow (cursor_after t.symbols t.cursor x).unnamed (y.definitions ++ definitions_of r)) (sym sibling_path.symbols) (before_after x (context_of t.cursor) r.size t.symbols.definitions h.unnamed) in
+    let done = here (count + opening_count x) (state_after_layout t location x) held inside unnamed in
     let v : State = done.0 in
     let w : State = aside v u.cursor u.out u.err in
     let along = puts_beside location (context_of t.cursor) (state_after_layout t location x) v ps done.1 in
-    let puts : PieceSteps location (context_of t.cursor) u ps w = puts_aside location (context_of t.cursor) u v (cursor_after t.symbols t.cursor x) (u.out ++ out_of x) (u.err ++ warning_of location x) ps done.1 in
+    let puts : PieceSteps location (context_of t.cursor) u ps w = puts_aside location (context_of t.cursor) u v (cursor_after t.symbols t.cursor x) (u.out ++ statement_stdout x) (u.err ++ statement_warning location x) ps done.1 in
     let same : record v { symbols = symbols_after u.symbols r } ≡ with_symbols w r =
-    all_same_state v (symbols_after u.symbols r) (symbols_after v.symbols r) v.cursor (cursor_after v.symbols u.cursor x) v.out (u.out ++ out_of x) v.err (u.err ++ warning_of location x)
+    all_same_state v (symbols_after u.symbols r) (symbols_after v.symbols r) v.cursor (cursor_after v.symbols u.cursor x) v.out (u.out ++ statement_stdout x) v.err (u.err ++ statement_warning location x)
     (ap (λ (y : Symbols). symbols_after y r) (sym along.symbols))
-    (along.cursor ∙ ap (λ (y : Symbols). cursor_after y t.cursor x) (sym beside.symbols ∙ sym along.symbols) ∙ ap (λ (z : Cursor). cursor_after v.symbols z x) (sym beside.cursor))
+    (along.cursor ∙ ap (λ (y : Symbols). cursor_after y t.cursor x) (sym sibling_path.symbols ∙ sym along.symbols) ∙ ap (λ (z : Cursor). cursor_after v.symbols z x) (sym sibling_path.cursor))
     along.out along.err in
-    (with_symbols w r, subst (λ (f : Option AsmFault). UnlessFault f (StepsWithoutError t r) (Ok (with_symbols w r))) (sym placed.faultless) (w, puts, refl), subst (λ (z : State). Represents (count + opened_by x) z new) same done.2)
+    (with_symbols w r, subst (λ (f : Option AsmFault). UnlessFault f (StepsWithoutError t r) (Ok (with_symbols w r))) (sym placed.faultless) (w, puts, refl), subst (λ (z : State). Represents (count + opening_count x) z new) same done.2)
 
 -- ---- The first fault.
 
@@ -228,7 +228,7 @@ first_missing None None rest h = refl
 
 module _ (y : Symbols) (w : Cursor) (start len : Option Tree) where
   abbrev lost : Option AsmFault
-  lost = lost_scopes y.scopes w.scope (trees_of (Incbin None start len))
+  lost = missing_scopes_fault y.scopes w.scope (trees_of (Incbin None start len))
 
   abbrev bad : Option AsmFault
   bad = operand_fault y (context_of w) (Incbin None start len)
@@ -259,22 +259,22 @@ module _ (t : State) (location : SourceLocation) (name : List ℕ) (start len : 
       subst (λ z. StepsTo t location (with_bytes m location z) (Err e)) (sym is)
       (takes_refused t location (Incbin (bytes_for m location name) start len) e (unread_refused t.symbols t.cursor start len (bytes_for m location name) e h))
 
-  without : found ≡ None → (m : Files) → file_named m (beside location.file name) ≡ None → StepsTo t location (with_bytes m location x) (Err FileNotFound)
+  without : found ≡ None → (m : Files) → file_named m (sibling_path location.file name) ≡ None → StepsTo t location (with_bytes m location x) (Err FileNotFound)
   without h m none =
       subst (λ z. StepsTo t location (with_bytes m location z) (Err FileNotFound)) (sym is)
       (subst (λ b. StepsTo t location (Incbin b start len) (Err FileNotFound)) (sym none)
       (takes_refused t location (Incbin None start len) FileNotFound (unread_missing t.symbols t.cursor start len h)))
 
   -- it is refused whatever the file has
-  pub refused_unread : (f : Option Files) (last_failure : LastFailure) → is_failure e ≡ false → Unless (is_memory e) (unless_fault {A = Unit {0}} found tt ≡ Err e) → IsRefusedUnread f last_failure t location x e
+  pub refused_unread : (f : Option Files) (last_failure : LastFailure) → is_failure e ≡ false → Unless (is_out_of_memory e) (unless_fault {A = Unit {0}} found tt ≡ Err e) → IsRejectedUnread f last_failure t location x e
   refused_unread f last_failure inside h = record {
-    inside = unless_then (is_system_error e) (λ p. whatever (fault_there found e p)) (unless_either _ (is_memory e) (is_failure e) h);
+    inside = unless_then (is_system_error e) (λ p. whatever (fault_there found e p)) (unless_either _ (is_out_of_memory e) (is_failure e) h);
     failed = λ so. absurd cc;
   }
 
   -- its file can't be read
-  pub failed_unread : (f : Option Files) (last_failure : LastFailure) (u : Unit {0}) → is_system_error e ≡ true → (is_failure e ≡ true → FailedOn last_failure (beside location.file name)) → (is_failure e ≡ true → IfSome f (λ m. FailedWithin last_failure (beside location.file name) 0 (length (bytes_in (get m (beside location.file name)))))) → unless_fault {A = Unit {0}} found tt ≡ Ok u → IsRefusedUnread f last_failure t location x e
-  failed_unread f last_failure u outside asked within h = record {
+  pub failed_unread : (f : Option Files) (last_failure : LastFailure) (u : Unit {0}) → is_system_error e ≡ true → (is_failure e ≡ true → FailedOn last_failure (sibling_path location.file name)) → (is_failure e ≡ true → IfSome f (λ m. FailedWithin last_failure (sibling_path location.file name) 0 (length (bytes_in (get m (sibling_path location.file name)))))) → unless_fault {A = Unit {0}} found tt ≡ Ok u → IsRejectedUnread f last_failure t location x e
+  failed_unread f last_failure u outside requested within h = record {
     inside = subst (λ b. Unless b ((m : Files) → StepsTo t location (with_bytes m location x) (Err e))) (sym outside) tt;
-    failed = λ so. record { name = beside location.file name; asked = asked so; inside = within so; answered = without (fault_none found u h) };
+    failed = λ so. record { name = sibling_path location.file name; requested = requested so; inside = within so; answered = without (fault_none found u h) };
   }

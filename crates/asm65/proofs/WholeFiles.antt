@@ -3,21 +3,21 @@ use Rattle.std.proofs.Common.{◌≡◌, ◌∙◌, ℕ, Bool, true, false, List
 use Rattle.std.specs.FinMap as fmap
 use Rattle.std.specs.Prelude.{if◌then◌else◌, ◌&&◌, IfSome, Result}
 use Rattle.std.specs.Str.{is_utf8}
-use Rattle.base65.specs.Reading.{front_in}
+use Rattle.base65.specs.Reading.{file_prefix}
 use Rattle.base65.specs.Store.{LastFailure, Files, FailedWithin, bytes_in}
 use Rattle.base65.specs.declared.store.StoreFault.TheVariants.{FileNotFound}
 use Rattle.syntax65.specs.Trees.{Tree}
-use Rattle.expand65.specs.Expansion.{as_text, beside, file_named}
+use Rattle.expand65.specs.Expansion.{as_text, sibling_path, file_named}
 use Rattle.ast65.specs.declared.language.Statement.{Statement}
 use Rattle.ast65.specs.declared.language.Statement.TheVariants.{Incbin, IncbinPath}
-use Rattle.semantics65.specs.Views.{place_in}
+use Rattle.semantics65.specs.Views.{location_in}
 use Rattle.asm65.specs.Internal.RunState.{read_bytes}
 use Rattle.std.proofs.lemmas.Bool.Decides.{nat_tests}
 use Rattle.std.proofs.lemmas.List.{length-take-le, take_all}
 use Rattle.syntax65.specs.declared.source_location.SourceLocation.{SourceLocation}
 use Rattle.ast65.specs.declared.fault.AsmFault.{AsmFault}
 use Rattle.ast65.specs.declared.fault.AsmFault.TheVariants.{BadPart}
-use Rattle.semantics65.specs.Layout.{Cursor, laid_out_statement, context_of, file_limit, first_fault, is_part, left_from, line_fault, lost_scopes, operand_fault, or_then, part_fault, trees_of, when}
+use Rattle.semantics65.specs.Layout.{Cursor, laid_out_statement, context_of, file_limit, first_fault, is_part, remaining_from, line_fault, missing_scopes_fault, operand_fault, or_then, part_fault, trees_of, fault_if}
 use Rattle.semantics65.specs.Norms.{optional_value}
 use Rattle.semantics65.specs.Numbering.{IsWellFormedStatement}
 use Rattle.semantics65.specs.Symbols.{Symbols}
@@ -52,25 +52,25 @@ unnamed m name most e = by (is_utf8 name) e
     by true h = absurd cc
     by false h = refl
 
-front_some : (o : Option (List ℕ)) (most : ℕ) (bytes : List ℕ) → front_in o most ≡ Ok bytes → Some bytes ≡ option_map (take most) o
+front_some : (o : Option (List ℕ)) (most : ℕ) (bytes : List ℕ) → file_prefix o most ≡ Ok bytes → Some bytes ≡ option_map (take most) o
 front_some None most bytes e = absurd cc
 front_some (Some all) most bytes e = let same : take most all ≡ bytes = cc in ap Some (sym same)
 
-front_none : (o : Option (List ℕ)) (most : ℕ) → front_in o most ≡ Err FileNotFound → None ≡ option_map (take most) o
+front_none : (o : Option (List ℕ)) (most : ℕ) → file_prefix o most ≡ Err FileNotFound → None ≡ option_map (take most) o
 front_none None most e = refl
 front_none (Some all) most e = absurd cc
 
-pub read_some : (m : Files) (name text : List ℕ) (most : ℕ) (bytes : List ℕ) → Some text ≡ as_text name → front_in (fmap.get m text) most ≡ Ok bytes → Some bytes ≡ option_map (take most) (file_named m name)
+pub read_some : (m : Files) (name text : List ℕ) (most : ℕ) (bytes : List ℕ) → Some text ≡ as_text name → file_prefix (fmap.get m text) most ≡ Ok bytes → Some bytes ≡ option_map (take most) (file_named m name)
 read_some m name text most bytes e h = front_some (fmap.get m text) most bytes h ∙ ap (option_map (take most)) (sym (named m name text e))
 
-pub read_none : (m : Files) (name text : List ℕ) (most : ℕ) → Some text ≡ as_text name → front_in (fmap.get m text) most ≡ Err FileNotFound → None ≡ option_map (take most) (file_named m name)
+pub read_none : (m : Files) (name text : List ℕ) (most : ℕ) → Some text ≡ as_text name → file_prefix (fmap.get m text) most ≡ Err FileNotFound → None ≡ option_map (take most) (file_named m name)
 read_none m name text most e h = front_none (fmap.get m text) most h ∙ ap (option_map (take most)) (sym (named m name text e))
 
 -- a statement with what was read of its file
-pub part_read : (m : Files) (file name slice : List ℕ) (line : ℕ) (bytes : Option (List ℕ)) (start len : Option Tree) (x : Statement) → x ≡ IncbinPath name start len → slice ≡ name → bytes ≡ option_map (take 16777217) (file_named m (beside file slice)) → Incbin bytes start len ≡ read_bytes m (place_in file line) x
+pub part_read : (m : Files) (file name slice : List ℕ) (line : ℕ) (bytes : Option (List ℕ)) (start len : Option Tree) (x : Statement) → x ≡ IncbinPath name start len → slice ≡ name → bytes ≡ option_map (take 16777217) (file_named m (sibling_path file slice)) → Incbin bytes start len ≡ read_bytes m (location_in file line) x
 part_read m file name slice line bytes start len x is same read =
-    ap (λ b. Incbin b start len) (read ∙ ap (λ n. option_map (take 16777217) (file_named m (beside file n))) same)
-    ∙ sym (ap (read_bytes m (place_in file line)) is)
+    ap (λ b. Incbin b start len) (read ∙ ap (λ n. option_map (take 16777217) (file_named m (sibling_path file n))) same)
+    ∙ sym (ap (read_bytes m (location_in file line)) is)
 
 -- ---- A file of which more than the limit was read is refused as the whole file is.
 
@@ -92,18 +92,18 @@ first_of None None rest = refl
 -- the fault of a part of such a file
 abbrev long_fault : Symbols → Cursor → Option Tree → Option Tree → AsmFault
 long_fault y w start len =
-    or_bad (or_then (lost_scopes y.scopes w.scope (trees_of (Incbin None start len))) (operand_fault y (context_of w) (Incbin None start len)))
+    or_bad (or_then (missing_scopes_fault y.scopes w.scope (trees_of (Incbin None start len))) (operand_fault y (context_of w) (Incbin None start len)))
 
 too_long : (y : Symbols) (w : Cursor) (bytes : List ℕ) (start len : Option Tree) → nat_le (length bytes) file_limit ≡ false → line_fault y w (Incbin (Some bytes) start len) ≡ Some (long_fault y w start len)
 too_long y w bytes start len long =
-    let a : Option AsmFault = lost_scopes y.scopes w.scope (trees_of (Incbin None start len)) in
+    let a : Option AsmFault = missing_scopes_fault y.scopes w.scope (trees_of (Incbin None start len)) in
     let b : Option AsmFault = operand_fault y (context_of w) (Incbin None start len) in
     let P : Option AsmFault → Type 0 = λ f. (rest : List (Option AsmFault)) → first_fault (None ∷ a ∷ None ∷ None ∷ None ∷ b ∷ None ∷ None ∷ f ∷ rest) ≡ Some (long_fault y w start len) in
-    let bad : part_fault y (context_of w) (Incbin (Some bytes) start len) ≡ Some BadPart = part_bad (is_part (length bytes) (optional_value y (context_of w) start _) (optional_value y (context_of w) len (left_from (length bytes) (optional_value y (context_of w) start _)))) (nat_le (length bytes) file_limit) long in
+    let bad : part_fault y (context_of w) (Incbin (Some bytes) start len) ≡ Some BadPart = part_bad (is_part (length bytes) (optional_value y (context_of w) start _) (optional_value y (context_of w) len (remaining_from (length bytes) (optional_value y (context_of w) start _)))) (nat_le (length bytes) file_limit) long in
     subst P (sym bad) (first_of a b) _
   where
-    part_bad : (p within : Bool) → within ≡ false → when (not (within && p)) BadPart ≡ Some BadPart
-    part_bad p within e = subst (λ b. when (not (b && p)) BadPart ≡ Some BadPart) (sym e) refl
+    part_bad : (p within : Bool) → within ≡ false → fault_if (not (within && p)) BadPart ≡ Some BadPart
+    part_bad p within e = subst (λ b. fault_if (not (b && p)) BadPart ≡ Some BadPart) (sym e) refl
 
 takes_same : (t : State) (location : SourceLocation) (x z : Statement) (r : Result State AsmFault) (e : AsmFault) → line_fault t.symbols t.cursor x ≡ Some e → line_fault t.symbols t.cursor z ≡ Some e → StepsTo t location x r → StepsTo t location z r
 takes_same t location x z r e p q h =

@@ -8,7 +8,7 @@ use Rattle.semantics65.specs.Module.{LocatedFault, Outcome}
 use Rattle.sources65.specs.Reading.{Define, Job}
 use Rattle.base65.specs.Outcome.{RefinesProp}
 use Rattle.object65.specs.declared.object.Object.{Object}
-use Rattle.ast65.specs.Faults.{is_failure, is_memory, is_system_error}
+use Rattle.ast65.specs.Faults.{is_failure, is_out_of_memory, is_system_error}
 use Rattle.asm65.specs.declared.assembling.AsmJob.{AsmJob}
 use Rattle.asm65.specs.declared.assembling.Assembly.{Assembly}
 use Rattle.asm65.specs.declared.assembling.Define as code
@@ -21,7 +21,7 @@ use Rattle.asm65.specs.declared.texts.Diagnostic.{Diagnostic}
 pub record AnswersWithoutFile {S : Type 0} (o : Option Files) (last_failure : LastFailure) (IsAnswer : Files → S → Result S AsmFault → Type 0)
     (t : S) (r : Result S AsmFault) : Type 0 where
   pub name : List ℕ
-  pub asked : FailedOn last_failure name
+  pub requested : FailedOn last_failure name
   pub inside : IfSome o (λ m. FailedWithin last_failure name 0 (length (bytes_in (get m name))))
   pub answered : (m : Files) → file_named m name ≡ None → IsAnswer m t r
 
@@ -39,36 +39,36 @@ job_of job = record {
 }
 
 -- no file where memory ran out or the source couldn't be opened
-abbrev pub placed_of : Diagnostic → LocatedFault
-placed_of e = record {
+abbrev pub located_fault : Diagnostic → LocatedFault
+located_fault e = record {
   place = record { file = unwrap_or e.file []; line = e.line };
   fault = e.fault;
 }
 
-abbrev pub in_places : Result Object Diagnostic → Result Object LocatedFault
-in_places (Ok o) = Ok o
-in_places (Err e) = Err (placed_of e)
+abbrev pub located_result : Result Object Diagnostic → Result Object LocatedFault
+located_result (Ok o) = Ok o
+located_result (Err e) = Err (located_fault e)
 
 abbrev pub is_diagnostic_system_error : Diagnostic → Bool
 is_diagnostic_system_error e = is_system_error e.fault
 
-abbrev pub has_failed : Diagnostic → Bool
-has_failed e = is_failure e.fault
+abbrev pub is_store_failure : Diagnostic → Bool
+is_store_failure e = is_failure e.fault
 
 -- an answer, with what was said
-abbrev pub answer_of : Assembly → Result Object Diagnostic → Outcome
-answer_of a r = record { result = in_places r; out = a.out; err = a.err }
+abbrev pub assembly_outcome : Assembly → Result Object Diagnostic → Outcome
+assembly_outcome a r = record { result = located_result r; out = a.out; err = a.err }
 
 -- an assembly answers an outcome, unless memory ran out or the store failed
 abbrev pub RefinesOutcome : Outcome → Assembly → Type 0
-RefinesOutcome o a = RefinesProp is_diagnostic_system_error (λ r. answer_of a r ≡ o) a.result
+RefinesOutcome o a = RefinesProp is_diagnostic_system_error (λ r. assembly_outcome a r ≡ o) a.result
 
 -- memory ran out, or the store failed
-abbrev pub is_from_outside : Result Object Diagnostic → Bool
-is_from_outside (Ok o) = false
-is_from_outside (Err e) = is_diagnostic_system_error e
+abbrev pub is_system_error_result : Result Object Diagnostic → Bool
+is_system_error_result (Ok o) = false
+is_system_error_result (Err e) = is_diagnostic_system_error e
 
 -- memory ran out
-abbrev pub is_from_memory : Result Object Diagnostic → Bool
-is_from_memory (Ok o) = false
-is_from_memory (Err e) = is_memory e.fault
+abbrev pub is_memory_error_result : Result Object Diagnostic → Bool
+is_memory_error_result (Ok o) = false
+is_memory_error_result (Err e) = is_out_of_memory e.fault

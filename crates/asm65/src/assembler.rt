@@ -1,7 +1,7 @@
 //! What the assembler holds between two statements.
 
 ghost use Rattle.symbols65.specs.Views.{table_of};
-ghost use Rattle.asm65.specs.Internal.AssemblerState.{known_where, Represents};
+ghost use Rattle.asm65.specs.Internal.AssemblerState.{environment_in, Represents};
 ghost use Rattle.std.specs.Prelude.{IfOk};
 ghost use Rattle.sources65.specs.Machine.{initial_state};
 
@@ -23,7 +23,7 @@ pub struct Knowledge<'a> {
 }
 
 impl Knows for Knowledge<'_> {
-    ghost meaning = { λ k. known_where (table_of k.symbols.now) k.context };
+    ghost meaning = { λ k. environment_in (table_of k.symbols.now) k.context };
 
     fn value(&self, alloc: Global, expr: &Expr) -> Result<Option<i64>, AllocError> {
         constant(alloc, self.symbols, self.context, expr)

@@ -3,22 +3,22 @@
 ghost use Rattle.std.specs.Prelude.{◌≡◌, ℕ, ◌+◌, false, IfErr, ⊤, ◌≤◌, true, IfOk, IfSome, IsErrOf, Ok, Some, []};
 ghost use Rattle.ast65.specs.Faults.{is_failure, is_system_error};
 ghost use Rattle.sources65.specs.Machine.{StepsTo, initial_state, State, outcome_of_state};
-ghost use Rattle.sources65.specs.Reading.{AreDefined, no_line, Job, IsOutcome};
-ghost use Rattle.asm65.specs.Assembly.{define_of, job_of, RefinesOutcome, answer_of, has_failed, is_from_memory, is_from_outside, is_diagnostic_system_error, placed_of};
+ghost use Rattle.sources65.specs.Reading.{DefinesConstants, no_line, Job, IsOutcome};
+ghost use Rattle.asm65.specs.Assembly.{define_of, job_of, RefinesOutcome, assembly_outcome, is_store_failure, is_memory_error_result, is_system_error_result, is_diagnostic_system_error, located_fault};
 ghost use Rattle.asm65.specs.Internal.AssemblerState.{Represents};
-ghost use Rattle.asm65.specs.Internal.RunState.{HasHeadroom, RefinesTransition, RunRepresents, IsRunning, SaysAs};
-ghost use Rattle.semantics65.specs.Views.{place_at};
+ghost use Rattle.asm65.specs.Internal.RunState.{HasHeadroom, RefinesTransition, RunRepresents, IsRunning, HasSameOutput};
+ghost use Rattle.semantics65.specs.Views.{location_of_ref};
 ghost use Rattle.symbols65.specs.Measuring.{opening_limit};
 ghost use Rattle.syntax65.specs.Trees.{number};
 ghost use Rattle.ast65.specs.declared.language.Statement.TheVariants.{Constant};
 ghost use Rattle.base65.specs.Outcome.{RefinesProp};
 ghost use Rattle.base65.specs.Store.{FailsAtLastCount, FailedAt, PropagatesIoError, PropagatesIoErrors};
 ghost use Rattle.object65.specs.Objects.{ObjectFits, is_well_formed_object};
-ghost use Rattle.expand65.specs.Expansion.{opened_in};
-ghost use Rattle.expand65.specs.Representation.{IsPositioned, RepresentsFirstState, measure_of, place_of};
+ghost use Rattle.expand65.specs.Expansion.{first_state_in};
+ghost use Rattle.expand65.specs.Representation.{IsPositioned, RepresentsFirstState, measure_of, location_of};
 ghost use Rattle.syntax65.specs.Faults.{is_system_error as is_expand_system_error};
-ghost use Rattle.asm65.specs.Failing.{StopsSo, nowhere};
-ghost use Rattle.asm65.specs.Internal.Stopping.{StartsRun, RunStopsSo};
+ghost use Rattle.asm65.specs.Failing.{ReportsStoreFailure, no_location};
+ghost use Rattle.asm65.specs.Internal.StoreFailures.{StartsRun, RunReportsStoreFailure};
 
 use crate::assembler::Assembler;
 use crate::driver::{Run, assemble_all};
@@ -71,7 +71,7 @@ fn define_one(
     requires { HasHeadroom 1 assembler.old }
     ensures taken { (count : ℕ) (t : State) → count + 1 ≤ opening_limit →
         Represents count t assembler.old → let d = define_of define.now in
-        RefinesTransition ⊤ (StepsTo t (place_at at.entry) (Constant d.0 (number d.1)))
+        RefinesTransition ⊤ (StepsTo t (location_of_ref at.entry) (Constant d.0 (number d.1)))
         count t assembler.new result }
     ensures inside { IfErr result (λ e. is_failure e ≡ false) }
 {
@@ -87,7 +87,7 @@ pub fn define_all(
     job: &AsmJob<'_>,
 ) -> Result<(), AsmFault>
     requires { Represents 0 initial_state assembler.old }
-    ensures defined { RefinesTransition ⊤ (AreDefined StepsTo initial_state (no_line (job_of job.now).source)
+    ensures defined { RefinesTransition ⊤ (DefinesConstants StepsTo initial_state (no_line (job_of job.now).source)
         (job_of job.now).defines) 0 initial_state assembler.new result }
     ensures inside { IfErr result (λ e. is_failure e ≡ false) }
 {
@@ -102,9 +102,9 @@ pub fn define_all(
 }
 
 /// Returns a system error before the first line, without output.
-fn refused_outside(alloc: Global, fault: AsmFault) -> Assembly
+fn fail_before_lines(alloc: Global, fault: AsmFault) -> Assembly
     ensures fault { IfErr result.result (λ e. e.fault ≡ fault) }
-    ensures placed { IfErr result.result (λ e. (placed_of e).place ≡ nowhere) }
+    ensures placed { IfErr result.result (λ e. (located_fault e).place ≡ no_location) }
     ensures none { IfOk result.result (λ _. ⊥) }
     ensures silent { (result.out ≡ []) × (result.err ≡ []) }
 {
@@ -121,10 +121,10 @@ fn refused_outside(alloc: Global, fault: AsmFault) -> Assembly
 
 /// Ends an assembly whose store failed after some statements, with their output and the location
 /// that was reached.
-fn stopped(expander: Expander, assembler: Assembler, fault: AsmFault) -> Assembly
+fn fail_after_statements(expander: Expander, assembler: Assembler, fault: AsmFault) -> Assembly
     ensures none { IfOk result.result (λ _. ⊥) }
-    ensures stopped { IfErr result.result (λ e. placed_of e ≡
-        record { place = place_of expander; fault = fault }) }
+    ensures stopped { IfErr result.result (λ e. located_fault e ≡
+        record { place = location_of expander; fault = fault }) }
     ensures out { result.out ≡ assembler.texts.out }
     ensures err { result.err ≡ assembler.texts.err }
 {
@@ -143,55 +143,64 @@ fn stopped(expander: Expander, assembler: Assembler, fault: AsmFault) -> Assembl
 }
 
 /// Ends an assembly with an error at a location, after the output so far.
-fn refused(alloc: Global, assembler: Assembler, at: LocationRef<'_>, fault: AsmFault) -> Assembly
-    ensures refused { is_system_error fault ≡ false → (t : State) → SaysAs t assembler →
+fn fail_at_location(
+    alloc: Global,
+    assembler: Assembler,
+    at: LocationRef<'_>,
+    fault: AsmFault,
+) -> Assembly
+    ensures refused { is_system_error fault ≡ false → (t : State) → HasSameOutput t assembler →
         RefinesOutcome (outcome_of_state t (Some (record {
-          place = place_at at.entry;
+          place = location_of_ref at.entry;
           fault = fault;
         }))) result }
-    ensures outside { is_system_error fault ≡ true → is_from_outside result.result ≡ true }
+    ensures outside { is_system_error fault ≡ true → is_system_error_result result.result ≡ true }
     ensures none { IfOk result.result (λ _. ⊥) }
-    ensures failed { IfErr result.result (λ e. has_failed e ≡ is_failure fault) }
+    ensures failed { IfErr result.result (λ e. is_store_failure e ≡ is_failure fault) }
     ensures first { is_failure fault ≡ true →
-        IfErr result.result (λ e. (e.fault ≡ fault) × ((placed_of e).place ≡ nowhere)) }
-    ensures silent { is_from_outside result.result ≡ true → (result.out ≡ []) × (result.err ≡ []) }
+        IfErr result.result (λ e. (e.fault ≡ fault) × ((located_fault e).place ≡ no_location)) }
+    ensures silent { is_system_error_result result.result ≡ true → (result.out ≡ []) × (result.err ≡ []) }
 {
     if is_system_error(&fault) {
-        return refused_outside(alloc, fault);
+        return fail_before_lines(alloc, fault);
     }
     fail_at_line(alloc, assembler, at, fault)
 }
 
 /// Ends an assembly with an error after some statements, at the location that was reached, after
 /// their output.
-fn refused_after(
+fn fail_with_output(
     alloc: Global,
     expander: Expander,
     assembler: Assembler,
     fault: AsmFault,
 ) -> Assembly
-    ensures refused { is_system_error fault ≡ false → (t : State) → SaysAs t assembler → RefinesOutcome
-        (outcome_of_state t (Some (record { place = place_of expander; fault = fault }))) result }
-    ensures outside { is_system_error fault ≡ true → is_from_outside result.result ≡ true }
+    ensures refused { is_system_error fault ≡ false → (t : State) → HasSameOutput t assembler → RefinesOutcome
+        (outcome_of_state t (Some (record { place = location_of expander; fault = fault }))) result }
+    ensures outside { is_system_error fault ≡ true → is_system_error_result result.result ≡ true }
     ensures none { IfOk result.result (λ _. ⊥) }
-    ensures failed { IfErr result.result (λ e. has_failed e ≡ is_failure fault) }
+    ensures failed { IfErr result.result (λ e. is_store_failure e ≡ is_failure fault) }
     ensures stopped { is_failure fault ≡ true → IfErr result.result (λ e.
-        placed_of e ≡ record { place = place_of expander; fault = fault }) }
+        located_fault e ≡ record { place = location_of expander; fault = fault }) }
     ensures said { is_failure fault ≡ true →
         (result.out ≡ assembler.texts.out) × (result.err ≡ assembler.texts.err) }
-    ensures silent { is_from_memory result.result ≡ true → (result.out ≡ []) × (result.err ≡ []) }
+    ensures silent { is_memory_error_result result.result ≡ true → (result.out ≡ []) × (result.err ≡ []) }
 {
     if is_failure(&fault) {
-        return stopped(expander, assembler, fault);
+        return fail_after_statements(expander, assembler, fault);
     }
     let (file, line) = expander.place();
-    refused(alloc, assembler, LocationRef { file, line }, fault)
+    fail_at_location(alloc, assembler, LocationRef { file, line }, fault)
 }
 
 /// Opens the source of a job.
-fn opened<S: Store>(alloc: Global, store: &mut S, job: &AsmJob<'_>) -> Result<Expander, ExpandFault>
+fn open_source<S: Store>(
+    alloc: Global,
+    store: &mut S,
+    job: &AsmJob<'_>,
+) -> Result<Expander, ExpandFault>
     ensures opened { IfSome (S.files store.old) (λ m.
-        RepresentsFirstState m result (opened_in m (job_of job.now).source (job_of job.now).include)) }
+        RepresentsFirstState m result (first_state_in m (job_of job.now).source (job_of job.now).include)) }
     ensures files { S.files store.new ≡ S.files store.old }
     ensures size { IfOk result (λ e. measure_of e ≤ 3145729) }
     ensures count { PropagatesIoError ExpandFault.FileError (S.failures store.old) (S.failures store.new) result }
@@ -208,19 +217,19 @@ fn opened<S: Store>(alloc: Global, store: &mut S, job: &AsmJob<'_>) -> Result<Ex
 }
 
 /// Assembles the statements of an opened source.
-fn finished<S: Store>(alloc: Global, store: &mut S, run: Run) -> Assembly
+fn assemble_opened<S: Store>(alloc: Global, store: &mut S, run: Run) -> Assembly
     requires { IsRunning run }
     ensures assembled { IfSome (S.files store.old) (λ m. (job : Job) (t : State) →
-        RepresentsFirstState m (Ok run.expander) (opened_in m job.source job.include) →
-        AreDefined StepsTo initial_state (no_line job.source) job.defines (Ok t) → RunRepresents t run →
-        RefinesProp is_diagnostic_system_error (λ r. IsOutcome m job (answer_of result r)) result.result) }
+        RepresentsFirstState m (Ok run.expander) (first_state_in m job.source job.include) →
+        DefinesConstants StepsTo initial_state (no_line job.source) job.defines (Ok t) → RunRepresents t run →
+        RefinesProp is_diagnostic_system_error (λ r. IsOutcome m job (assembly_outcome result r)) result.result) }
     ensures files { S.files store.new ≡ S.files store.old }
-    ensures count { PropagatesIoErrors has_failed (S.failures store.old) (S.failures store.new) result.result }
+    ensures count { PropagatesIoErrors is_store_failure (S.failures store.old) (S.failures store.new) result.result }
     ensures good { IfOk result.result (λ o. is_well_formed_object o ≡ true) }
     ensures numbers { IfOk result.result ObjectFits }
     ensures stopped { IfSome (S.files store.old) (λ m. (job : Job) → StartsRun m job run →
-        RunStopsSo m (S.last_failure store.new) job result) }
-    ensures silent { is_from_memory result.result ≡ true → (result.out ≡ []) × (result.err ≡ []) }
+        RunReportsStoreFailure m (S.last_failure store.new) job result) }
+    ensures silent { is_memory_error_result result.result ≡ true → (result.out ≡ []) × (result.err ≡ []) }
 {
     let mut run = run;
     let ran = assemble_all(alloc, store, &mut run);
@@ -230,12 +239,12 @@ fn finished<S: Store>(alloc: Global, store: &mut S, run: Run) -> Assembly
     } = run;
     match ran {
         Ok(()) => finish_assembly(alloc, assembler),
-        Err(fault) => refused_after(alloc, expander, assembler, fault),
+        Err(fault) => fail_with_output(alloc, expander, assembler, fault),
     }
 }
 
 /// Assembles a job with a new assembler.
-fn assembled<S: Store>(
+fn assemble_with<S: Store>(
     alloc: Global,
     store: &mut S,
     job: &AsmJob<'_>,
@@ -243,31 +252,31 @@ fn assembled<S: Store>(
 ) -> Assembly
     requires { Represents 0 initial_state assembler }
     ensures assembled { IfSome (S.files store.old) (λ m. RefinesProp is_diagnostic_system_error
-        (λ r. IsOutcome m (job_of job.now) (answer_of result r)) result.result) }
+        (λ r. IsOutcome m (job_of job.now) (assembly_outcome result r)) result.result) }
     ensures files { S.files store.new ≡ S.files store.old }
-    ensures count { PropagatesIoErrors has_failed (S.failures store.old) (S.failures store.new) result.result }
+    ensures count { PropagatesIoErrors is_store_failure (S.failures store.old) (S.failures store.new) result.result }
     ensures at_last_count { FailsAtLastCount is_diagnostic_system_error (S.failures store.old) result.result }
     ensures good { IfOk result.result (λ o. is_well_formed_object o ≡ true) }
     ensures numbers { IfOk result.result ObjectFits }
     ensures stopped { IfSome (S.files store.old) (λ m.
-        RunStopsSo m (S.last_failure store.new) (job_of job.now) result) }
-    ensures silent { is_from_memory result.result ≡ true → (result.out ≡ []) × (result.err ≡ []) }
+        RunReportsStoreFailure m (S.last_failure store.new) (job_of job.now) result) }
+    ensures silent { is_memory_error_result result.result ≡ true → (result.out ≡ []) × (result.err ≡ []) }
 {
     let mut assembler = assembler;
     let at = LocationRef {
         file: job.source,
         line: 0,
     };
-    match opened(alloc, store, job) {
-        Err(fault) => refused(alloc, assembler, at, AsmFault::Expansion(fault)),
+    match open_source(alloc, store, job) {
+        Err(fault) => fail_at_location(alloc, assembler, at, AsmFault::Expansion(fault)),
         Ok(expander) => match define_all(alloc, &mut assembler, job) {
-            Err(fault) => refused(alloc, assembler, at, fault),
+            Err(fault) => fail_at_location(alloc, assembler, at, fault),
             Ok(()) => {
                 let run = Run {
                     expander,
                     assembler,
                 };
-                finished(alloc, store, run)
+                assemble_opened(alloc, store, run)
             }
         },
     }
@@ -277,9 +286,9 @@ fn assembled<S: Store>(
 /// are printed up to there.
 pub fn assemble<S: Store>(alloc: Global, store: &mut S, job: &AsmJob<'_>) -> Assembly
     ensures assembled { IfSome (S.files store.old) (λ m. RefinesProp is_diagnostic_system_error
-        (λ r. IsOutcome m (job_of job.now) (answer_of result r)) result.result) }
+        (λ r. IsOutcome m (job_of job.now) (assembly_outcome result r)) result.result) }
     ensures files { S.files store.new ≡ S.files store.old }
-    ensures count { PropagatesIoErrors has_failed (S.failures store.old) (S.failures store.new) result.result }
+    ensures count { PropagatesIoErrors is_store_failure (S.failures store.old) (S.failures store.new) result.result }
     ensures at_last_count { FailsAtLastCount is_diagnostic_system_error (S.failures store.old) result.result }
     // An object can be written.
     ensures good { IfOk result.result (λ o. is_well_formed_object o ≡ true) }
@@ -287,12 +296,12 @@ pub fn assemble<S: Store>(alloc: Global, store: &mut S, job: &AsmJob<'_>) -> Ass
     // If the store fails, the texts of the statements before are printed. The error's location follows from the call that
     // failed last, if the store tells it.
     ensures stopped { IfSome (S.files store.old) (λ m.
-        StopsSo m (S.last_failure store.new) (job_of job.now) result) }
+        ReportsStoreFailure m (S.last_failure store.new) (job_of job.now) result) }
     // If memory runs out, nothing is printed.
-    ensures silent { is_from_memory result.result ≡ true → (result.out ≡ []) × (result.err ≡ []) }
+    ensures silent { is_memory_error_result result.result ≡ true → (result.out ≡ []) × (result.err ≡ []) }
 {
     match Assembler::new(alloc, store.seed()) {
-        Ok(assembler) => assembled(alloc, store, job, assembler),
-        Err(_) => refused_outside(alloc, AsmFault::OutOfMemory),
+        Ok(assembler) => assemble_with(alloc, store, job, assembler),
+        Err(_) => fail_before_lines(alloc, AsmFault::OutOfMemory),
     }
 }

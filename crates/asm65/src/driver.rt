@@ -1,26 +1,26 @@
-//! From the lines of a source to statements that are taken.
+//! Assembles the statements of a source's lines.
 
 ghost use Rattle.std.specs.Prelude.{◌≡◌, false, Err, IfErr, ◌<◌, IfOk, IfSome, Ok, OnOk, if◌then◌else◌};
 ghost use Rattle.base65.specs.Store.{PropagatesIoError};
 ghost use Rattle.syntax65.specs.Tokens.{lexemes};
-ghost use Rattle.expand65.specs.Failing.{given_after, given_parts, StopsBetweenStatements};
-ghost use Rattle.expand65.specs.Representation.{statement_of, FollowsFrom, IsPositioned, RepresentsFirstState, measure_of, place_of};
+ghost use Rattle.expand65.specs.Failures.{rest_statements, line_statements, HasFailureBetweenStatements};
+ghost use Rattle.expand65.specs.Representation.{statement_of, RefinesNextStatement, IsPositioned, RepresentsFirstState, measure_of, location_of};
 ghost use Rattle.ast65.specs.declared.fault.AsmFault.TheVariants.{NotUnderstood, BadScope};
 ghost use Rattle.ast65.specs.Faults.{is_failure};
 ghost use Rattle.semantics65.specs.Numbering.{AreSymbolNames, IsWellFormedStatement};
-ghost use Rattle.semantics65.specs.Views.{place_at};
+ghost use Rattle.semantics65.specs.Views.{location_of_ref};
 ghost use Rattle.sources65.specs.Machine.{StepsTo, State, initial_state};
-ghost use Rattle.sources65.specs.Reading.{IsLabel, IsLabelled, IsRest, known_at, AreDefined, Job, no_line};
+ghost use Rattle.sources65.specs.Reading.{AssemblesLabelTokens, AssemblesLabel, AssemblesTokens, environment_at, DefinesConstants, Job, no_line};
 ghost use Rattle.expand65.specs.Replay.{tokens_in};
-ghost use Rattle.asm65.specs.Internal.RunState.{HasHeadroom, RefinesRead, TakesAll, TakesBy, TakesOne, RepresentsSome, RunRepresents, IsReached, IsRunning, AsmStoreFrame, RefinesRun, TakesLineIf};
-ghost use Rattle.expand65.specs.Expansion.{opened_in};
-ghost use Rattle.semantics65.specs.Layout.{is_open};
-ghost use Rattle.asm65.specs.Internal.Stopping.{StopsAll};
+ghost use Rattle.asm65.specs.Internal.RunState.{HasHeadroom, RefinesRead, AssemblesStatements, RefinesAllTransitions, AssemblesStatement, RepresentsSome, RunRepresents, IsReached, IsRunning, AsmStoreFrame, RefinesRun, AssemblesOptionalLine};
+ghost use Rattle.expand65.specs.Expansion.{first_state_in};
+ghost use Rattle.semantics65.specs.Layout.{is_not_global};
+ghost use Rattle.asm65.specs.Internal.StoreFailures.{RunReportsFailure};
 
 use crate::assembler::{Assembler, Knowledge};
-use crate::files::read_part;
-use crate::statement::is_sound;
-use ast65::{AsmFault, Statement, instruction_front, label, operand, statement};
+use crate::files::read_incbin;
+use crate::statement::is_well_formed;
+use ast65::{AsmFault, Statement, label, operand, split_instruction, statement};
 use base65::Store;
 use expand65::{ExpandFault, Expander, Statement as Given, StoredLine};
 use semantics65::{GLOBAL_SCOPE, LocationRef};
@@ -42,19 +42,19 @@ fn not_understood(_statement: Statement) -> Result<(), AsmFault>
 /// Assembles a statement. Checks here that an object can store its names and text, since nothing is known of the lines of a
 /// store that doesn't tell its files.
 #[inline(always)]
-fn take_sound(
+fn assemble_well_formed(
     alloc: Global,
     assembler: &mut Assembler,
     at: LocationRef<'_>,
     statement: Statement,
 ) -> Result<(), AsmFault>
     requires { HasHeadroom 1 assembler.old }
-    ensures taken { TakesBy (IsWellFormedStatement statement) (λ t. StepsTo t
-        (place_at at.entry) statement)
+    ensures taken { RefinesAllTransitions (IsWellFormedStatement statement) (λ t. StepsTo t
+        (location_of_ref at.entry) statement)
         1 assembler.old assembler.new result }
     ensures inside { IfErr result (λ e. is_failure e ≡ false) }
 {
-    if is_sound(&statement) {
+    if is_well_formed(&statement) {
         assembler.assemble_statement(alloc, at, statement)
     } else {
         not_understood(statement)
@@ -71,44 +71,44 @@ pub fn assemble_rest<S: Store>(
 ) -> Result<(), AsmFault>
     requires { HasHeadroom 1 assembler.old }
     ensures read { RefinesRead (S.files store.old) (S.last_failure store.new) (AreSymbolNames (lexemes tokens.now))
-        (λ m t. IsRest m StepsTo t (place_at at.entry) (lexemes tokens.now))
+        (λ m t. AssemblesTokens m StepsTo t (location_of_ref at.entry) (lexemes tokens.now))
         1 assembler.old assembler.new result }
     ensures frame { AsmStoreFrame S.files S.failures store.old store.new result }
 {
     if tokens.is_empty() {
         return Ok(());
     }
-    if let Some((mnemonic, following)) = instruction_front(tokens) {
+    if let Some((mnemonic, following)) = split_instruction(tokens) {
         let operand = operand(alloc, following)?;
         return assembler.assemble_instruction(alloc, at, mnemonic, operand);
     }
     let mut statement = statement(alloc, tokens)?;
-    read_part(alloc, store, assembler, at, &mut statement)?;
-    take_sound(alloc, assembler, at, statement)
+    read_incbin(alloc, store, assembler, at, &mut statement)?;
+    assemble_well_formed(alloc, assembler, at, statement)
 }
 
 /// Assembles a label, if there is one.
-fn take_front(
+fn assemble_optional_label(
     alloc: Global,
     assembler: &mut Assembler,
     at: LocationRef<'_>,
     label: Option<Statement>,
 ) -> Result<(), AsmFault>
     requires { HasHeadroom 1 assembler.old }
-    ensures taken { TakesBy (IfSome label IsWellFormedStatement) (λ t. IsLabelled StepsTo t
-        (place_at at.entry) label)
+    ensures taken { RefinesAllTransitions (IfSome label IsWellFormedStatement) (λ t. AssemblesLabel StepsTo t
+        (location_of_ref at.entry) label)
         1 assembler.old assembler.new result }
     ensures inside { IfErr result (λ e. is_failure e ≡ false) }
 {
     match label {
-        Some(label) => take_sound(alloc, assembler, at, label),
+        Some(label) => assemble_well_formed(alloc, assembler, at, label),
         None => Ok(()),
     }
 }
 
 /// Assembles the tokens of a label.
 #[inline(never)]
-fn take_label<S: Store>(
+fn assemble_label<S: Store>(
     alloc: Global,
     store: &mut S,
     assembler: &mut Assembler,
@@ -117,12 +117,12 @@ fn take_label<S: Store>(
 ) -> Result<(), AsmFault>
     requires { HasHeadroom 2 assembler.old }
     ensures read { RefinesRead (S.files store.old) (S.last_failure store.new) (AreSymbolNames (lexemes tokens.now))
-        (λ m t. IsLabel m StepsTo t (place_at at.entry) (lexemes tokens.now))
+        (λ m t. AssemblesLabelTokens m StepsTo t (location_of_ref at.entry) (lexemes tokens.now))
         2 assembler.old assembler.new result }
     ensures frame { AsmStoreFrame S.files S.failures store.old store.new result }
 {
     let (label, rest) = label(alloc, tokens)?;
-    take_front(alloc, assembler, at, label)?;
+    assemble_optional_label(alloc, assembler, at, label)?;
     assemble_rest(alloc, store, assembler, at, rest)
 }
 
@@ -135,7 +135,7 @@ pub struct Parts<'a, 'b> {
 
 /// Assembles the rest of a line after its label, unless it is empty.
 #[inline(always)]
-fn take_after<S: Store>(
+fn assemble_nonempty_rest<S: Store>(
     alloc: Global,
     store: &mut S,
     assembler: &mut Assembler,
@@ -143,8 +143,8 @@ fn take_after<S: Store>(
     tokens: &[Token<'_>],
 ) -> Result<(), AsmFault>
     requires { HasHeadroom 1 assembler.old }
-    ensures taken { TakesAll (S.files store.old) (S.last_failure store.new)
-        (place_at at.entry) (given_after (lexemes tokens.now))
+    ensures taken { AssemblesStatements (S.files store.old) (S.last_failure store.new)
+        (location_of_ref at.entry) (rest_statements (lexemes tokens.now))
         assembler.old assembler.new result }
     ensures frame { AsmStoreFrame S.files S.failures store.old store.new result }
 {
@@ -164,21 +164,21 @@ pub fn assemble_parts<S: Store>(
     parts: Parts<'_, '_>,
 ) -> Result<(), AsmFault>
     requires { HasHeadroom 4 assembler.old }
-    ensures taken { TakesAll (S.files store.old) (S.last_failure store.new)
-        (place_at at.entry)
-        (given_parts (lexemes parts.entry.label.now) (lexemes parts.entry.rest.now))
+    ensures taken { AssemblesStatements (S.files store.old) (S.last_failure store.new)
+        (location_of_ref at.entry)
+        (line_statements (lexemes parts.entry.label.now) (lexemes parts.entry.rest.now))
         assembler.old assembler.new result }
     ensures frame { AsmStoreFrame S.files S.failures store.old store.new result }
 {
     if parts.label.is_empty() {
-        return take_after(alloc, store, assembler, at, parts.rest);
+        return assemble_nonempty_rest(alloc, store, assembler, at, parts.rest);
     }
-    take_label(alloc, store, assembler, at, parts.label)?;
-    take_after(alloc, store, assembler, at, parts.rest)
+    assemble_label(alloc, store, assembler, at, parts.label)?;
+    assemble_nonempty_rest(alloc, store, assembler, at, parts.rest)
 }
 
 /// Assembles a line without a label.
-fn take_line<S: Store>(
+fn assemble_unlabelled_line<S: Store>(
     alloc: Global,
     store: &mut S,
     assembler: &mut Assembler,
@@ -187,7 +187,7 @@ fn take_line<S: Store>(
 ) -> Result<(), AsmFault>
     requires { HasHeadroom 1 assembler.old }
     ensures read { RefinesRead (S.files store.old) (S.last_failure store.new) (AreSymbolNames (tokens_in line.now))
-        (λ m t. IsRest m StepsTo t (place_at at.entry) (tokens_in line.now))
+        (λ m t. AssemblesTokens m StepsTo t (location_of_ref at.entry) (tokens_in line.now))
         1 assembler.old assembler.new result }
     ensures frame { AsmStoreFrame S.files S.failures store.old store.new result }
 {
@@ -196,7 +196,7 @@ fn take_line<S: Store>(
         text: b"",
     };
     let mut few = [blank; FEW_TOKENS];
-    match line.put_in(&mut few) {
+    match line.store_tokens(&mut few) {
         Some(count) => assemble_rest(alloc, store, assembler, at, &few[..count]),
         None => {
             let tokens = line.tokens(alloc)?;
@@ -206,7 +206,7 @@ fn take_line<S: Store>(
 }
 
 /// Assembles a statement that expansion returned.
-pub fn take_given<S: Store>(
+pub fn assemble_expanded<S: Store>(
     alloc: Global,
     store: &mut S,
     assembler: &mut Assembler,
@@ -214,16 +214,16 @@ pub fn take_given<S: Store>(
     given: &Given,
 ) -> Result<(), AsmFault>
     requires { HasHeadroom 2 assembler.old }
-    ensures read { TakesOne (S.files store.old) (S.last_failure store.new) (place_at at.entry)
+    ensures read { AssemblesStatement (S.files store.old) (S.last_failure store.new) (location_of_ref at.entry)
         (statement_of given.now) assembler.old assembler.new result }
     ensures frame { AsmStoreFrame S.files S.failures store.old store.new result }
 {
     match given {
         Given::Label(line) => {
             let tokens = line.tokens(alloc)?;
-            take_label(alloc, store, assembler, at, &tokens)
+            assemble_label(alloc, store, assembler, at, &tokens)
         }
-        Given::Plain(line) => take_line(alloc, store, assembler, at, line),
+        Given::Plain(line) => assemble_unlabelled_line(alloc, store, assembler, at, line),
     }
 }
 
@@ -237,12 +237,12 @@ pub struct Run {
 }
 
 /// Returns the next statement, or none after the last line. Conditions are decided by the definitions so far.
-fn next<S: Store>(run: &mut Run, store: &mut S) -> Result<Option<Given>, ExpandFault>
+fn next_statement<S: Store>(run: &mut Run, store: &mut S) -> Result<Option<Given>, ExpandFault>
     requires { IsRunning run.old }
     ensures next { IfSome (S.files store.old) (λ m. (t : State) → RunRepresents t run.old →
-        FollowsFrom m (known_at t.symbols t.cursor) run.old.expander result run.new.expander) }
+        RefinesNextStatement m (environment_at t.symbols t.cursor) run.old.expander result run.new.expander) }
     ensures stopped { IfSome (S.files store.old) (λ m. (t : State) → RunRepresents t run.old →
-        StopsBetweenStatements m (S.last_failure store.new) (known_at t.symbols t.cursor)
+        HasFailureBetweenStatements m (S.last_failure store.new) (environment_at t.symbols t.cursor)
         run.old.expander result run.new.expander) }
     ensures placed { IfSome (S.files store.old) (λ m.
         IsPositioned m run.old.expander → OnOk result (IsPositioned m run.new.expander)) }
@@ -260,36 +260,40 @@ fn next<S: Store>(run: &mut Run, store: &mut S) -> Result<Option<Given>, ExpandF
 }
 
 /// Assembles a statement at its location.
-fn take_next<S: Store>(
+fn assemble_at_location<S: Store>(
     alloc: Global,
     store: &mut S,
     run: &mut Run,
     statement: &Given,
 ) -> Result<(), AsmFault>
     requires { HasHeadroom 2 run.old.assembler }
-    ensures read { TakesOne (S.files store.old) (S.last_failure store.new) (place_of run.old.expander)
+    ensures read { AssemblesStatement (S.files store.old) (S.last_failure store.new) (location_of run.old.expander)
         (statement_of statement.now) run.old.assembler run.new.assembler result }
     ensures same { run.new.expander ≡ run.old.expander }
     ensures frame { AsmStoreFrame S.files S.failures store.old store.new result }
 {
     let (file, line) = run.expander.place();
     let at = LocationRef { file, line };
-    take_given(alloc, store, &mut run.assembler, at, statement)
+    assemble_expanded(alloc, store, &mut run.assembler, at, statement)
 }
 
 /// Assembles the statements of the next line if it comes from a file and expansion doesn't change it.
-/// Returns whether it did.
+/// Returns whether it assembled them.
 #[inline(always)]
-fn take_at_hand<S: Store>(alloc: Global, store: &mut S, run: &mut Run) -> Result<bool, AsmFault>
+fn assemble_peeked_line<S: Store>(
+    alloc: Global,
+    store: &mut S,
+    run: &mut Run,
+) -> Result<bool, AsmFault>
     requires { IsRunning run.old }
-    ensures next { TakesLineIf (S.files store.old) (S.last_failure store.new) run.old run.new result }
+    ensures next { AssemblesOptionalLine (S.files store.old) (S.last_failure store.new) run.old run.new result }
     ensures frame { AsmStoreFrame S.files S.failures store.old store.new result }
 {
     let mut tokens = LineTokens::new();
     let Some(line) = run.expander.peek(&mut tokens) else {
         return Ok(false);
     };
-    let Some(len) = run.expander.label_of_given(tokens.as_slice()) else {
+    let Some(len) = run.expander.unexpanded_label_len(tokens.as_slice()) else {
         return Ok(false);
     };
     let (file, _) = run.expander.place();
@@ -301,14 +305,14 @@ fn take_at_hand<S: Store>(alloc: Global, store: &mut S, run: &mut Run) -> Result
     let parts = Parts { label, rest };
     let taken = assemble_parts(alloc, store, &mut run.assembler, at, parts);
     drop(tokens);
-    run.expander.take_peeked(line);
+    run.expander.consume_peeked(line);
     taken?;
     Ok(true)
 }
 
 /// Returns an error if a scope is open.
 fn check_closed(run: &Run) -> Result<(), AsmFault>
-    ensures { result ≡ (if is_open run.now.assembler.cursor.scope then Err BadScope else Ok tt) }
+    ensures { result ≡ (if is_not_global run.now.assembler.cursor.scope then Err BadScope else Ok tt) }
 {
     if run.assembler.cursor.scope() == GLOBAL_SCOPE {
         Ok(())
@@ -321,21 +325,21 @@ fn check_closed(run: &Run) -> Result<(), AsmFault>
 pub fn assemble_all<S: Store>(alloc: Global, store: &mut S, run: &mut Run) -> Result<(), AsmFault>
     requires { IsRunning run.old }
     ensures ran { IfSome (S.files store.old) (λ m. (job : Job) (t : State) →
-        RepresentsFirstState m (Ok run.old.expander) (opened_in m job.source job.include) →
-        AreDefined StepsTo initial_state (no_line job.source) job.defines (Ok t) →
+        RepresentsFirstState m (Ok run.old.expander) (first_state_in m job.source job.include) →
+        DefinesConstants StepsTo initial_state (no_line job.source) job.defines (Ok t) →
         RunRepresents t run.old → RefinesRun m job run.new result) }
     ensures stopped { IfSome (S.files store.old) (λ m.
-        StopsAll m (S.last_failure store.new) run.old run.new result) }
+        RunReportsFailure m (S.last_failure store.new) run.old run.new result) }
     ensures held { OnOk result ((t : State) × IsReached t × RepresentsSome t run.new.assembler) }
     ensures frame { AsmStoreFrame S.files S.failures store.old store.new result }
 {
     'statements: loop {
-        if take_at_hand(alloc, store, run)? {
+        if assemble_peeked_line(alloc, store, run)? {
             continue;
         }
-        let Some(statement) = next(run, store)? else {
+        let Some(statement) = next_statement(run, store)? else {
             return check_closed(run);
         };
-        take_next(alloc, store, run, &statement)?;
+        assemble_at_location(alloc, store, run, &statement)?;
     }
 }

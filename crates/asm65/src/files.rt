@@ -4,12 +4,12 @@ ghost use Rattle.std.specs.Prelude.{◌≡◌, ℕ, IfErr, IfOk, IfSome, OnOk, f
 ghost use Rattle.std.specs.FinMap as map;
 ghost use Rattle.std.specs.Option.{option_map};
 ghost use Rattle.base65.specs.Store.{FailedOn, FailedWithin, bytes_in};
-ghost use Rattle.expand65.specs.Expansion.{beside, file_named};
+ghost use Rattle.expand65.specs.Expansion.{sibling_path, file_named};
 ghost use Rattle.ast65.specs.declared.fault.AsmFault.TheVariants.{FileError};
-ghost use Rattle.ast65.specs.Faults.{is_failure, is_system_error, is_memory};
-ghost use Rattle.semantics65.specs.Views.{place_at};
+ghost use Rattle.ast65.specs.Faults.{is_failure, is_system_error, is_out_of_memory};
+ghost use Rattle.semantics65.specs.Views.{location_of_ref};
 ghost use Rattle.sources65.specs.Machine.{State};
-ghost use Rattle.asm65.specs.Internal.RunState.{IsRefusedUnread, AsmStoreFrame, read_bytes};
+ghost use Rattle.asm65.specs.Internal.RunState.{IsRejectedUnread, AsmStoreFrame, read_bytes};
 ghost use Rattle.asm65.specs.Internal.AssemblerState.{Represents, IsRepresentable};
 ghost use Rattle.base65.specs.Outcome.{Refines};
 ghost use Rattle.semantics65.specs.Layout.{unless_fault};
@@ -17,8 +17,8 @@ ghost use Rattle.symbols65.specs.Measuring.{unread_fault};
 
 use crate::assembler::Assembler;
 use ast65::{AsmFault, IncbinRange, Statement};
-use base65::{ListVec, Store, StoreFault, read_front};
-use expand65::name_beside;
+use base65::{ListVec, Store, StoreFault, read_prefix};
+use expand65::sibling_path;
 use semantics65::LocationRef;
 use std::alloc::Global;
 use std::mem::replace;
@@ -35,31 +35,31 @@ fn bytes_beside<S: Store>(
     name: &[u8],
 ) -> Result<Option<ListVec<u8>>, AsmFault>
     ensures read { IfSome (S.files store.old) (λ m. IfOk result (λ bytes.
-        bytes ≡ option_map (take 16777217) (file_named m (beside file.now name.now)))) }
+        bytes ≡ option_map (take 16777217) (file_named m (sibling_path file.now name.now)))) }
     ensures outside { IfErr result (λ e. is_system_error e ≡ true) }
     ensures failed { IfErr result (λ e. is_failure e ≡ true → e ≡ FileError) }
     ensures last_failure { IfErr result (λ e. is_failure e ≡ true →
-        FailedOn (S.last_failure store.new) (beside file.now name.now)) }
+        FailedOn (S.last_failure store.new) (sibling_path file.now name.now)) }
     ensures inside { IfErr result (λ e. is_failure e ≡ true → IfSome (S.files store.old)
-        (λ m. let path = beside file.now name.now in
+        (λ m. let path = sibling_path file.now name.now in
         FailedWithin (S.last_failure store.new) path 0 (length (bytes_in (map.get m path))))) }
     ensures frame { AsmStoreFrame S.files S.failures store.old store.new result }
 {
-    let Some(name) = name_beside(alloc, file, name)? else {
+    let Some(name) = sibling_path(alloc, file, name)? else {
         return Ok(None);
     };
-    match read_front(alloc, store, name.as_str(), MAX_FILE as usize + 1) {
+    match read_prefix(alloc, store, name.as_str(), MAX_FILE as usize + 1) {
         Ok(bytes) => Ok(Some(ListVec::from_vec(bytes))),
         Err(StoreFault::FileNotFound) => Ok(None),
         Err(fault) => Err(AsmFault::from(fault)),
     }
 }
 
-/// Returns the error that a part of a file has whatever the file contains.
+/// Checks the start and length of an `.incbin` as far as possible without its file.
 #[inline(never)]
 fn check_range(alloc: Global, assembler: &Assembler, range: IncbinRange<'_>) -> Result<(), AsmFault>
     ensures checked { (count : ℕ) (t : State) → Represents count t assembler.now →
-        Refines is_memory (λ u. u) result (unless_fault (unread_fault t.symbols t.cursor
+        Refines is_out_of_memory (λ u. u) result (unless_fault (unread_fault t.symbols t.cursor
         range.entry.start.now range.entry.len.now) tt) }
     ensures inside { IfErr result (λ e. is_failure e ≡ false) }
 {
@@ -70,8 +70,8 @@ fn check_range(alloc: Global, assembler: &Assembler, range: IncbinRange<'_>) -> 
     check_unread(alloc, before, range)
 }
 
-/// Reads the bytes of an `.incbin` into its statement. The file is read only if the statement has no error whatever the file
-/// contains.
+/// Reads the bytes of an `.incbin` into its statement. The file is read only if the statement has no error that is
+/// independent of the file.
 #[inline(never)]
 fn with_bytes<S: Store>(
     alloc: Global,
@@ -82,11 +82,11 @@ fn with_bytes<S: Store>(
 ) -> Result<Statement, AsmFault>
     requires { IsRepresentable assembler.old }
     ensures bytes { IfSome (S.files store.old) (λ m. IfOk result (λ x. x ≡ read_bytes m
-        (place_at at.entry) statement)) }
+        (location_of_ref at.entry) statement)) }
     ensures held { (count : ℕ) (t : State) → Represents count t assembler.old →
         OnOk result (Represents count t assembler.new) }
     ensures refused { (count : ℕ) (t : State) → Represents count t assembler.old → IfErr result
-        (IsRefusedUnread (S.files store.old) (S.last_failure store.new) t (place_at at.entry)
+        (IsRejectedUnread (S.files store.old) (S.last_failure store.new) t (location_of_ref at.entry)
         statement) }
     ensures texts { assembler.new.texts ≡ assembler.old.texts }
     ensures failed { IfErr result (λ e. is_failure e ≡ true → e ≡ FileError) }
@@ -108,7 +108,7 @@ fn with_bytes<S: Store>(
 
 /// Reads the bytes of a statement if it is an `.incbin`. Other statements aren't moved.
 #[inline(always)]
-pub fn read_part<S: Store>(
+pub fn read_incbin<S: Store>(
     alloc: Global,
     store: &mut S,
     assembler: &mut Assembler,
@@ -117,11 +117,11 @@ pub fn read_part<S: Store>(
 ) -> Result<(), AsmFault>
     requires { IsRepresentable assembler.old }
     ensures bytes { IfSome (S.files store.old) (λ m. OnOk result (statement.new ≡
-        read_bytes m (place_at at.entry) statement.old)) }
+        read_bytes m (location_of_ref at.entry) statement.old)) }
     ensures held { (count : ℕ) (t : State) → Represents count t assembler.old →
         OnOk result (Represents count t assembler.new) }
     ensures refused { (count : ℕ) (t : State) → Represents count t assembler.old → IfErr result
-        (IsRefusedUnread (S.files store.old) (S.last_failure store.new) t (place_at at.entry)
+        (IsRejectedUnread (S.files store.old) (S.last_failure store.new) t (location_of_ref at.entry)
         statement.old) }
     ensures texts { assembler.new.texts ≡ assembler.old.texts }
     ensures failed { IfErr result (λ e. is_failure e ≡ true → e ≡ FileError) }

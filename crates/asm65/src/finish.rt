@@ -4,15 +4,15 @@ ghost use Rattle.std.specs.Prelude.{◌≡◌, ◌++◌, ◌∷◌, [], List, �
 ghost use Rattle.object65.specs.Objects.{is_well_formed_object, ObjectFits};
 ghost use Rattle.semantics65.specs.Contents.{Content};
 ghost use Rattle.ast65.specs.Faults.{is_system_error};
-ghost use Rattle.semantics65.specs.Numbering.{all_said, AreSound};
+ghost use Rattle.semantics65.specs.Numbering.{all_declarations, AreWellFormedContents};
 ghost use Rattle.sources65.specs.Machine.{State, outcome_of_state, resolution_of_state};
 ghost use Rattle.semantics65.specs.Module.{Outcome, Slot, deferred};
 ghost use Rattle.emit65.specs.SectionContents.{RepresentsSlots, contents_so_far, fixup_of, names_of, slot_of};
 ghost use Rattle.symbols65.specs.Views.{table_of};
-ghost use Rattle.asm65.specs.Assembly.{RefinesOutcome, has_failed, in_places, is_from_outside};
+ghost use Rattle.asm65.specs.Assembly.{RefinesOutcome, is_store_failure, located_result, is_system_error_result};
 ghost use Rattle.asm65.specs.Internal.AssemblerState.{Represents};
-ghost use Rattle.asm65.specs.Internal.RunState.{AreFed, ComesTo, files_here, IsFoundBy, leaving, made_at, CanReplace, SaysAs, ResolvesSlot, SettlesAll, StandsAt, StandsWhere};
-ghost use Rattle.semantics65.specs.Views.{place_at};
+ghost use Rattle.asm65.specs.Internal.RunState.{AreInitialEntries, RefinesObject, fixup_files, IsResolveState, result_with, result_of_piece, CanReplace, HasSameOutput, ResolvesSlot, ResolvesSlots, PieceHasLocation, HasLocation};
+ghost use Rattle.semantics65.specs.Views.{location_of_ref};
 
 use crate::assembler::Assembler;
 use crate::assembling::Assembly;
@@ -51,17 +51,22 @@ pub struct FinalTables<'a> {
 /// nothing becomes a reserve of no bytes.
 fn apply_resolved(
     err: &mut ListVec<u8>,
-    spot: FixupLocation<'_>,
+    fixup_location: FixupLocation<'_>,
     made: ResolvedPiece,
 ) -> Result<SectionEntry, AllocError>
-    requires { StandsAt spot.pos made }
-    ensures entry { IfOk result (CanReplace (files_here spot.entry) (made_at spot.entry made).content) }
-    ensures standing { IfOk result (StandsWhere spot.entry.pos) }
-    ensures err { OnOk result (err.new ≡ err.old ++ (made_at spot.entry made).warning) }
+    requires { PieceHasLocation fixup_location.pos made }
+    ensures entry { IfOk result (CanReplace (fixup_files fixup_location.entry) (result_of_piece fixup_location.entry made).content) }
+    ensures standing { IfOk result (HasLocation fixup_location.entry.pos) }
+    ensures err { OnOk result (err.new ≡ err.old ++ (result_of_piece fixup_location.entry made).warning) }
 {
     let ResolvedPiece { entry, warning } = made;
     if let Some(text) = warning {
-        warn(err, spot.file(), spot.pos.line, text.as_slice())?;
+        warn(
+            err,
+            fixup_location.file(),
+            fixup_location.pos.line,
+            text.as_slice(),
+        )?;
     }
     match entry {
         Some(entry) => Ok(entry),
@@ -73,40 +78,40 @@ fn apply_resolved(
 }
 
 /// Resolves a fixup to its content, or to its error.
-fn settle_fixup(
+fn resolve_fixup(
     alloc: Global,
-    whole: FinalTables<'_>,
-    ending: &mut ResolveState,
+    tables: FinalTables<'_>,
+    resolve_state: &mut ResolveState,
     fixup: Fixup,
 ) -> Result<SectionEntry, Diagnostic>
-    requires { IsFoundBy (table_of whole.symbols.now) ending.old }
-    ensures settled { let files = map string_bytes whole.entry.files.now in
+    requires { IsResolveState (table_of tables.symbols.now) resolve_state.old }
+    ensures resolved { let files = map string_bytes tables.entry.files.now in
         nat_lt fixup.pos.file (length files) ≡ true →
-        ResolvesSlot (table_of whole.entry.symbols.now) files (deferred (fixup_of files fixup))
-        ending.old ending.new result }
-    ensures found { OnOk result (IsFoundBy (table_of whole.entry.symbols.now) ending.new) }
-    ensures inside { IfErr result (λ e. has_failed e ≡ false) }
+        ResolvesSlot (table_of tables.entry.symbols.now) files (deferred (fixup_of files fixup))
+        resolve_state.old resolve_state.new result }
+    ensures found { OnOk result (IsResolveState (table_of tables.entry.symbols.now) resolve_state.new) }
+    ensures inside { IfErr result (λ e. is_store_failure e ≡ false) }
 {
-    let spot = FixupLocation {
-        files: whole.files,
+    let fixup_location = FixupLocation {
+        files: tables.files,
         pos: fixup.pos,
     };
     match resolve(
         alloc,
-        whole.symbols,
-        &mut ending.known,
-        &mut ending.exported,
-        spot,
+        tables.symbols,
+        &mut resolve_state.known,
+        &mut resolve_state.exported,
+        fixup_location,
         fixup,
     ) {
-        Ok(made) => match apply_resolved(&mut ending.err, spot, made) {
+        Ok(made) => match apply_resolved(&mut resolve_state.err, fixup_location, made) {
             Ok(entry) => Ok(entry),
             Err(_) => Err(Diagnostic::without_memory()),
         },
         Err(fault) => {
             let at = LocationRef {
-                file: spot.file(),
-                line: spot.pos.line,
+                file: fixup_location.file(),
+                line: fixup_location.pos.line,
             };
             Err(Diagnostic::of_fault(alloc, at, fault))
         }
@@ -114,19 +119,19 @@ fn settle_fixup(
 }
 
 /// Resolves an entry in place if it is pending, or returns its error.
-fn settle(
+fn resolve_entry(
     alloc: Global,
-    whole: FinalTables<'_>,
-    ending: &mut ResolveState,
+    tables: FinalTables<'_>,
+    resolve_state: &mut ResolveState,
     entry: &mut SectionEntry,
 ) -> Result<(), Diagnostic>
-    requires { IsFoundBy (table_of whole.symbols.now) ending.old }
-    ensures settled { let files = map string_bytes whole.entry.files.now in
-        AreFed files (entry.old ∷ []) →
-        ResolvesSlot (table_of whole.entry.symbols.now) files (slot_of files entry.old)
-        ending.old ending.new (leaving entry.new result) }
-    ensures found { OnOk result (IsFoundBy (table_of whole.entry.symbols.now) ending.new) }
-    ensures inside { IfErr result (λ e. has_failed e ≡ false) }
+    requires { IsResolveState (table_of tables.symbols.now) resolve_state.old }
+    ensures resolved { let files = map string_bytes tables.entry.files.now in
+        AreInitialEntries files (entry.old ∷ []) →
+        ResolvesSlot (table_of tables.entry.symbols.now) files (slot_of files entry.old)
+        resolve_state.old resolve_state.new (result_with entry.new result) }
+    ensures found { OnOk result (IsResolveState (table_of tables.entry.symbols.now) resolve_state.new) }
+    ensures inside { IfErr result (λ e. is_store_failure e ≡ false) }
 {
     let SectionEntry::FixupEntry(_) = entry else {
         return Ok(());
@@ -138,26 +143,26 @@ fn settle(
     let SectionEntry::FixupEntry(fixup) = mem::replace(entry, nothing) else {
         return Ok(());
     };
-    *entry = settle_fixup(alloc, whole, ending, Box::into_inner(fixup))?;
+    *entry = resolve_fixup(alloc, tables, resolve_state, Box::into_inner(fixup))?;
     Ok(())
 }
 
 /// Resolves all entries, in source order, up to the first error.
-fn settle_all(
+fn resolve_entries(
     alloc: Global,
-    whole: FinalTables<'_>,
-    ending: &mut ResolveState,
+    tables: FinalTables<'_>,
+    resolve_state: &mut ResolveState,
     entries: &mut Vec<SectionEntry>,
 ) -> Result<(), Diagnostic>
-    requires { IsFoundBy (table_of whole.symbols.now) ending.old }
-    ensures settled { let files = map string_bytes whole.entry.files.now in
-        AreFed files entries.old.items →
-        SettlesAll (table_of whole.entry.symbols.now) files (map (slot_of files) entries.old.items)
-        ending.old ending.new (leaving entries.new.items result) }
-    ensures inside { IfErr result (λ e. has_failed e ≡ false) }
+    requires { IsResolveState (table_of tables.symbols.now) resolve_state.old }
+    ensures resolved { let files = map string_bytes tables.entry.files.now in
+        AreInitialEntries files entries.old.items →
+        ResolvesSlots (table_of tables.entry.symbols.now) files (map (slot_of files) entries.old.items)
+        resolve_state.old resolve_state.new (result_with entries.new.items result) }
+    ensures inside { IfErr result (λ e. is_store_failure e ≡ false) }
 {
     for entry in entries.iter_mut() {
-        settle(alloc, whole, ending, entry)?;
+        resolve_entry(alloc, tables, resolve_state, entry)?;
     }
     Ok(())
 }
@@ -168,31 +173,31 @@ fn object_of(
     alloc: Global,
     symbols: &Symbols,
     segments: &[Segment],
-    ending: &mut ResolveState,
+    resolve_state: &mut ResolveState,
     sections: Sections,
 ) -> Result<Object, Diagnostic>
-    requires found { IsFoundBy (table_of symbols.now) ending.old }
-    requires none { names_of ending.old.exported ≡ [] }
-    ensures found { (xs : List Slot) → RepresentsSlots xs sections → all_said (contents_so_far xs) ≡ [] →
-        ComesTo (table_of symbols.now) segments.now xs ending.old.err ending.new.err result }
+    requires found { IsResolveState (table_of symbols.now) resolve_state.old }
+    requires none { names_of resolve_state.old.exported ≡ [] }
+    ensures found { (xs : List Slot) → RepresentsSlots xs sections → all_declarations (contents_so_far xs) ≡ [] →
+        RefinesObject (table_of symbols.now) segments.now xs resolve_state.old.err resolve_state.new.err result }
     ensures numbers { IfOk result ObjectFits }
-    ensures inside { IfErr result (λ e. has_failed e ≡ false) }
+    ensures inside { IfErr result (λ e. is_store_failure e ≡ false) }
 {
     let Ok(closed) = sections.close() else {
         return Err(Diagnostic::without_memory());
     };
     let ClosedSections {
-        asked,
+        requested,
         files,
         mut entries,
     } = closed;
-    let whole = FinalTables {
+    let tables = FinalTables {
         symbols,
         files: files.table.as_slice(),
     };
-    settle_all(alloc, whole, ending, &mut entries)?;
+    resolve_entries(alloc, tables, resolve_state, &mut entries)?;
     let closed = ClosedSections {
-        asked,
+        requested,
         files,
         entries,
     };
@@ -203,8 +208,8 @@ fn object_of(
 }
 
 /// Returns whether memory ran out, or the store failed.
-fn is_from_outside(answer: &Result<Object, Diagnostic>) -> bool
-    ensures { result ≡ is_from_outside answer.now }
+fn is_system_error_result(answer: &Result<Object, Diagnostic>) -> bool
+    ensures { result ≡ is_system_error_result answer.now }
 {
     match answer {
         Ok(_) => false,
@@ -214,14 +219,14 @@ fn is_from_outside(answer: &Result<Object, Diagnostic>) -> bool
 
 /// Returns an object or error with the printed texts; without texts if memory ran out or the store
 /// failed.
-fn answered(alloc: Global, answer: Result<Object, Diagnostic>, texts: ConsoleOutput) -> Assembly
+fn assembly_of(alloc: Global, answer: Result<Object, Diagnostic>, texts: ConsoleOutput) -> Assembly
     ensures answer { result.result ≡ answer }
-    ensures concluded { (o : Outcome) → (is_from_outside answer ≡ false →
-        record { result = in_places answer; out = texts.out; err = texts.err } ≡ o) →
+    ensures concluded { (o : Outcome) → (is_system_error_result answer ≡ false →
+        record { result = located_result answer; out = texts.out; err = texts.err } ≡ o) →
         RefinesOutcome o result }
-    ensures silent { is_from_outside result.result ≡ true → (result.out ≡ []) × (result.err ≡ []) }
+    ensures silent { is_system_error_result result.result ≡ true → (result.out ≡ []) × (result.err ≡ []) }
 {
-    if is_from_outside(&answer) {
+    if is_system_error_result(&answer) {
         return Assembly {
             result: answer,
             out: ListVec::new(alloc),
@@ -241,10 +246,10 @@ pub fn finish_assembly(alloc: Global, assembler: Assembler) -> Assembly
         RefinesOutcome (outcome_of_state t None) result }
     ensures good { IfOk result.result (λ o. (count : ℕ) (t : State) → Represents count t assembler →
         ((cs : List Content) → (resolution_of_state t).found ≡ Ok cs →
-        AreSound t.cursor.segments t.symbols.imports cs) → is_well_formed_object o ≡ true) }
+        AreWellFormedContents t.cursor.segments t.symbols.imports cs) → is_well_formed_object o ≡ true) }
     ensures numbers { IfOk result.result ObjectFits }
-    ensures inside { IfErr result.result (λ e. has_failed e ≡ false) }
-    ensures silent { is_from_outside result.result ≡ true →
+    ensures inside { IfErr result.result (λ e. is_store_failure e ≡ false) }
+    ensures silent { is_system_error_result result.result ≡ true →
         (result.out ≡ []) × (result.err ≡ []) }
 {
     let Assembler {
@@ -254,14 +259,20 @@ pub fn finish_assembly(alloc: Global, assembler: Assembler) -> Assembly
         texts,
     } = assembler;
     let ConsoleOutput { out, err } = texts;
-    let mut ending = ResolveState {
+    let mut resolve_state = ResolveState {
         known: empty_cache(alloc, &symbols),
         exported: IndexSet::with_hasher(alloc, *symbols.imports.hasher()),
         err,
     };
-    let found = object_of(alloc, &symbols, cursor.segments(), &mut ending, sections);
-    let ResolveState { err, .. } = ending;
-    answered(alloc, found, ConsoleOutput { out, err })
+    let found = object_of(
+        alloc,
+        &symbols,
+        cursor.segments(),
+        &mut resolve_state,
+        sections,
+    );
+    let ResolveState { err, .. } = resolve_state;
+    assembly_of(alloc, found, ConsoleOutput { out, err })
 }
 
 /// Returns the result of an assembly that ends with an error at a line.
@@ -271,18 +282,18 @@ pub fn fail_at_line(
     at: LocationRef<'_>,
     fault: AsmFault,
 ) -> Assembly
-    ensures refused { is_system_error fault ≡ false → (t : State) → SaysAs t assembler →
+    ensures refused { is_system_error fault ≡ false → (t : State) → HasSameOutput t assembler →
         RefinesOutcome (outcome_of_state t (Some (record {
-          place = place_at at.entry;
+          place = location_of_ref at.entry;
           fault = fault;
         }))) result }
     ensures none { IfOk result.result (λ o. ⊥) }
     ensures inside { is_system_error fault ≡ false →
-        IfErr result.result (λ e. has_failed e ≡ false) }
-    ensures silent { is_from_outside result.result ≡ true →
+        IfErr result.result (λ e. is_store_failure e ≡ false) }
+    ensures silent { is_system_error_result result.result ≡ true →
         (result.out ≡ []) × (result.err ≡ []) }
 {
-    answered(
+    assembly_of(
         alloc,
         Err(Diagnostic::of_fault(alloc, at, fault)),
         assembler.texts,

@@ -2,17 +2,17 @@
 
 ghost use Rattle.std.specs.Prelude.{◌≡◌, None, OnOk, length, IfOk, IfSome, map, ◌∷◌, [], Some, ◌++◌, false, true};
 ghost use Rattle.semantics65.specs.Symbols.{definition_index, Key as DefinedKey, named};
-ghost use Rattle.symbols65.specs.Tables.{KeepsFinal, definition_seen, key_of};
+ghost use Rattle.symbols65.specs.Tables.{StoresFinalForm, definition_view, key_of};
 ghost use Rattle.symbols65.specs.Views.{table_of, with_definition, with_names, with_scope};
 ghost use Rattle.std.specs.Option.{option_map};
 ghost use Rattle.semantics65.specs.Layout.{opened_twice};
-ghost use Rattle.asm65.specs.Internal.AssemblerState.{EmitsPieces, KeepsPut, IsNew, is_put, laid_as, KeepsTables, name_use_piece, is_for_zero_page, label_at, DefersMentions, EmitsThenDefines};
+ghost use Rattle.asm65.specs.Internal.AssemblerState.{EmitsPieces, ChangesOnlySymbols, IsNew, has_content, statement_with_layout, ChangesOnlySections, name_use_piece, is_for_zero_page, label_definition, DefersMentions, EmitsThenDefines};
 ghost use Rattle.symbols65.specs.Evaluations.{HasFinal, first_tree};
 ghost use Rattle.symbols65.specs.Resolving.{IsBlocked};
 ghost use Rattle.emit65.specs.SectionContents.{piece_of};
 ghost use Rattle.sources65.specs.Machine.{symbols_after};
-ghost use Rattle.semantics65.specs.Views.{place_at};
-ghost use Rattle.semantics65.specs.Module.{equated, valued, demanded, imported, pieces_of};
+ghost use Rattle.semantics65.specs.Views.{location_of_ref};
+ghost use Rattle.semantics65.specs.Module.{constant_definition, expression_value, forced_import, imported, pieces_of};
 ghost use Rattle.syntax65.specs.declared.source_location.SourceLocation.{SourceLocation};
 
 use crate::assembler::Assembler;
@@ -34,11 +34,11 @@ pub enum NameUse {
     Imported,
     /// Imported even if nothing uses it.
     ForcedImport,
-    /// Exported if it is defined; it is an error if it `must` be and isn't.
+    /// Exported if it is defined. If it isn't: an error if `must`, else nothing.
     Exported { must: bool },
 }
 
-/// Returns the piece of a name that is deferred.
+/// Returns the fixup for a name that a directive mentions.
 fn piece_of(alloc: Global, mention: NameUse, name: &[u8]) -> Result<FixupKind, AllocError>
     ensures { IfOk result (λ p. piece_of p ≡ name_use_piece mention name.now) }
 {
@@ -69,13 +69,13 @@ impl Assembler {
         definition: Definition,
     ) -> Result<(), AllocError>
         requires new { definition_index (table_of self.old.symbols) (key_of key) ≡ None }
-        requires form { KeepsFinal (table_of self.old.symbols)
+        requires form { StoresFinalForm (table_of self.old.symbols)
             (length (table_of self.old.symbols).definitions)
-            (definition_seen (key_of key) definition) definition }
+            (definition_view (key_of key) definition) definition }
         ensures table { OnOk result (table_of self.new.symbols ≡
             with_definition (table_of self.old.symbols)
-            (definition_seen (key_of key.entry) definition)) }
-        ensures keeps { KeepsPut self.old self.new }
+            (definition_view (key_of key.entry) definition)) }
+        ensures keeps { ChangesOnlySymbols self.old self.new }
     {
         define(alloc, &mut self.symbols, key, definition)
     }
@@ -96,7 +96,7 @@ impl Assembler {
               name = option_map (λ n. n.now) name.entry;
               is_proc = is_proc;
             })) }
-        ensures keeps { KeepsPut self.old self.new }
+        ensures keeps { ChangesOnlySymbols self.old self.new }
     {
         self.symbols
             .open_scope(alloc, within as usize, name, is_proc)
@@ -111,14 +111,14 @@ impl Assembler {
     ) -> Result<(), AllocError>
         ensures table { OnOk result (table_of self.new.symbols ≡
             with_names (table_of self.old.symbols) is_zero_page names.now) }
-        ensures keeps { KeepsPut self.old self.new }
+        ensures keeps { ChangesOnlySymbols self.old self.new }
     {
         self.symbols.import(alloc, names, is_zero_page)
     }
 
     /// Defers the names of a directive, in order.
     #[inline(never)]
-    pub fn mention(
+    pub fn defer_names(
         &mut self,
         alloc: Global,
         site: PieceContext<'_>,
@@ -126,9 +126,9 @@ impl Assembler {
         names: &[ListVec<u8>],
     ) -> Result<(), AllocError>
         ensures mentioned { OnOk result (DefersMentions
-            (place_at site.entry.at) site.entry.context
+            (location_of_ref site.entry.at) site.entry.context
             (map (name_use_piece mention) names.now) self.old self.new) }
-        ensures tables { KeepsTables self.old self.new }
+        ensures tables { ChangesOnlySections self.old self.new }
     {
         for name in names {
             let piece = piece_of(alloc, mention, name.as_slice())?;
@@ -138,7 +138,7 @@ impl Assembler {
     }
 
     /// Defers a constant whose form isn't final: its expression may have an error.
-    fn enter_constant(
+    fn defer_constant(
         &mut self,
         alloc: Global,
         site: PieceContext<'_>,
@@ -146,9 +146,9 @@ impl Assembler {
         form: &Option<Norm>,
     ) -> Result<(), AllocError>
         requires { HasFinal (table_of self.old.symbols) site.context (Some value.now) form.now }
-        ensures entered { OnOk result (EmitsPieces (place_at site.entry.at)
-            site.entry.context (valued equated value.now ∷ []) self.old self.new) }
-        ensures tables { KeepsTables self.old self.new }
+        ensures entered { OnOk result (EmitsPieces (location_of_ref site.entry.at)
+            site.entry.context (expression_value constant_definition value.now ∷ []) self.old self.new) }
+        ensures tables { ChangesOnlySections self.old self.new }
     {
         if form.is_some() {
             return Ok(());
@@ -170,8 +170,8 @@ impl Assembler {
     ) -> Result<(), AllocError>
         requires new { definition_index (table_of self.old.symbols) (named site.context.scope name.now) ≡ None }
         requires form { HasFinal (table_of self.old.symbols) site.context (Some value) form }
-        ensures { OnOk result (EmitsThenDefines (place_at site.entry.at)
-            site.entry.context (valued equated value ∷ [])
+        ensures { OnOk result (EmitsThenDefines (location_of_ref site.entry.at)
+            site.entry.context (expression_value constant_definition value ∷ [])
             (λ y. with_definition y (record {
               key = named site.entry.context.scope name.now;
               value = Some value;
@@ -181,7 +181,7 @@ impl Assembler {
             self.old self.new) }
     {
         let context = site.context;
-        self.enter_constant(alloc, site, &value, &form)?;
+        self.defer_constant(alloc, site, &value, &form)?;
         let scope = context.scope as usize;
         let blocker = blocker(&self.symbols, context, &value, &form);
         let definition = Definition {
@@ -203,7 +203,7 @@ fn is_for_zero_page(size: AddressSize) -> bool
 
 /// Returns the definition of a label: its address.
 fn label(context: Context, size: AddressSize) -> Definition
-    ensures seen { (k : DefinedKey) → definition_seen k result ≡ label_at k context size }
+    ensures seen { (k : DefinedKey) → definition_view k result ≡ label_definition k context size }
     ensures form { result.form ≡ None }
     ensures blocker { result.blocker ≡ None }
 {
@@ -228,7 +228,7 @@ impl Assembler {
     ) -> Result<(), AllocError>
         requires new { definition_index (table_of self.old.symbols) (key_of key) ≡ None }
         ensures { OnOk result ((location : SourceLocation) → EmitsThenDefines location context []
-            (λ y. with_definition y (label_at (key_of key.entry) context size))
+            (λ y. with_definition y (label_definition (key_of key.entry) context size))
             self.old self.new) }
     {
         self.define(alloc, key, label(context, size))
@@ -269,7 +269,7 @@ impl Assembler {
             (Some name.now) ≡ None }
         ensures { OnOk result ((location : SourceLocation) → EmitsThenDefines location context []
             (λ y. with_scope
-            (with_definition y (label_at (named context.scope name.now) context size))
+            (with_definition y (label_definition (named context.scope name.now) context size))
             (record { within = context.scope; name = Some name.now; is_proc = true }))
             self.old self.new) }
     {
@@ -289,11 +289,11 @@ impl Assembler {
         names: &[ListVec<u8>],
     ) -> Result<(), AllocError>
         ensures { OnOk result (EmitsThenDefines
-            (place_at site.entry.at) site.entry.context
+            (location_of_ref site.entry.at) site.entry.context
             (map (name_use_piece mention) names.now)
             (λ y. with_names y (is_for_zero_page size) names.now) self.old self.new) }
     {
-        self.mention(alloc, site, mention, names)?;
+        self.defer_names(alloc, site, mention, names)?;
         self.import(alloc, names, is_for_zero_page(size))
     }
 
@@ -306,18 +306,18 @@ impl Assembler {
         names: &[ListVec<u8>],
     ) -> Result<(), AllocError>
         ensures { OnOk result (EmitsThenDefines
-            (place_at site.entry.at) site.entry.context
-            (map imported names.now ++ map demanded names.now)
+            (location_of_ref site.entry.at) site.entry.context
+            (map imported names.now ++ map forced_import names.now)
             (λ y. with_names y false names.now) self.old self.new) }
     {
-        self.mention(alloc, site, NameUse::Imported, names)?;
-        self.mention(alloc, site, NameUse::ForcedImport, names)?;
+        self.defer_names(alloc, site, NameUse::Imported, names)?;
+        self.defer_names(alloc, site, NameUse::ForcedImport, names)?;
         self.import(alloc, names, false)
     }
 
     /// Defines the names of a statement that emits nothing, and defers the names that it mentions.
     #[inline(always)]
-    pub fn enter_names(
+    pub fn define_names(
         &mut self,
         alloc: Global,
         site: PieceContext<'_>,
@@ -326,13 +326,13 @@ impl Assembler {
         form: Option<Norm>,
     ) -> Result<(), AllocError>
         requires new { IsNew (table_of self.old.symbols) site.context statement }
-        requires named { is_put statement ≡ false }
+        requires named { has_content statement ≡ false }
         requires form { HasFinal (table_of self.old.symbols) site.context
             (first_tree statement) form }
-        ensures { OnOk result (let location = place_at site.entry.at in
+        ensures { OnOk result (let location = location_of_ref site.entry.at in
             let s = site.entry.context in let m = measured in
-            EmitsThenDefines location s (pieces_of m.length m.settled statement)
-            (λ y. symbols_after y (laid_as location s m statement))
+            EmitsThenDefines location s (pieces_of m.length m.encoding statement)
+            (λ y. symbols_after y (statement_with_layout location s m statement))
             self.old self.new) }
     {
         let context = site.context;
@@ -369,7 +369,7 @@ impl Assembler {
             Statement::ForceImport(names) => self.force_import_names(alloc, site, names.as_slice()),
             Statement::Export(names) => {
                 let mention = NameUse::Exported { must: true };
-                self.mention(alloc, site, mention, names.as_slice())
+                self.defer_names(alloc, site, mention, names.as_slice())
             }
             // A part of a file has its file's bytes before it is taken, and other statements enter nothing.
             _ => Ok(()),

@@ -5,14 +5,14 @@ ghost use Rattle.std.specs.List.{list_any};
 ghost use Rattle.std.specs.Str.{bytes_eq};
 ghost use Rattle.semantics65.specs.Contents.{exported_names, declaration_content};
 ghost use Rattle.base65.specs.Outcome.{Refines};
-ghost use Rattle.ast65.specs.Faults.{is_memory};
-ghost use Rattle.semantics65.specs.declared.laid.Context.{Context as Site};
+ghost use Rattle.ast65.specs.Faults.{is_out_of_memory};
+ghost use Rattle.semantics65.specs.declared.contexts.Context.{Context as Site};
 ghost use Rattle.semantics65.specs.Symbols.{definition_index, named};
-ghost use Rattle.semantics65.specs.Views.{said_at};
-ghost use Rattle.semantics65.specs.Module.{asserted, piece_result, datum, quietly, value_result};
-ghost use Rattle.symbols65.specs.Tables.{IsTable};
+ghost use Rattle.semantics65.specs.Views.{declaration_at};
+ghost use Rattle.semantics65.specs.Module.{asserted, piece_result, datum, without_warning, value_result};
+ghost use Rattle.symbols65.specs.Tables.{IsFormCache};
 ghost use Rattle.symbols65.specs.Views.{table_of};
-ghost use Rattle.asm65.specs.Internal.RunState.{entry_at, HasDefined, made_at, declaration_result, place_here, StandsAt};
+ghost use Rattle.asm65.specs.Internal.RunState.{entry_content, AreDefinedNames, result_of_piece, declaration_result, location_of_fixup, PieceHasLocation};
 ghost use Rattle.asm65.specs.declared.resolving.FixupLocation.{FixupLocation};
 ghost use Rattle.emit65.specs.SectionContents.{names_of, piece_of};
 ghost use Rattle.emit65.specs.declared.fixups.FixupKind.TheVariants.{Export};
@@ -50,7 +50,7 @@ pub struct FixupLocation<'a> {
 impl<'a> FixupLocation<'a> {
     /// Returns the name of the file; it is empty if there is none.
     pub fn file(self) -> &'a str
-        ensures { result.now ≡ (place_here self.entry).file }
+        ensures { result.now ≡ (location_of_fixup self.entry).file }
     {
         match self.files.get(self.pos.file as usize) {
             Some(file) => file.as_str(),
@@ -60,8 +60,8 @@ impl<'a> FixupLocation<'a> {
 }
 
 /// Returns the result of a piece that emits nothing.
-fn nothing() -> ResolvedPiece
-    ensures made { (spot : FixupLocation) → made_at spot result ≡ quietly (declaration_content []) }
+fn empty_piece() -> ResolvedPiece
+    ensures made { (fixup_location : FixupLocation) → result_of_piece fixup_location result ≡ without_warning (declaration_content []) }
     ensures entry { result.entry ≡ None }
 {
     ResolvedPiece {
@@ -72,7 +72,7 @@ fn nothing() -> ResolvedPiece
 
 /// Returns the result of a piece that has one entry.
 fn one(entry: SectionEntry) -> ResolvedPiece
-    ensures made { (spot : FixupLocation) → made_at spot result ≡ quietly (entry_at spot entry) }
+    ensures made { (fixup_location : FixupLocation) → result_of_piece fixup_location result ≡ without_warning (entry_content fixup_location entry) }
     ensures entry { result.entry ≡ Some entry }
 {
     ResolvedPiece {
@@ -82,48 +82,48 @@ fn one(entry: SectionEntry) -> ResolvedPiece
 }
 
 /// Returns one declaration, with its location.
-fn told(
+fn declaration_piece(
     alloc: Global,
-    spot: FixupLocation<'_>,
+    fixup_location: FixupLocation<'_>,
     declaration: Declaration,
 ) -> Result<ResolvedPiece, AllocError>
-    ensures made { IfOk result (λ m. made_at spot.entry m ≡
-        quietly (declaration_content (said_at (place_here spot.entry) declaration ∷ []))) }
-    ensures standing { IfOk result (StandsAt spot.entry.pos) }
+    ensures made { IfOk result (λ m. result_of_piece fixup_location.entry m ≡
+        without_warning (declaration_content (declaration_at (location_of_fixup fixup_location.entry) declaration ∷ []))) }
+    ensures standing { IfOk result (PieceHasLocation fixup_location.entry.pos) }
 {
     let located = LocatedDeclaration {
-        pos: spot.pos,
+        pos: fixup_location.pos,
         said: declaration,
     };
     Ok(one(SectionEntry::DeclarationEntry(Box::new(alloc, located)?)))
 }
 
 /// Returns one declaration, or an error if an object can't hold the name of its file.
-fn written(
+fn checked_declaration(
     alloc: Global,
-    spot: FixupLocation<'_>,
+    fixup_location: FixupLocation<'_>,
     declaration: Declaration,
 ) -> Result<ResolvedPiece, AsmFault>
-    ensures made { Refines is_memory (made_at spot.entry) result (declaration_result (place_here spot.entry) declaration) }
-    ensures standing { IfOk result (StandsAt spot.entry.pos) }
+    ensures made { Refines is_out_of_memory (result_of_piece fixup_location.entry) result (declaration_result (location_of_fixup fixup_location.entry) declaration) }
+    ensures standing { IfOk result (PieceHasLocation fixup_location.entry.pos) }
 {
-    if !is_file_name(spot.file()) {
+    if !is_file_name(fixup_location.file()) {
         return Err(AsmFault::FileNameTooLong);
     }
-    Ok(told(alloc, spot, declaration)?)
+    Ok(declaration_piece(alloc, fixup_location, declaration)?)
 }
 
 /// Resolves a stored value: to bytes if it is a number.
-fn use_datum(
+fn resolve_datum(
     alloc: Global,
     width: Width,
-    spot: FixupLocation<'_>,
+    fixup_location: FixupLocation<'_>,
     context: Context,
     form: Norm,
 ) -> Result<ResolvedPiece, AsmFault>
-    ensures made { Refines is_memory (made_at spot.entry) result
-        (value_result (place_here spot.entry) context (datum width) form) }
-    ensures standing { IfOk result (StandsAt spot.entry.pos) }
+    ensures made { Refines is_out_of_memory (result_of_piece fixup_location.entry) result
+        (value_result (location_of_fixup fixup_location.entry) context (datum width) form) }
+    ensures standing { IfOk result (PieceHasLocation fixup_location.entry.pos) }
 {
     let segment = context.segment;
     match literal_of(&form) {
@@ -135,13 +135,13 @@ fn use_datum(
             Ok(one(SectionEntry::Bytes { segment, bytes }))
         }
         None => {
-            if !is_file_name(spot.file()) {
+            if !is_file_name(fixup_location.file()) {
                 return Err(AsmFault::FileNameTooLong);
             }
             Ok(one(SectionEntry::Value {
                 width,
                 segment,
-                pos: spot.pos,
+                pos: fixup_location.pos,
                 form,
             }))
         }
@@ -149,16 +149,16 @@ fn use_datum(
 }
 
 /// Resolves an assertion.
-fn use_assertion(
+fn resolve_assertion(
     alloc: Global,
     action: Action,
-    spot: FixupLocation<'_>,
+    fixup_location: FixupLocation<'_>,
     text: ListVec<u8>,
     form: Norm,
 ) -> Result<ResolvedPiece, AsmFault>
-    ensures made { (s : Site) → Refines is_memory (made_at spot.entry) result
-        (value_result (place_here spot.entry) s (asserted action text) form) }
-    ensures standing { IfOk result (StandsAt spot.entry.pos) }
+    ensures made { (s : Site) → Refines is_out_of_memory (result_of_piece fixup_location.entry) result
+        (value_result (location_of_fixup fixup_location.entry) s (asserted action text) form) }
+    ensures standing { IfOk result (PieceHasLocation fixup_location.entry.pos) }
 {
     match literal_of(&form) {
         Some(0) => match action {
@@ -168,8 +168,12 @@ fn use_assertion(
                 warning: Some(text),
             }),
         },
-        Some(_) => Ok(nothing()),
-        None => written(alloc, spot, Declaration::Asserted { action, text, form }),
+        Some(_) => Ok(empty_piece()),
+        None => checked_declaration(
+            alloc,
+            fixup_location,
+            Declaration::LinkAssertion { action, text, form },
+        ),
     }
 }
 
@@ -184,11 +188,7 @@ fn defined(symbols: &Symbols, name: &[u8]) -> Option<usize>
 }
 
 /// Adds a name to the exported names. Returns whether it is new.
-fn enter_export(
-    alloc: Global,
-    exported: &mut ExportedNames,
-    name: &[u8],
-) -> Result<bool, AllocError>
+fn add_export(alloc: Global, exported: &mut ExportedNames, name: &[u8]) -> Result<bool, AllocError>
     ensures new { IfOk result (λ b. list_any (bytes_eq name.now) (names_of exported.old) ≡ not b) }
     ensures names { IfOk result (λ b. names_of exported.new ≡
         (if b then names_of exported.old ++ name.now ∷ [] else names_of exported.old)) }
@@ -203,27 +203,31 @@ fn resolve_export(
     symbols: &Symbols,
     known: &mut FormCache,
     exported: &mut ExportedNames,
-    spot: FixupLocation<'_>,
+    fixup_location: FixupLocation<'_>,
     index: usize,
     name: ListVec<u8>,
 ) -> Result<ResolvedPiece, AsmFault>
-    requires table { IsTable (table_of symbols.now) known.old }
-    requires names { HasDefined (table_of symbols.now) (names_of exported.old) }
+    requires table { IsFormCache (table_of symbols.now) known.old }
+    requires names { AreDefinedNames (table_of symbols.now) (names_of exported.old) }
     requires index { definition_index (table_of symbols.now) (named 0 name) ≡ Some index }
-    ensures made { (must : Bool) (s : Site) → Refines is_memory (made_at spot.entry) result
-        (piece_result (table_of symbols.now) (names_of exported.old) (place_here spot.entry) s
+    ensures made { (must : Bool) (s : Site) → Refines is_out_of_memory (result_of_piece fixup_location.entry) result
+        (piece_result (table_of symbols.now) (names_of exported.old) (location_of_fixup fixup_location.entry) s
         (piece_of (Export must name))) }
-    ensures standing { IfOk result (StandsAt spot.entry.pos) }
-    ensures table { OnOk result (IsTable (table_of symbols.now) known.new) }
-    ensures names { OnOk result (HasDefined (table_of symbols.now) (names_of exported.new)) }
+    ensures standing { IfOk result (PieceHasLocation fixup_location.entry.pos) }
+    ensures table { OnOk result (IsFormCache (table_of symbols.now) known.new) }
+    ensures names { OnOk result (AreDefinedNames (table_of symbols.now) (names_of exported.new)) }
     ensures more { IfOk result (λ m. names_of exported.new ≡ names_of exported.old ++
-        exported_names (made_at spot.entry m).content.said) }
+        exported_names (result_of_piece fixup_location.entry m).content.said) }
 {
-    if !enter_export(alloc, exported, name.as_slice())? {
-        return Ok(nothing());
+    if !add_export(alloc, exported, name.as_slice())? {
+        return Ok(empty_piece());
     }
     let form = defined_norm(alloc, symbols, known, index)?;
-    written(alloc, spot, Declaration::Exported { name, form })
+    checked_declaration(
+        alloc,
+        fixup_location,
+        Declaration::ExportedSymbol { name, form },
+    )
 }
 
 /// Resolves a deferred piece, or returns its error.
@@ -232,34 +236,34 @@ pub fn resolve(
     symbols: &Symbols,
     known: &mut FormCache,
     exported: &mut ExportedNames,
-    spot: FixupLocation<'_>,
+    fixup_location: FixupLocation<'_>,
     fixup: Fixup,
 ) -> Result<ResolvedPiece, AsmFault>
-    requires table { IsTable (table_of symbols.now) known.old }
-    requires names { HasDefined (table_of symbols.now) (names_of exported.old) }
-    ensures made { Refines is_memory (made_at spot.entry) result
-        (piece_result (table_of symbols.now) (names_of exported.old) (place_here spot.entry)
+    requires table { IsFormCache (table_of symbols.now) known.old }
+    requires names { AreDefinedNames (table_of symbols.now) (names_of exported.old) }
+    ensures made { Refines is_out_of_memory (result_of_piece fixup_location.entry) result
+        (piece_result (table_of symbols.now) (names_of exported.old) (location_of_fixup fixup_location.entry)
         fixup.context (piece_of fixup.piece)) }
-    ensures standing { IfOk result (StandsAt spot.entry.pos) }
-    ensures table { OnOk result (IsTable (table_of symbols.now) known.new) }
-    ensures names { OnOk result (HasDefined (table_of symbols.now) (names_of exported.new)) }
+    ensures standing { IfOk result (PieceHasLocation fixup_location.entry.pos) }
+    ensures table { OnOk result (IsFormCache (table_of symbols.now) known.new) }
+    ensures names { OnOk result (AreDefinedNames (table_of symbols.now) (names_of exported.new)) }
     ensures more { IfOk result (λ m. names_of exported.new ≡ names_of exported.old ++
-        exported_names (made_at spot.entry m).content.said) }
+        exported_names (result_of_piece fixup_location.entry m).content.said) }
 {
     let Fixup { context, piece, .. } = fixup;
     match piece {
         FixupKind::Datum { width, value } => {
             let form = norm(alloc, symbols, known, context, &value)?;
-            use_datum(alloc, width, spot, context, form)
+            resolve_datum(alloc, width, fixup_location, context, form)
         }
         FixupKind::Operand { width, value } => {
             let form = norm(alloc, symbols, known, context, &value)?;
             let form = operand_form(alloc, width, context, form)?;
-            use_datum(alloc, width, spot, context, form)
+            resolve_datum(alloc, width, fixup_location, context, form)
         }
         FixupKind::Constant(value) => {
             norm(alloc, symbols, known, context, &value)?;
-            Ok(nothing())
+            Ok(empty_piece())
         }
         FixupKind::Assertion {
             action,
@@ -267,18 +271,30 @@ pub fn resolve(
             value,
         } => {
             let form = norm(alloc, symbols, known, context, &value)?;
-            use_assertion(alloc, action, spot, text, form)
+            resolve_assertion(alloc, action, fixup_location, text, form)
         }
         // The module may not define what it imports.
         FixupKind::Import(name) => match defined(symbols, name.as_slice()) {
             Some(_) => Err(AsmFault::ImportedAndDefined(name)),
-            None => Ok(nothing()),
+            None => Ok(empty_piece()),
         },
-        FixupKind::ForcedImport(name) => Ok(told(alloc, spot, Declaration::ForcedImport(name))?),
+        FixupKind::ForcedImport(name) => Ok(declaration_piece(
+            alloc,
+            fixup_location,
+            Declaration::ForcedImport(name),
+        )?),
         FixupKind::Export { must, name } => match defined(symbols, name.as_slice()) {
-            Some(index) => resolve_export(alloc, symbols, known, exported, spot, index, name),
+            Some(index) => resolve_export(
+                alloc,
+                symbols,
+                known,
+                exported,
+                fixup_location,
+                index,
+                name,
+            ),
             None if must => Err(AsmFault::NotDefined(name)),
-            None => Ok(nothing()),
+            None => Ok(empty_piece()),
         },
     }
 }

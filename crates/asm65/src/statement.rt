@@ -6,24 +6,24 @@ ghost use Rattle.object65.specs.Objects.{is_name};
 ghost use Rattle.semantics65.specs.Numbering.{IsWellFormedStatement};
 ghost use Rattle.syntax65.specs.declared.source_location.SourceLocation.{SourceLocation};
 ghost use Rattle.ast65.specs.declared.language.Statement.TheVariants.{Instruction};
-ghost use Rattle.semantics65.specs.declared.laid.EncodingChoice.TheVariants.{InMode};
+ghost use Rattle.semantics65.specs.declared.contexts.EncodingChoice.TheVariants.{InMode};
 ghost use Rattle.ast65.specs.Faults.{is_failure, is_system_error};
-ghost use Rattle.semantics65.specs.Views.{place_at};
-ghost use Rattle.symbols65.specs.Measuring.{opened_by, opening_limit};
+ghost use Rattle.semantics65.specs.Views.{location_of_ref};
+ghost use Rattle.symbols65.specs.Measuring.{opening_count, opening_limit};
 ghost use Rattle.sources65.specs.Machine.{State, StepsTo, symbols_after};
 ghost use Rattle.semantics65.specs.Contents.{operand_tree};
 ghost use Rattle.semantics65.specs.Module.{instruction_pieces, pieces_of};
 ghost use Rattle.sources65.specs.Reading.{RepresentsOrFails};
 ghost use Rattle.symbols65.specs.Evaluations.{HasFinal, HaveFinals, items_in, first_tree};
 ghost use Rattle.symbols65.specs.Views.{table_of};
-ghost use Rattle.asm65.specs.Internal.AssemblerState.{EmitsPieces, Represents, KeepsTables, RequestsSection, IsRepresentable, IsNew, IsMeasuredAt, IsRefused, EmitsThenDefines, laid_as, state_after_layout};
+ghost use Rattle.asm65.specs.Internal.AssemblerState.{EmitsPieces, Represents, ChangesOnlySections, RequestsSection, IsRepresentable, IsNew, HasLayout, IsRejected, EmitsThenDefines, statement_with_layout, state_after_layout};
 
 use crate::assembler::Assembler;
 use crate::emission::PieceContext;
 use crate::emission::statements::{
-    emit_incbin, emit_opcode, emit_reserve, emit_values, enter_operand, width_of,
+    emit_incbin, emit_opcode, emit_operand, emit_reserve, emit_values, width_of,
 };
-use crate::emission::values::{ValueUse, defer, put_value};
+use crate::emission::values::{ValueUse, defer, emit_value};
 use ast65::{AsmFault, Operand, Statement};
 use base65::ListVec;
 use emit65::FixupKind;
@@ -31,7 +31,7 @@ use object65::{Norm, is_name};
 use semantics65::{Context, EncodingChoice, LocationRef};
 use std::alloc::{AllocError, Global};
 use symbols65::{
-    Analysis, LineState, StatementLayout, lay_out_statement, measure_instruction, needs_section,
+    Analysis, LineState, StatementLayout, lay_out_instruction, lay_out_statement, needs_section,
     search_operand, search_statement,
 };
 use syntax65::{Mnemonic, Mode, opcode};
@@ -47,7 +47,7 @@ fn are_names(names: &[ListVec<u8>]) -> bool
 }
 
 /// Returns whether an object can store a statement's names and text.
-pub fn is_sound(statement: &Statement) -> bool
+pub fn is_well_formed(statement: &Statement) -> bool
     ensures sound { result ≡ true → IsWellFormedStatement statement.now }
     ensures all { IsWellFormedStatement statement.now → result ≡ true }
 {
@@ -69,17 +69,19 @@ struct LaidOut {
     analysis: Analysis,
 }
 
-/// Returns the error of a statement, which is dropped here: so the code for valid statements has no drop.
+/// Drops a rejected statement and returns the error. It is a function of its own so that the code for valid statements has
+/// no drop.
 #[inline(never)]
-fn refused(_statement: Statement, fault: AsmFault) -> Result<(), AsmFault>
+fn reject_statement(_statement: Statement, fault: AsmFault) -> Result<(), AsmFault>
     ensures { result ≡ Err fault }
 {
     Err(fault)
 }
 
-/// Returns the error of an instruction, whose operand is dropped here.
+/// Drops the operand of a rejected instruction and returns the error. It is a function of its own so that the code for valid
+/// instructions has no drop.
 #[inline(never)]
-fn refused_operand(_operand: Operand, fault: AsmFault) -> Result<(), AsmFault>
+fn reject_instruction(_operand: Operand, fault: AsmFault) -> Result<(), AsmFault>
     ensures { result ≡ Err fault }
 {
     Err(fault)
@@ -90,7 +92,7 @@ impl Assembler {
     #[inline(always)]
     fn request_section(&mut self, segment: u32, statement: &Statement) -> Result<(), AllocError>
         ensures asked { OnOk result (RequestsSection segment statement.now self.old self.new) }
-        ensures tables { KeepsTables self.old self.new }
+        ensures tables { ChangesOnlySections self.old self.new }
     {
         if needs_section(statement) {
             self.sections.request_section(segment)?;
@@ -100,7 +102,7 @@ impl Assembler {
 
     /// Emits an instruction in an addressing mode.
     #[inline(always)]
-    fn enter_instruction(
+    fn emit_instruction(
         &mut self,
         alloc: Global,
         site: PieceContext<'_>,
@@ -111,34 +113,34 @@ impl Assembler {
     ) -> Result<(), AllocError>
         requires { HasFinal (table_of self.old.symbols) site.context (operand_tree operand) form }
         ensures { OnOk result (EmitsPieces
-            (place_at site.entry.at) site.entry.context
+            (location_of_ref site.entry.at) site.entry.context
             (instruction_pieces mnemonic operand (InMode mode))
             self.old self.new) }
     {
         emit_opcode(self, site.context, opcode(mnemonic, mode))?;
-        enter_operand(alloc, self, site, width_of(mode), operand, form)
+        emit_operand(alloc, self, site, width_of(mode), operand, form)
     }
 
     /// Emits an instruction in the addressing mode of its encoding.
     #[inline(always)]
-    fn enter_settled(
+    fn emit_encoded(
         &mut self,
         alloc: Global,
         site: PieceContext<'_>,
-        settled: EncodingChoice,
+        encoding: EncodingChoice,
         mnemonic: Mnemonic,
         operand: Operand,
         form: Option<Norm>,
     ) -> Result<(), AllocError>
         requires { HasFinal (table_of self.old.symbols) site.context (operand_tree operand) form }
         ensures { OnOk result (EmitsPieces
-            (place_at site.entry.at) site.entry.context
-            (instruction_pieces mnemonic operand settled)
+            (location_of_ref site.entry.at) site.entry.context
+            (instruction_pieces mnemonic operand encoding)
             self.old self.new) }
     {
-        match settled {
+        match encoding {
             EncodingChoice::InMode(mode) => {
-                self.enter_instruction(alloc, site, mnemonic, mode, operand, form)
+                self.emit_instruction(alloc, site, mnemonic, mode, operand, form)
             }
             EncodingChoice::Undecided
             | EncodingChoice::FillByte(_)
@@ -147,7 +149,7 @@ impl Assembler {
     }
 
     /// Emits the pieces of a statement, then defines its names.
-    #[inline(never)]
+    #[inline(always)]
     fn emit_statement(
         &mut self,
         alloc: Global,
@@ -160,10 +162,10 @@ impl Assembler {
             (first_tree statement) analysis.form }
         requires forms { HaveFinals (table_of self.old.symbols) site.context
             (items_in statement) analysis.forms.items }
-        ensures { OnOk result (let location = place_at site.entry.at in
+        ensures { OnOk result (let location = location_of_ref site.entry.at in
             let s = site.entry.context in let m = analysis.measured in
-            EmitsThenDefines location s (pieces_of m.length m.settled statement)
-            (λ y. symbols_after y (laid_as location s m statement))
+            EmitsThenDefines location s (pieces_of m.length m.encoding statement)
+            (λ y. symbols_after y (statement_with_layout location s m statement))
             self.old self.new) }
     {
         let context = site.context;
@@ -174,25 +176,25 @@ impl Assembler {
         } = analysis;
         let StatementLayout {
             length,
-            settled,
+            encoding,
             ..
         } = measured;
         match statement {
             Statement::Instruction { mnemonic, operand } => {
-                self.enter_settled(alloc, site, settled, mnemonic, operand, form)
+                self.emit_encoded(alloc, site, encoding, mnemonic, operand, form)
             }
             Statement::Values { width, items } => {
                 emit_values(alloc, self, site, width, items, forms)
             }
-            Statement::Reserve { .. } => emit_reserve(self, context, length, settled),
-            Statement::Align { .. } => emit_reserve(self, context, length, settled),
-            Statement::Incbin { bytes, .. } => emit_incbin(self, context, length, settled, bytes),
+            Statement::Reserve { .. } => emit_reserve(self, context, length, encoding),
+            Statement::Align { .. } => emit_reserve(self, context, length, encoding),
+            Statement::Incbin { bytes, .. } => emit_incbin(self, context, length, encoding, bytes),
             Statement::Assert {
                 value,
                 action,
                 text,
             } => {
-                if put_value(alloc, self, site, form, ValueUse::Assertion)? {
+                if emit_value(alloc, self, site, form, ValueUse::Assertion)? {
                     return Ok(());
                 }
                 let piece = FixupKind::Assertion {
@@ -202,7 +204,7 @@ impl Assembler {
                 };
                 defer(self, site, piece)
             }
-            other => self.enter_names(alloc, site, measured, other, form),
+            other => self.define_names(alloc, site, measured, other, form),
         }
     }
 
@@ -217,13 +219,13 @@ impl Assembler {
     ) -> Result<LaidOut, AsmFault>
         requires { IsRepresentable self.old }
         ensures placed { (count : ℕ) (t : State) → Represents count t self.old → IfOk result (λ p.
-            IsMeasuredAt t statement.now p.context p.analysis.measured) }
+            HasLayout t statement.now p.context p.analysis.measured) }
         ensures holds { (count : ℕ) (t : State) → Represents count t self.old → OnOk result
-            (Represents (count + opened_by statement.now)
-            (state_after_layout t (place_at at.entry) statement.now)
+            (Represents (count + opening_count statement.now)
+            (state_after_layout t (location_of_ref at.entry) statement.now)
             self.new) }
         ensures refused { (count : ℕ) (t : State) → Represents count t self.old → IfErr result
-            (IsRefused t statement.now) }
+            (IsRejected t statement.now) }
         ensures new { IfOk result (λ p. IsNew (table_of self.new.symbols) p.context statement.now) }
         ensures form { IfOk result (λ p. HasFinal (table_of self.new.symbols) p.context
             (first_tree statement.now) p.analysis.form) }
@@ -248,7 +250,7 @@ impl Assembler {
     /// Computes the length and the context of an instruction, or its first error; requests its
     /// section, and advances the cursor.
     #[inline(always)]
-    fn place_instruction(
+    fn lay_out_next_instruction(
         &mut self,
         alloc: Global,
         mnemonic: Mnemonic,
@@ -256,12 +258,12 @@ impl Assembler {
     ) -> Result<LaidOut, AsmFault>
         requires { IsRepresentable self.old }
         ensures placed { (count : ℕ) (t : State) → Represents count t self.old → IfOk result (λ p.
-            IsMeasuredAt t (Instruction mnemonic operand.now) p.context p.analysis.measured) }
+            HasLayout t (Instruction mnemonic operand.now) p.context p.analysis.measured) }
         ensures holds { (location : SourceLocation) (count : ℕ) (t : State) → Represents count t self.old →
-            OnOk result (Represents (count + opened_by (Instruction mnemonic operand.now))
+            OnOk result (Represents (count + opening_count (Instruction mnemonic operand.now))
             (state_after_layout t location (Instruction mnemonic operand.now)) self.new) }
         ensures refused { (count : ℕ) (t : State) → Represents count t self.old → IfErr result
-            (IsRefused t (Instruction mnemonic operand.now)) }
+            (IsRejected t (Instruction mnemonic operand.now)) }
         ensures form { IfOk result (λ p. HasFinal (table_of self.new.symbols) p.context
             (operand_tree operand.now) p.analysis.form) }
         ensures texts { IfErr result (λ e. is_system_error e ≡ false → self.new.texts ≡ self.old.texts) }
@@ -271,7 +273,7 @@ impl Assembler {
             symbols: &self.symbols,
             cursor: &self.cursor,
         };
-        let analysis = measure_instruction(alloc, before, mnemonic, operand)?;
+        let analysis = lay_out_instruction(alloc, before, mnemonic, operand)?;
         let context = self.cursor.context();
         self.sections.request_section(context.segment)?;
         self.cursor.advance_by(analysis.measured.length);
@@ -288,21 +290,21 @@ impl Assembler {
     ) -> Result<(), AsmFault>
         requires { IsRepresentable self.old }
         ensures taken { (count : ℕ) (t : State) → Represents count t self.old → count < opening_limit →
-            RepresentsOrFails (StepsTo t (place_at at.entry)
+            RepresentsOrFails (StepsTo t (location_of_ref at.entry)
             (Instruction mnemonic operand))
-            (λ u. Represents (count + opened_by (Instruction mnemonic operand)) u self.new) result }
+            (λ u. Represents (count + opening_count (Instruction mnemonic operand)) u self.new) result }
         ensures texts { IfErr result (λ e. is_system_error e ≡ false → self.new.texts ≡ self.old.texts) }
         ensures inside { IfErr result (λ e. is_failure e ≡ false) }
     {
         search_operand(alloc, &mut self.symbols, self.cursor.context(), &operand)?;
-        match self.place_instruction(alloc, mnemonic, &operand) {
+        match self.lay_out_next_instruction(alloc, mnemonic, &operand) {
             Ok(LaidOut { context, analysis }) => {
                 let site = PieceContext { at, context };
                 let Analysis { measured, form, .. } = analysis;
-                self.enter_settled(alloc, site, measured.settled, mnemonic, operand, form)?;
+                self.emit_encoded(alloc, site, measured.encoding, mnemonic, operand, form)?;
                 Ok(())
             }
-            Err(fault) => refused_operand(operand, fault),
+            Err(fault) => reject_instruction(operand, fault),
         }
     }
 
@@ -315,8 +317,8 @@ impl Assembler {
     ) -> Result<(), AsmFault>
         requires { IsRepresentable self.old }
         ensures taken { (count : ℕ) (t : State) → Represents count t self.old → count < opening_limit →
-            RepresentsOrFails (StepsTo t (place_at at.entry) statement)
-            (λ u. Represents (count + opened_by statement) u self.new) result }
+            RepresentsOrFails (StepsTo t (location_of_ref at.entry) statement)
+            (λ u. Represents (count + opening_count statement) u self.new) result }
         ensures texts { IfErr result (λ e. is_system_error e ≡ false → self.new.texts ≡ self.old.texts) }
         ensures inside { IfErr result (λ e. is_failure e ≡ false) }
     {
@@ -326,7 +328,7 @@ impl Assembler {
                 self.emit_statement(alloc, PieceContext { at, context }, analysis, statement)?;
                 Ok(())
             }
-            Err(fault) => refused(statement, fault),
+            Err(fault) => reject_statement(statement, fault),
         }
     }
 }

@@ -2,9 +2,9 @@
 
 ghost use Rattle.std.specs.Prelude.{◌≡◌, [], false, true, unwrap_or, ◌++◌, codes, OnOk};
 ghost use Rattle.ast65.specs.Faults.{is_failure, is_system_error};
-ghost use Rattle.asm65.specs.Assembly.{has_failed, is_diagnostic_system_error, placed_of};
-ghost use Rattle.semantics65.specs.Views.{place_at, place_in};
-ghost use Rattle.semantics65.specs.Module.{out_of, warning_at, warning_of};
+ghost use Rattle.asm65.specs.Assembly.{is_store_failure, is_diagnostic_system_error, located_fault};
+ghost use Rattle.semantics65.specs.Views.{location_of_ref, location_in};
+ghost use Rattle.semantics65.specs.Module.{statement_stdout, warning_at, statement_warning};
 
 use ast65::{AsmFault, Statement};
 use base65::{ListVec, PathString};
@@ -33,7 +33,8 @@ pub fn is_system_error(fault: &AsmFault) -> bool
 /// The error for which a source has no object, with its location. The line is 0 if none was read.
 #[derive(Drop)]
 pub struct Diagnostic {
-    /// The file of the line, or the source if no line was read; none if memory ran out or the source couldn't be opened.
+    /// The file of the line, or the source if no line was read; none if memory ran out, or if the store failed when the
+    /// source was opened.
     pub file: Option<PathString>,
     pub line: u32,
     pub fault: AsmFault,
@@ -43,7 +44,7 @@ impl Diagnostic {
     /// Creates the error *out of memory*, without a file's name.
     pub fn without_memory() -> Self
         ensures outside { is_diagnostic_system_error result ≡ true }
-        ensures inside { has_failed result ≡ false }
+        ensures inside { is_store_failure result ≡ false }
     {
         Diagnostic {
             file: None,
@@ -54,11 +55,11 @@ impl Diagnostic {
 
     /// Creates the diagnostic of an error at a line.
     pub fn of_fault(alloc: Global, at: LocationRef<'_>, fault: AsmFault) -> Self
-        ensures placed { is_diagnostic_system_error result ≡ false → placed_of result ≡
-            record { place = place_at at.entry; fault = fault } }
+        ensures placed { is_diagnostic_system_error result ≡ false → located_fault result ≡
+            record { place = location_of_ref at.entry; fault = fault } }
         ensures outside { is_system_error fault ≡ true → is_diagnostic_system_error result ≡ true }
-        ensures inside { is_failure fault ≡ false → has_failed result ≡ false }
-        ensures kept { is_system_error fault ≡ false → has_failed result ≡ false }
+        ensures inside { is_failure fault ≡ false → is_store_failure result ≡ false }
+        ensures kept { is_system_error fault ≡ false → is_store_failure result ≡ false }
     {
         match PathString::copy_of(alloc, at.file) {
             Ok(file) => Diagnostic {
@@ -113,9 +114,9 @@ impl ConsoleOutput {
         at: LocationRef<'_>,
         statement: &Statement,
     ) -> Result<(), AllocError>
-        ensures out { OnOk result (self.new.out ≡ self.old.out ++ out_of statement.now) }
+        ensures out { OnOk result (self.new.out ≡ self.old.out ++ statement_stdout statement.now) }
         ensures err { OnOk result (self.new.err ≡
-            self.old.err ++ warning_of (place_at at.entry)
+            self.old.err ++ statement_warning (location_of_ref at.entry)
             statement.now) }
     {
         match statement {
@@ -144,7 +145,7 @@ fn add_line(out: &mut ListVec<u8>, message: &[u8]) -> Result<(), AllocError>
 /// Adds a warning with its file and line.
 #[inline(never)]
 pub fn warn(err: &mut ListVec<u8>, file: &str, line: u32, message: &[u8]) -> Result<(), AllocError>
-    ensures { OnOk result (err.new ≡ err.old ++ warning_at (place_in file.now line) message.now) }
+    ensures { OnOk result (err.new ≡ err.old ++ warning_at (location_in file.now line) message.now) }
 {
     let mut buffer = Buffer::new();
     err.extend_from_slice(file.as_bytes())?;

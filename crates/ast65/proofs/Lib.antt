@@ -1,7 +1,7 @@
 pub mod Each
 pub mod Lists
-pub mod Lone
-pub mod OneStatements
-pub mod Parts
-pub mod Shown
-pub mod SomeStatements
+pub mod SingleNumber
+pub mod UniqueStatement
+pub mod CommaLists
+pub mod DisplayedNames
+pub mod StatementTotality

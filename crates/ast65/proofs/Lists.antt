@@ -1,4 +1,4 @@
--- Lists and names of which several crates speak.
+-- Lists and names that several crates use.
 use Rattle.std.proofs.Common.{◌≡◌, ℕ, zero, suc, ◌+◌, ◌<◌, Bool, true, false, cond, List, [], ◌∷◌, length, map, drop, get_or, position, Some, refl, sym, ap, ◌∙◌, subst, arith}
 use Rattle.std.specs.Prelude.{OnOk, Result, Ok, Err}
 use Rattle.std.specs.List.{position_from}
@@ -8,7 +8,7 @@ use Rattle.std.proofs.lemmas.Slice.Eq.{bytes_eq-Decides}
 
 -- ---- Lists.
 
--- the rest of a list begins with the item at its place
+-- the rest of a list from an index begins with the item at that index
 pub drop_item : {A : Type 0} (xs : List A) (i : ℕ) (x : A) → i < length xs → x ≡ get_or xs i x → drop i xs ≡ x ∷ drop (suc i) xs
 drop_item [] i x lt e = absurd (omega arith)
 drop_item (y ∷ xs) zero x lt e = ap (λ z. z ∷ xs) (sym e)
@@ -27,7 +27,7 @@ position_mapped p f xs = position_from-zero p (map f xs) ∙ from_mapped p f 0 x
 
 -- ---- Names.
 
--- two names of the same bytes are one
+-- two names with the same bytes are equal
 pub same_bytes : (xs ys : List ℕ) → bytes_eq xs ys ≡ true → xs ≡ ys
 same_bytes xs ys e = grind (arith, bytes_eq-Decides xs ys)
 

@@ -42,7 +42,7 @@ pub enum AsmFault {
     BadPart,
     /// An assertion failed, with its text.
     Assertion(ListVec<u8>),
-    /// A segment is given another address size than it has.
+    /// A segment is selected with another address size than it has.
     SizeChanged,
     /// A scope is closed that isn't open, or isn't closed.
     BadScope,
@@ -53,11 +53,11 @@ pub enum AsmFault {
 }
 
 impl AsmFault {
-    ghost use Rattle.ast65.specs.Faults.{words_of, name_in, is_memory};
+    ghost use Rattle.ast65.specs.Faults.{message_prefix, name_in, is_out_of_memory};
 
     /// Returns the text of the message, up to the name or text at its end.
-    pub fn words(&self) -> &'static str
-        ensures { result.now ≡ words_of self.now }
+    pub fn message_text(&self) -> &'static str
+        ensures { result.now ≡ message_prefix self.now }
     {
         match self {
             AsmFault::OutOfMemory => "out of memory",
@@ -95,7 +95,7 @@ impl AsmFault {
         ensures { result.now ≡ name_in self.now }
     {
         match self {
-            AsmFault::Expansion(fault) => fault.words(),
+            AsmFault::Expansion(fault) => fault.message_text(),
             AsmFault::DefinedTwice(name) => name.as_slice(),
             AsmFault::Undefined(name) => name.as_slice(),
             AsmFault::NoSuchScope(name) => name.as_slice(),
@@ -109,7 +109,7 @@ impl AsmFault {
 
     /// Returns whether memory ran out.
     pub fn is_memory(&self) -> bool
-        ensures { result ≡ is_memory self.now }
+        ensures { result ≡ is_out_of_memory self.now }
     {
         matches!(
             self,
@@ -124,9 +124,9 @@ impl fmt::Display for AsmFault {
     ghost output = { λ e. Some (display_text e) };
 
     fn fmt<W: fmt::Write>(&self, f: &mut fmt::Formatter<W>) -> fmt::Result {
-        let words = self.words();
+        let message = self.message_text();
         let name = ByteDisplay(self.name());
-        write!(f, "{words}{name}")
+        write!(f, "{message}{name}")
     }
 }
 

@@ -3,7 +3,7 @@
 ghost use Rattle.ast65.specs.Laws.{StatementExists};
 
 /// Parsing statements is total: any tokens are a statement or an error, never out of memory.
-#[tactic(auto, using(crate::proofs::SomeStatements::some_statement))]
+#[tactic(auto, using(crate::proofs::StatementTotality::some_statement))]
 pub fn statement_exists()
     ensures { StatementExists }
 {}

@@ -9,4 +9,4 @@ mod reading;
 
 pub use fault::AsmFault;
 pub use language::{IncbinRange, Index, Item, Items, ItemsKind, Operand, OptionalExpr, Statement};
-pub use reading::{instruction_front, label, operand, statement};
+pub use reading::{label, operand, split_instruction, statement};

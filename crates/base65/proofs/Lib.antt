@@ -1,9 +1,9 @@
-pub mod Filling
+pub mod BufferFill
 pub mod Chunks
 pub mod Outcome
 pub mod SystemErrors
 pub mod Wraps
-pub mod Places
+pub mod FileIndex
 pub mod Digit
 pub mod Texts
-pub mod Holding
+pub mod FileBytes

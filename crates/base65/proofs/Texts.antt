@@ -1,4 +1,4 @@
--- The test of bytes for text, against what it means.
+-- The test of bytes for UTF-8, and its definition.
 use Rattle.std.proofs.Common.{◌≡◌, ℕ, Bool, true, false, List, refl}
 use Rattle.std.specs.Prelude.{IsUtf8}
 use Rattle.std.specs.Str.{is_utf8}

@@ -1,5 +1,5 @@
 pub mod Digit
-pub mod Holding
+pub mod FileBytes
 pub mod MemStore
 pub mod Outcome
 pub mod SystemErrors

@@ -19,6 +19,6 @@ abbrev pub is_named : List ℕ → File → Bool
 is_named name f = pointwise nat_eq name f.name.items
 
 -- the index of the first file with a name
-abbrev pub place_of : List ℕ → List File → Option ℕ
-place_of name [] = None
-place_of name (f ∷ fs) = if is_named name f then Some 0 else option_map suc (place_of name fs)
+abbrev pub file_index : List ℕ → List File → Option ℕ
+file_index name [] = None
+file_index name (f ∷ fs) = if is_named name f then Some 0 else option_map suc (file_index name fs)

@@ -25,7 +25,7 @@ abbrev pub Refines : {E X Y : Type 0} → (E → Bool) → (X → Y) → Result 
 Refines is_system_error view (Ok x) read = read ≡ Ok (view x)
 Refines is_system_error view (Err e) read = RefinesErr is_system_error e read
 
--- the relation for a result, and then the one that Next gives for its value
+-- the relation Next for the value of the first result; an error of that is passed on
 abbrev pub AndThen : {E A B : Type 0} → Result A E → (A → Result B E → Type 0) → Result B E → Type 0
 AndThen (Ok x) Next r = Next x r
 AndThen (Err e) Next r = r ≡ Err e

@@ -15,8 +15,8 @@ abbrev pub IsBytes : List ℕ → Type 0
 IsBytes xs = (i : ℕ) → get_or xs i 0 < 256
 
 -- if a file was read, it consists of bytes
-abbrev pub HoldsBytes : {T E : Type 0} → Option (List ℕ) → Result T E → Type 0
-HoldsBytes file result = IfOk result (λ x. IfSome file IsBytes)
+abbrev pub HasOnlyBytes : {T E : Type 0} → Option (List ℕ) → Result T E → Type 0
+HasOnlyBytes file result = IfOk result (λ x. IfSome file IsBytes)
 
 -- the maximum of the failure counter
 abbrev pub max_failures : ℕ
@@ -29,21 +29,21 @@ HasFailed old new = (old < new) ⊎ (old ≡ max_failures)
 -- The error reports a failure of the store: the call returns it if the failure counter rose during the
 -- call, and only if it rose or was already at its maximum. The counter never decreases.
 pub record PropagatesIoError {T E : Type 0} (error : E) (old new : ℕ) (result : Result T E) : Type 0 where
-  pub later : old ≤ new
-  pub told : old < new → IsErrOf result error
-  pub cause : IsErrOf result error → HasFailed old new
+  pub monotone : old ≤ new
+  pub reported : old < new → IsErrOf result error
+  pub caused : IsErrOf result error → HasFailed old new
 
--- The same for several errors that report a failure of the store.
+-- Likewise for several errors that report a failure of the store.
 pub record PropagatesIoErrors {T E : Type 0} (fails : E → Bool) (old new : ℕ) (result : Result T E) : Type 0 where
-  pub later : old ≤ new
-  pub told : old < new → IsErrAnd result (λ e. fails e ≡ true)
-  pub cause : IfErr result (λ e. fails e ≡ true → HasFailed old new)
+  pub monotone : old ≤ new
+  pub reported : old < new → IsErrAnd result (λ e. fails e ≡ true)
+  pub caused : IfErr result (λ e. fails e ≡ true → HasFailed old new)
 
--- the same for a single store call, which also fails whenever the counter is at its maximum
+-- likewise for a single store call, which also fails whenever the counter is at its maximum
 pub record CountsFailure {T : Type 0} (old new : ℕ) (result : Result T StoreFault) : Type 0 where
-  pub later : old ≤ new
-  pub told : HasFailed old new → IsErrOf result FileError
-  pub cause : IsErrOf result FileError → HasFailed old new
+  pub monotone : old ≤ new
+  pub reported : HasFailed old new → IsErrOf result FileError
+  pub caused : IsErrOf result FileError → HasFailed old new
 
 -- if the counter is at its maximum before the call, the result is a system error
 abbrev pub FailsAtLastCount : {T E : Type 0} → (E → Bool) → ℕ → Result T E → Type 0
@@ -54,23 +54,23 @@ pub record FailedCall : Type 0 where
   pub name : List ℕ
   pub at : Option ℕ
 
--- the last failed call, if the store tells it
+-- the last failed call, if the store reveals it
 abbrev pub LastFailure : Type 0
 LastFailure = Option FailedCall
 
--- the last failed call requested this file, if the store tells it
+-- the last failed call requested this file, if the store reveals it
 abbrev pub FailedOn : LastFailure → List ℕ → Type 0
 FailedOn last_failure name = IfSome last_failure (λ c. c.name ≡ name)
 
--- the last failed call read this file from this offset, if the store tells it
+-- the last failed call read this file from this offset, if the store reveals it
 abbrev pub FailedAt : LastFailure → List ℕ → ℕ → Type 0
 FailedAt last_failure name at = IfSome last_failure (λ c. (c.name ≡ name) × (c.at ≡ Some at))
 
--- the last failed call read this file from an offset between these, if the store tells it
+-- the last failed call read this file from an offset between these, if the store reveals it
 abbrev pub FailedWithin : LastFailure → List ℕ → ℕ → ℕ → Type 0
 FailedWithin last_failure name begin end = IfSome last_failure (λ c. (c.name ≡ name) × (at : ℕ) × (c.at ≡ Some at) × (begin ≤ at) × (at ≤ end))
 
--- the bytes of a file, none if it isn't there
+-- the bytes of a file, or none if it doesn't exist
 abbrev pub bytes_in : Option (List ℕ) → List ℕ
 bytes_in file = unwrap_or file []
 
@@ -80,16 +80,16 @@ FailsInside file last_failure name at = at ≤ length (bytes_in file) → Failed
 
 -- after a failure the last failed call satisfies P; otherwise it is unchanged
 abbrev pub RecordsFailure : {T : Type 0} → (LastFailure → Type 0) → LastFailure → LastFailure → Result T StoreFault → Type 0
-RecordsFailure IsTold old new (Err FileError) = IsTold new
-RecordsFailure IsTold old new (Err FileNotFound) = new ≡ old
-RecordsFailure IsTold old new (Err OutOfMemory) = new ≡ old
-RecordsFailure IsTold old new (Ok x) = new ≡ old
+RecordsFailure IsExpected old new (Err FileError) = IsExpected new
+RecordsFailure IsExpected old new (Err FileNotFound) = new ≡ old
+RecordsFailure IsExpected old new (Err OutOfMemory) = new ≡ old
+RecordsFailure IsExpected old new (Ok x) = new ≡ old
 
 -- The first n bytes of the buffer are the file's next n bytes. n is 0 only at the end of the file or if the
 -- buffer is empty.
 pub record ReadsPrefix (rest : List ℕ) (n : ℕ) (buf : List ℕ) : Type 0 where
   pub within : n ≤ length rest
-  pub front : take n buf ≡ take n rest
+  pub prefix : take n buf ≡ take n rest
   pub ends : n ≡ 0 → 0 < length buf → rest ≡ []
 
 -- the bytes of the file from an offset are read into the buffer, or the file doesn't exist
@@ -109,8 +109,8 @@ CreatesFile old name new (Err OutOfMemory) = new ≡ old
 
 -- new is old with the first n bytes of the piece appended to the file
 pub record ExtendsFile (old : Files) (name piece : List ℕ) (n : ℕ) (new : Files) (bytes : List ℕ) : Type 0 where
-  pub was : get old name ≡ Some bytes
-  pub grown : new ≡ insert old name (bytes ++ take n piece)
+  pub existing : get old name ≡ Some bytes
+  pub extended : new ≡ insert old name (bytes ++ take n piece)
 
 abbrev pub AppendsToFile : Files → List ℕ → List ℕ → Files → Result ℕ StoreFault → Type 0
 AppendsToFile old name piece new (Ok n) = (bytes : List ℕ) × ExtendsFile old name piece n new bytes
@@ -124,10 +124,10 @@ RelatesFiles P None new = ⊤
 RelatesFiles P (Some old) None = ⊥
 RelatesFiles P (Some old) (Some new) = P old new
 
--- the buffer is filled from the offset, as far as the file goes
+-- the buffer is filled from the offset, up to its own end or that of the file
 pub record FillsAll (rest : List ℕ) (n : ℕ) (buf : List ℕ) : Type 0 where
   pub count : n ≡ min (length buf) (length rest)
-  pub front : take n buf ≡ take n rest
+  pub prefix : take n buf ≡ take n rest
 
 abbrev pub ReadsFull : Option (List ℕ) → ℕ → List ℕ → Result ℕ StoreFault → Type 0
 ReadsFull None at buf (Ok n) = ⊥

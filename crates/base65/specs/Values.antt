@@ -19,9 +19,9 @@ truth false = pos 0
 abbrev pub is_true : ℤ → Bool
 is_true a = not (int_eq a (pos 0))
 
-abbrev pub is_other : Bool → Bool → Bool
-is_other true b = not b
-is_other false b = b
+abbrev pub exclusive_or : Bool → Bool → Bool
+exclusive_or true b = not b
+exclusive_or false b = b
 
 abbrev pub value1 : Op1 → ℤ → ℤ
 value1 Plus a = a
@@ -59,5 +59,5 @@ value2 Greater a b = Some (truth (int_lt b a))
 value2 LessOrEqual a b = Some (truth (int_le a b))
 value2 GreaterOrEqual a b = Some (truth (int_le b a))
 value2 And a b = Some (truth (is_true a && is_true b))
-value2 Xor a b = Some (truth (is_other (is_true a) (is_true b)))
+value2 Xor a b = Some (truth (exclusive_or (is_true a) (is_true b)))
 value2 Or a b = Some (truth (is_true a || is_true b))

@@ -1,6 +1,6 @@
-//! What follows if an assertion fails.
+//! The consequence of a failed assertion.
 
-/// The consequence of an assertion that fails.
+/// The consequence of a failed assertion.
 #[derive(Clone, Copy)]
 pub enum Action {
     Warning = 0,

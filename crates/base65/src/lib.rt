@@ -3,7 +3,7 @@
 #![tactic(auto)]
 
 mod action;
-mod joining;
+mod concatenation;
 mod list_vec;
 mod mem_store;
 mod numbers;
@@ -16,13 +16,13 @@ mod values;
 mod width;
 
 pub use action::Action;
-pub use joining::{add_all, join};
+pub use concatenation::{append_all, join};
 pub use list_vec::ListVec;
 pub use mem_store::MemStore;
 pub use numbers::digits;
 pub use output::OutputFile;
 pub use path_string::{PathString, is_utf8};
-pub use reading::read_front;
+pub use reading::read_prefix;
 pub use seed::Seed;
 pub use store::{Store, StoreFault, read_full};
 pub use values::{Op1, Op2, apply1, apply2};

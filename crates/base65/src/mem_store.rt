@@ -5,8 +5,8 @@ ghost use Rattle.std.specs.Option.{option_map, option_copied};
 ghost use Rattle.std.specs.FinMap as map;
 ghost use Rattle.std.proofs.Common.{rules};
 ghost use Rattle.base65.specs.Store.{ReadsAt, ReadsPrefix, AppendsToFile, IsBytes};
-ghost use Rattle.base65.specs.MemStore.{place_of, files_of};
-ghost use Rattle.base65.specs.Holding.{HoldBytes};
+ghost use Rattle.base65.specs.MemStore.{file_index, files_of};
+ghost use Rattle.base65.specs.FileBytes.{HaveOnlyBytes};
 
 use crate::{Store, StoreFault};
 use std::alloc::{AllocError, Global};
@@ -40,8 +40,8 @@ impl Model for MemStore {
 }
 
 /// Finds the index of the file with this name.
-fn place(files: &[File], name: &[u8]) -> Option<usize>
-    ensures place { result ≡ place_of name.now files.now }
+fn file_index(files: &[File], name: &[u8]) -> Option<usize>
+    ensures index { result ≡ file_index name.now files.now }
     ensures bound { IfSome result (λ i. i < length files.now) }
 {
     for (i, file) in files.iter().enumerate() {
@@ -53,7 +53,7 @@ fn place(files: &[File], name: &[u8]) -> Option<usize>
 }
 
 impl MemStore {
-    ghost use Rattle.base65.specs.MemStore.{place_of, files_of};
+    ghost use Rattle.base65.specs.MemStore.{file_index, files_of};
 
     /// Returns a store without files.
     pub fn new(alloc: Global) -> Self
@@ -69,7 +69,7 @@ impl MemStore {
     pub fn get(&self, name: &str) -> Option<&[u8]>
         ensures { option_copied result ≡ map.get self.now name.now }
     {
-        let i = place(&self.files, name.as_bytes())?;
+        let i = file_index(&self.files, name.as_bytes())?;
         Some(self.files[i].bytes.as_slice())
     }
 
@@ -83,9 +83,9 @@ impl MemStore {
 
     /// Does nothing. Its contract is a law: each file of any store consists of bytes.
     pub fn hold_bytes(&self)
-        ensures { HoldBytes self.now }
+        ensures { HaveOnlyBytes self.now }
     {
-        hold_bytes(self.files.as_slice())
+        have_only_bytes(self.files.as_slice())
     }
 }
 
@@ -97,8 +97,8 @@ fn are_bytes(bytes: &[u8])
 }
 
 /// Does nothing. Its contract states that each file of a list consists of bytes.
-fn hold_bytes(files: &[File])
-    ensures { HoldBytes (files_of files.now) }
+fn have_only_bytes(files: &[File])
+    ensures { HaveOnlyBytes (files_of files.now) }
 {
     for file in files {
         are_bytes(file.bytes.as_slice());
@@ -119,7 +119,7 @@ fn set_file(
         name: Vec::from_slice(alloc, name)?,
         bytes: Vec::from_slice(alloc, bytes)?,
     };
-    match place(files, name) {
+    match file_index(files, name) {
         Some(i) => files[i] = file,
         None => files.push(file)?,
     }
@@ -127,12 +127,12 @@ fn set_file(
 }
 
 /// Appends bytes to the file with this name.
-fn extend_file(files: &mut Vec<File>, name: &[u8], piece: &[u8]) -> Result<usize, StoreFault>
+fn append_to_file(files: &mut Vec<File>, name: &[u8], piece: &[u8]) -> Result<usize, StoreFault>
     ensures appended { AppendsToFile (files_of files.old.items) name.now piece.now (files_of files.new.items) result }
     ensures all { IfOk result (λ n. n ≡ length piece.now) }
     ensures cause { IsErrOf result StoreFault.FileError → ⊥ }
 {
-    match place(files, name) {
+    match file_index(files, name) {
         None => Err(StoreFault::FileNotFound),
         Some(i) => {
             let file = &mut files[i];
@@ -172,7 +172,7 @@ impl Store for MemStore {
     }
 
     fn append(&mut self, name: &str, piece: &[u8]) -> Result<usize, StoreFault> {
-        extend_file(&mut self.files, name.as_bytes(), piece)
+        append_to_file(&mut self.files, name.as_bytes(), piece)
     }
 
     ghost counted = { λ _. Prim.search rules };

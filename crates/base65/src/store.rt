@@ -4,7 +4,7 @@ ghost use Rattle.std.specs.Prelude.{◌≡◌, ◌≤◌, ◌<◌, ◌+◌, ◌-
 ghost use Rattle.std.specs.FinMap as map;
 ghost use Rattle.base65.specs.declared.store.StoreFault.TheVariants.{OutOfMemory, FileError};
 ghost use Rattle.base65.specs.StoreFaults.{is_store_system_error};
-ghost use Rattle.base65.specs.Store.{Files, LastFailure, HoldsBytes, FailsAtLastCount, RecordsFailure, FailedOn, FailedAt, FailedWithin, FailsInside, max_failures, CountsFailure, ReadsAt, CreatesFile, AppendsToFile, RelatesFiles, ReadsFull, PropagatesIoError};
+ghost use Rattle.base65.specs.Store.{Files, LastFailure, HasOnlyBytes, FailsAtLastCount, RecordsFailure, FailedOn, FailedAt, FailedWithin, FailsInside, max_failures, CountsFailure, ReadsAt, CreatesFile, AppendsToFile, RelatesFiles, ReadsFull, PropagatesIoError};
 
 use crate::seed::Seed;
 use std::alloc::{AllocError, AllocFailed};
@@ -20,9 +20,9 @@ pub enum StoreFault {
 
 impl fmt::Display for StoreFault {
     ghost use Rattle.std.specs.Prelude.{Some};
-    ghost use Rattle.base65.specs.StoreFaults.{store_words};
+    ghost use Rattle.base65.specs.StoreFaults.{store_fault_message};
 
-    ghost output = { λ f. Some (store_words f) };
+    ghost output = { λ f. Some (store_fault_message f) };
 
     fn fmt<W: fmt::Write>(&self, f: &mut fmt::Formatter<W>) -> fmt::Result {
         f.write_str(match self {
@@ -51,13 +51,13 @@ impl<T: Drop> From<AllocFailed<T>> for StoreFault {
 
 /// Files by name.
 pub trait Store {
-    /// The contents of the files, if the store tells them.
+    /// The contents of the files, if the store reveals them.
     ghost files: { Self → Option Files };
 
     /// The number of failed calls.
     ghost failures: { Self → ℕ };
 
-    /// The last failed call, if the store tells it.
+    /// The last failed call, if the store reveals it.
     ghost last_failure: { Self → LastFailure };
 
     /// Returns the seed of the hash tables in a run with these files.
@@ -69,7 +69,7 @@ pub trait Store {
     fn read_at(&mut self, name: &str, at: u64, buf: &mut [u8]) -> Result<usize, StoreFault>
         ensures bound { IfOk result (λ n. n ≤ length buf.new) }
         ensures read { IfSome (files self.old) (λ m. ReadsAt (map.get m name.now) at buf.new result) }
-        ensures bytes { IfSome (files self.old) (λ m. HoldsBytes (map.get m name.now) result) }
+        ensures bytes { IfSome (files self.old) (λ m. HasOnlyBytes (map.get m name.now) result) }
         ensures files { files self.new ≡ files self.old }
         ensures count { CountsFailure (failures self.old) (failures self.new) result }
         ensures last_failure { RecordsFailure (λ b. FailedAt b name.now at) (last_failure self.old) (last_failure self.new) result };
@@ -102,7 +102,7 @@ pub fn read_full<S: Store>(
     requires { at + length buf.old < 2 ^ 64 }
     ensures bound { IfOk result (λ n. n ≤ length buf.new) }
     ensures read { IfSome (S.files store.old) (λ m. ReadsFull (map.get m name.now) at buf.new result) }
-    ensures bytes { IfSome (S.files store.old) (λ m. HoldsBytes (map.get m name.now) result) }
+    ensures bytes { IfSome (S.files store.old) (λ m. HasOnlyBytes (map.get m name.now) result) }
     ensures files { S.files store.new ≡ S.files store.old }
     ensures count { PropagatesIoError FileError (S.failures store.old) (S.failures store.new) result }
     ensures last_failure { IsErrOf result FileError → FailedOn (S.last_failure store.new) name.now }

@@ -21,7 +21,7 @@ pub enum Op1 {
     Not,
 }
 
-/// A binary operator. Comparisons and the logical `And`, `Xor` and `Or` give 1 or 0.
+/// A binary operator. Comparisons and the logical `And`, `Xor` and `Or` have the value 1 or 0.
 #[derive(Clone, Copy, Debug)]
 pub enum Op2 {
     Multiply,
@@ -73,7 +73,7 @@ pub fn apply2(op: Op2, a: i64, b: i64) -> Option<i64>
 {
     match op {
         Op2::Divide => divide(a, b),
-        Op2::Modulo => remain(a, b),
+        Op2::Modulo => remainder(a, b),
         Op2::ShiftLeft => shift_left(a, b),
         Op2::ShiftRight => shift_right(a, b),
         Op2::Multiply => Some(a.wrapping_mul(b)),
@@ -104,7 +104,7 @@ fn divide(a: i64, b: i64) -> Option<i64>
     }
 }
 
-fn remain(a: i64, b: i64) -> Option<i64>
+fn remainder(a: i64, b: i64) -> Option<i64>
     ensures { result ≡ unless_zero_divisor int_rem a b }
 {
     if b == 0 {

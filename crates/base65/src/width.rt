@@ -1,6 +1,6 @@
-//! How values are stored.
+//! The formats of stored values.
 
-/// The way in which a value is stored.
+/// The format in which a value is stored.
 #[derive(Clone, Copy)]
 pub enum Width {
     /// One byte, 0 to 255.

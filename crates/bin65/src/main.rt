@@ -8,10 +8,10 @@ use tools65::{DiskStore, Seed, Status, Stream, print, run_with_streams};
 
 /// Runs the program's words as a command. It fails where memory runs out before they are there, or where some word isn't
 /// text.
-fn run_words(rt: &HostRuntime) -> io::Result<Status> {
-    let mut words = Vec::new(rt.alloc());
-    for word in env::args(rt)? {
-        words.push(word)?;
+fn run_args(rt: &HostRuntime) -> io::Result<Status> {
+    let mut arguments = Vec::new(rt.alloc());
+    for argument in env::args(rt)? {
+        arguments.push(argument)?;
     }
     // Without random bytes the seed is that of no number.
     let seed = Seed::random(rt).unwrap_or_default();
@@ -20,7 +20,7 @@ fn run_words(rt: &HostRuntime) -> io::Result<Status> {
     let mut err = rt.stderr();
     Ok(run_with_streams(
         rt.alloc(),
-        words.as_slice(),
+        arguments.as_slice(),
         &mut store,
         &mut Stream::over(&mut out),
         &mut Stream::over(&mut err),
@@ -28,7 +28,7 @@ fn run_words(rt: &HostRuntime) -> io::Result<Status> {
 }
 
 /// Returns the message if no command could be run.
-fn text_of(error: &io::Error) -> &'static [u8] {
+fn error_message(error: &io::Error) -> &'static [u8] {
     match error.kind() {
         ErrorKind::OutOfMemory => b"bin65: Error: out of memory\n",
         _ => b"bin65: Error: bad arguments\n",
@@ -36,11 +36,11 @@ fn text_of(error: &io::Error) -> &'static [u8] {
 }
 
 fn main(rt: HostRuntime) -> ExitCode {
-    match run_words(&rt) {
+    match run_args(&rt) {
         Ok(Status::Success) => ExitCode::SUCCESS,
         Ok(Status::Failure) => ExitCode::FAILURE,
         Err(error) => {
-            print(&mut Stream::over(&mut rt.stderr()), text_of(&error));
+            print(&mut Stream::over(&mut rt.stderr()), error_message(&error));
             ExitCode::FAILURE
         }
     }

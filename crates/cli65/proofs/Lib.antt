@@ -1,5 +1,5 @@
 pub mod Each
 pub mod Rows
 pub mod SmallValues
-pub mod SomeLine
-pub mod Taken
+pub mod LineExistence
+pub mod ClapClauses

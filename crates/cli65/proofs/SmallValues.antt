@@ -10,8 +10,8 @@ use Rattle.clap.specs.Words.{Row, Text}
 use Rattle.base65.specs.Digit.{digits, is_digit}
 use Rattle.base65.specs.Outcome.{◌>>=◌, try_map}
 use Rattle.syntax65.specs.Forms.{plain_number_of}
-use Rattle.cli65.specs.Defining.{Defining, as_value, define_at, define_of, named_in, number_in, valued_in}
-use Rattle.cli65.specs.Line.{Archiving, Assembling, CommandView, all_given, archiving_of, as_archive, as_assemble, assemble, assembling_of, line_of, link, linking_of, command_of_matches, said_by, clap_matches}
+use Rattle.cli65.specs.Defining.{DefineView, as_value, define_at, define_of, checked_name, number_in, checked_number}
+use Rattle.cli65.specs.Line.{ArchiveView, AssembleView, CommandView, argument_values, archive_view_of, as_archive, as_assemble, assemble, assemble_view_of, line_of, link, link_view_of, command_of_matches, subcommand_view, clap_matches}
 use Rattle.cli65.specs.declared.fault.LineFault.{LineFault}
 use Rattle.cli65.specs.declared.fault.LineFault.TheVariants.{BadArguments}
 
@@ -72,10 +72,10 @@ number_small (b ∷ bs) =
 
 -- ---- Constants.
 
-abbrev HasSmall : Defining → Type 0
+abbrev HasSmall : DefineView → Type 0
 HasSmall d = d.value < 2 ^ 32
 
-value_small : (text : Text) → IfOk (valued_in text) IsSmall
+value_small : (text : Text) → IfOk (checked_number text) IsSmall
 value_small text = by (number_in text) (number_small text)
   where
     by : (v : Option ℕ) → IfSome v IsSmall → IfOk (as_value v) IsSmall
@@ -83,10 +83,10 @@ value_small text = by (number_in text) (number_small text)
     by None h = tt
 
 at_small : (text : Text) (offset : Option ℕ) → IfOk (define_at text offset) HasSmall
-at_small text None = then_ok HasSmall (named_in text) _ (λ n. omega arith)
+at_small text None = then_ok HasSmall (checked_name text) _ (λ n. omega arith)
 at_small text (Some i) =
-    then_ok HasSmall (named_in (take i text)) _ (λ n.
-    so_ok IsSmall HasSmall (valued_in (drop (i + 1) text)) _ (value_small (drop (i + 1) text)) (λ v h. h))
+    then_ok HasSmall (checked_name (take i text)) _ (λ n.
+    so_ok IsSmall HasSmall (checked_number (drop (i + 1) text)) _ (value_small (drop (i + 1) text)) (λ v h. h))
 
 define_small : (text : Text) → IfOk (define_of text) HasSmall
 unfolding define_of
@@ -94,26 +94,26 @@ define_small text = at_small text (position (λ b. b == 61) text)
 
 -- ---- Lines.
 
-assembling_small : (rows : List Row) → IfOk (assembling_of rows) (λ a. HasSmallValues (assemble a))
-unfolding assembling_of
+assembling_small : (rows : List Row) → IfOk (assemble_view_of rows) (λ a. HasSmallValues (assemble a))
+unfolding assemble_view_of
 assembling_small rows =
-    so_ok (AllByRecursion HasSmall) (λ (a : Assembling). HasSmallValues (assemble a)) (try_map define_of (all_given (codes "define") rows)) _
-    (each_ok HasSmall define_of define_small (all_given (codes "define") rows)) (λ defines h. h)
+    so_ok (AllByRecursion HasSmall) (λ (a : AssembleView). HasSmallValues (assemble a)) (try_map define_of (argument_values (codes "define") rows)) _
+    (each_ok HasSmall define_of define_small (argument_values (codes "define") rows)) (λ defines h. h)
 
-assemble_small : (r : Result Assembling LineFault) → IfOk r (λ a. HasSmallValues (assemble a)) → IfOk (as_assemble r) HasSmallValues
+assemble_small : (r : Result AssembleView LineFault) → IfOk r (λ a. HasSmallValues (assemble a)) → IfOk (as_assemble r) HasSmallValues
 assemble_small (Ok a) h = h
 assemble_small (Err e) h = tt
 
-archive_small : (r : Result Archiving LineFault) → IfOk (as_archive r) HasSmallValues
+archive_small : (r : Result ArchiveView LineFault) → IfOk (as_archive r) HasSmallValues
 archive_small (Ok a) = tt
 archive_small (Err e) = tt
 
-said_by_small : (name : Text) (rows : List Row) → IfOk (said_by name rows) HasSmallValues
-unfolding said_by
+said_by_small : (name : Text) (rows : List Row) → IfOk (subcommand_view name rows) HasSmallValues
+unfolding subcommand_view
 said_by_small name rows =
-    choice_ok HasSmallValues (bytes_eq name (codes "ca65")) _ _ (assemble_small (assembling_of rows) (assembling_small rows))
-    (choice_ok HasSmallValues (bytes_eq name (codes "ld65")) (Ok (link (linking_of rows))) _ tt
-    (choice_ok HasSmallValues (bytes_eq name (codes "ar65")) _ (Err BadArguments) (archive_small (archiving_of rows)) tt))
+    choice_ok HasSmallValues (bytes_eq name (codes "ca65")) _ _ (assemble_small (assemble_view_of rows) (assembling_small rows))
+    (choice_ok HasSmallValues (bytes_eq name (codes "ld65")) (Ok (link (link_view_of rows))) _ tt
+    (choice_ok HasSmallValues (bytes_eq name (codes "ar65")) _ (Err BadArguments) (archive_small (archive_view_of rows)) tt))
 
 said_small : (found : Option (Text × List Row)) → IfOk (command_of_matches found) HasSmallValues
 said_small None = tt

@@ -9,12 +9,12 @@ abbrev pub of_kind : ErrorKind → LineFault
 of_kind kind.OutOfMemory = OutOfMemory
 of_kind _ = BadArguments
 
--- the faults that the words don't decide
+-- errors that don't depend on the arguments alone: out of memory
 abbrev pub is_system_error : LineFault → Bool
 is_system_error OutOfMemory = true
 is_system_error BadArguments = false
 
--- why a line is refused
-abbrev pub line_words : LineFault → List ℕ
-line_words OutOfMemory = codes "out of memory"
-line_words BadArguments = codes "bad arguments"
+-- the text of an error
+abbrev pub line_fault_text : LineFault → List ℕ
+line_fault_text OutOfMemory = codes "out of memory"
+line_fault_text BadArguments = codes "bad arguments"

@@ -1,14 +1,14 @@
-//! The command that clap reads.
+//! The definition of the command line for `clap`.
 
 ghost use Rattle.std.specs.Prelude.{◌≡◌, IfOk, false};
 ghost use Rattle.clap.specs.Words.{app_of, rule_of};
-ghost use Rattle.cli65.specs.CommandLine.{AddsArgument, IsMade, root_command, bin65, ar65, ca65, ld65};
-ghost use Rattle.cli65.specs.CommandLine.{any_words_rule, flag_rule, option_rule, repeated_option_rule, required_option_rule, word_rule, words_rule};
+ghost use Rattle.cli65.specs.CommandLine.{AddsArgument, RepresentsApp, root_command, bin65, ar65, ca65, ld65};
+ghost use Rattle.cli65.specs.CommandLine.{optional_positionals_rule, flag_rule, option_rule, repeated_option_rule, required_option_rule, positional_rule, required_positionals_rule};
 
 use clap::{Arg, ArgAction, Command};
 use std::alloc::{AllocError, Global};
 
-/// The command with one more argument.
+/// Adds an argument to a command.
 fn with<'a>(command: Command<'a>, arg: Arg<'a>) -> Result<Command<'a>, AllocError>
     requires { arg.global ≡ false }
     ensures { IfOk result (λ c. AddsArgument command.entry (rule_of arg.entry) c) }
@@ -16,7 +16,7 @@ fn with<'a>(command: Command<'a>, arg: Arg<'a>) -> Result<Command<'a>, AllocErro
     command.arg(arg)
 }
 
-/// The command with an option of one value.
+/// Adds an option with one value.
 fn with_option<'a>(
     alloc: Global,
     command: Command<'a>,
@@ -28,7 +28,7 @@ fn with_option<'a>(
     with(command, Arg::new(alloc, id).short(short))
 }
 
-/// The command with an option that has to be there.
+/// Adds a required option with one value.
 fn with_required_option<'a>(
     alloc: Global,
     command: Command<'a>,
@@ -40,7 +40,7 @@ fn with_required_option<'a>(
     with(command, Arg::new(alloc, id).short(short).required(true))
 }
 
-/// The command with an option that may be repeated.
+/// Adds an option with one value that may be repeated.
 fn with_repeated_option<'a>(
     alloc: Global,
     command: Command<'a>,
@@ -55,7 +55,7 @@ fn with_repeated_option<'a>(
     )
 }
 
-/// The command with an option without a value.
+/// Adds an option without a value.
 fn with_flag<'a>(
     alloc: Global,
     command: Command<'a>,
@@ -70,35 +70,35 @@ fn with_flag<'a>(
     )
 }
 
-/// The command with a word that has to be there.
-fn with_word<'a>(
+/// Adds a required positional argument.
+fn with_positional<'a>(
     alloc: Global,
     command: Command<'a>,
     id: &'a str,
 ) -> Result<Command<'a>, AllocError>
-    ensures { IfOk result (λ c. AddsArgument command.entry (word_rule id.entry.now) c) }
+    ensures { IfOk result (λ c. AddsArgument command.entry (positional_rule id.entry.now) c) }
 {
     with(command, Arg::new(alloc, id).required(true))
 }
 
-/// The command with any number of words.
-fn with_any_words<'a>(
+/// Adds a positional argument with any number of values.
+fn with_optional_positionals<'a>(
     alloc: Global,
     command: Command<'a>,
     id: &'a str,
 ) -> Result<Command<'a>, AllocError>
-    ensures { IfOk result (λ c. AddsArgument command.entry (any_words_rule id.entry.now) c) }
+    ensures { IfOk result (λ c. AddsArgument command.entry (optional_positionals_rule id.entry.now) c) }
 {
     with(command, Arg::new(alloc, id).action(ArgAction::Append))
 }
 
-/// The command with words of which there has to be one.
-fn with_words<'a>(
+/// Adds a positional argument with one or more values.
+fn with_required_positionals<'a>(
     alloc: Global,
     command: Command<'a>,
     id: &'a str,
 ) -> Result<Command<'a>, AllocError>
-    ensures { IfOk result (λ c. AddsArgument command.entry (words_rule id.entry.now) c) }
+    ensures { IfOk result (λ c. AddsArgument command.entry (required_positionals_rule id.entry.now) c) }
 {
     with(
         command,
@@ -106,38 +106,42 @@ fn with_words<'a>(
     )
 }
 
+/// Builds the subcommand of the assembler:
 /// `ca65 [-o FILE] [-I DIR].. [-D NAME[=NUMBER]].. [-g] SOURCE`
 fn ca65<'a>(alloc: Global) -> Result<Command<'a>, AllocError>
-    ensures { IfOk result (λ c. IsMade ca65 c) }
+    ensures { IfOk result (λ c. RepresentsApp ca65 c) }
 {
     let command = with_option(alloc, Command::new(alloc, "ca65"), "output", 'o')?;
     let command = with_repeated_option(alloc, command, "include", 'I')?;
     let command = with_repeated_option(alloc, command, "define", 'D')?;
     let command = with_flag(alloc, command, "debug", 'g')?;
-    with_word(alloc, command, "source")
+    with_positional(alloc, command, "source")
 }
 
+/// Builds the subcommand of the linker:
 /// `ld65 -C SCRIPT [-o FILE] [-m MAP] INPUT..`
 fn ld65<'a>(alloc: Global) -> Result<Command<'a>, AllocError>
-    ensures { IfOk result (λ c. IsMade ld65 c) }
+    ensures { IfOk result (λ c. RepresentsApp ld65 c) }
 {
     let command = with_required_option(alloc, Command::new(alloc, "ld65"), "script", 'C')?;
     let command = with_option(alloc, command, "output", 'o')?;
     let command = with_option(alloc, command, "map", 'm')?;
-    with_words(alloc, command, "input")
+    with_required_positionals(alloc, command, "input")
 }
 
+/// Builds the subcommand of the librarian:
 /// `ar65 OP LIBRARY [FILE]..`
 fn ar65<'a>(alloc: Global) -> Result<Command<'a>, AllocError>
-    ensures { IfOk result (λ c. IsMade ar65 c) }
+    ensures { IfOk result (λ c. RepresentsApp ar65 c) }
 {
-    let command = with_word(alloc, Command::new(alloc, "ar65"), "operation")?;
-    let command = with_word(alloc, command, "library")?;
-    with_any_words(alloc, command, "file")
+    let command = with_positional(alloc, Command::new(alloc, "ar65"), "operation")?;
+    let command = with_positional(alloc, command, "library")?;
+    with_optional_positionals(alloc, command, "file")
 }
 
-/// The program's own part.
-fn named<'a>(alloc: Global) -> Command<'a>
+/// Builds the command `bin65` without its subcommands. It
+/// requires one, and has no help.
+fn command_without_subcommands<'a>(alloc: Global) -> Command<'a>
     ensures { app_of result ≡ root_command }
 {
     Command::new(alloc, "bin65")
@@ -146,14 +150,14 @@ fn named<'a>(alloc: Global) -> Command<'a>
         .subcommand_required(true)
 }
 
-/// The whole command.
+/// Builds the command `bin65` with all subcommands.
 pub fn command<'a>(alloc: Global) -> Result<Command<'a>, AllocError>
     ensures app { IfOk result (λ c. app_of c ≡ bin65) }
 {
     let assemble = ca65(alloc)?;
     let link = ld65(alloc)?;
     let archive = ar65(alloc)?;
-    named(alloc)
+    command_without_subcommands(alloc)
         .subcommand(assemble)?
         .subcommand(link)?
         .subcommand(archive)

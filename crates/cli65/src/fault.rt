@@ -1,4 +1,4 @@
-//! Why a command line is refused.
+//! The errors of command lines.
 
 ghost use Rattle.std.specs.Prelude.{◌≡◌, Some};
 ghost use Rattle.cli65.specs.declared.fault.LineFault.TheVariants.{OutOfMemory};
@@ -7,7 +7,7 @@ use clap::error::ErrorKind;
 use std::alloc::{AllocError, AllocFailed};
 use std::fmt;
 
-/// Why a command line is refused.
+/// An error of a command line.
 #[derive(Clone, Copy)]
 pub enum LineFault {
     OutOfMemory = 1,
@@ -16,9 +16,9 @@ pub enum LineFault {
 
 impl fmt::Display for LineFault {
     ghost use Rattle.std.specs.Prelude.{Some};
-    ghost use Rattle.cli65.specs.LineFaults.{line_words};
+    ghost use Rattle.cli65.specs.LineFaults.{line_fault_text};
 
-    ghost output = { λ f. Some (line_words f) };
+    ghost output = { λ f. Some (line_fault_text f) };
 
     fn fmt<W: fmt::Write>(&self, f: &mut fmt::Formatter<W>) -> fmt::Result {
         f.write_str(match self {

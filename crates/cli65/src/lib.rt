@@ -1,5 +1,4 @@
-//! The command line: the line that words are, by what `clap` states of the command, or why they are none; and the
-//! texts that commands print.
+//! Parses command lines with `clap`, and formats the messages of the commands.
 #![tactic(auto)]
 
 mod commands;

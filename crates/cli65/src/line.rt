@@ -5,17 +5,17 @@ use base65::ListVec;
 /// `ld65 -C SCRIPT [-o FILE] [-m MAP] INPUT..`
 #[derive(Drop)]
 pub struct LinkArgs<'a> {
-    /// The script's file.
+    /// The script file.
     pub script: &'a str,
-    /// The output, where one is named.
+    /// The output file, if one is named.
     pub output: Option<&'a str>,
-    /// The map's file, where one is named.
+    /// The map file, if one is named.
     pub map: Option<&'a str>,
-    /// The inputs' files, in order.
+    /// The input files, in order.
     pub inputs: ListVec<&'a str>,
 }
 
-/// A constant that a line defines for the source.
+/// A constant that the command line defines for the source.
 #[derive(Clone, Copy, Drop)]
 pub struct Define<'a> {
     pub name: &'a [u8],
@@ -25,26 +25,27 @@ pub struct Define<'a> {
 /// `ca65 [-o FILE] [-I DIR].. [-D NAME[=NUMBER]].. [-g] SOURCE`
 #[derive(Drop)]
 pub struct AssembleArgs<'a> {
-    /// The output, where one is named.
+    /// The output file, if one is named.
     pub output: Option<&'a str>,
-    /// The folders in which includes are looked for, in order.
+    /// The folders that are searched for included files, in order.
     pub include: ListVec<&'a str>,
     /// The constants that are defined, in order.
     pub defines: ListVec<Define<'a>>,
-    /// The source's file.
+    /// The source file.
     pub source: &'a str,
 }
 
 /// The operation on a library.
 #[derive(Clone, Copy)]
 pub enum Operation {
-    /// `r`: objects are put in, each in the place of the member of its name, or else last.
+    /// `r`: adds objects, each in place of the member with its name, or else as the last
+    /// member.
     Replace,
-    /// `d`: members are taken out.
+    /// `d`: removes members.
     Delete,
-    /// `t`: the members' names are listed.
+    /// `t`: lists the names of the members.
     List,
-    /// `x`: members are written to files.
+    /// `x`: writes members to files.
     Extract,
 }
 
@@ -52,9 +53,9 @@ pub enum Operation {
 #[derive(Drop)]
 pub struct ArchiveArgs<'a> {
     pub operation: Operation,
-    /// The library's file.
+    /// The library file.
     pub library: &'a str,
-    /// The files of objects, or for members, in order.
+    /// The object files to add, or the names of members, in order.
     pub files: ListVec<&'a str>,
 }
 

@@ -1,40 +1,40 @@
-//! The texts that are printed.
+//! Formats the messages that are printed.
 
 ghost use Rattle.std.specs.Prelude.{◌≡◌, ◌<◌, IfOk, Some};
-ghost use Rattle.cli65.specs.Messages.{file_message, line_message, line_message_of};
+ghost use Rattle.cli65.specs.Messages.{file_message, line_message, arguments_error_message};
 
 use crate::fault::LineFault;
 use base65::{ListVec, join};
 use itoa::Buffer;
 use std::alloc::{AllocError, Global};
 
-/// `name: Error: message`
-pub fn file_message(alloc: Global, name: &[u8], message: &[u8]) -> Result<ListVec<u8>, AllocError>
-    ensures { IfOk result (λ text. text ≡ file_message name.now message.now) }
+/// Formats the message `name: Error: text`.
+pub fn file_message(alloc: Global, name: &[u8], text: &[u8]) -> Result<ListVec<u8>, AllocError>
+    ensures { IfOk result (λ message. message ≡ file_message name.now text.now) }
 {
-    join(alloc, &[name, b": Error: ", message, b"\n"])
+    join(alloc, &[name, b": Error: ", text, b"\n"])
 }
 
-/// `name:line: Error: message`
+/// Formats the message `name:line: Error: text`.
 pub fn line_message(
     alloc: Global,
     name: &[u8],
     line: usize,
-    message: &[u8],
+    text: &[u8],
 ) -> Result<ListVec<u8>, AllocError>
-    ensures { IfOk result (λ text. text ≡ line_message name.now line message.now) }
+    ensures { IfOk result (λ message. message ≡ line_message name.now line text.now) }
 {
     let mut buffer = Buffer::new();
     let number = buffer.format(line);
     join(
         alloc,
-        &[name, b":", number.as_bytes(), b": Error: ", message, b"\n"],
+        &[name, b":", number.as_bytes(), b": Error: ", text, b"\n"],
     )
 }
 
-/// Why words are no line, as it is printed.
+/// Returns the message of an error of a command line.
 pub fn fault_message(fault: LineFault) -> &'static [u8]
-    ensures { result.now ≡ line_message_of fault }
+    ensures { result.now ≡ arguments_error_message fault }
 {
     match fault {
         LineFault::OutOfMemory => b"bin65: Error: out of memory\n",

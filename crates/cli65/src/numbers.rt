@@ -1,11 +1,12 @@
-//! The value of a number, as a source may spell it.
+//! Parses numbers as in sources.
 
 ghost use Rattle.std.specs.Prelude.{◌≡◌};
 ghost use Rattle.cli65.specs.Defining.{number_in};
 
 use base65::digits;
 
-/// The value of a number's text, if it is one. Behind a decimal digit there are hex digits and `h`, or decimal digits.
+/// Parses a number: `$` and hex digits, `%` and binary digits, decimal digits, or hex digits and `h` with a
+/// decimal digit first. Returns nothing for other text, and for values of 2 ^ 32 or more.
 #[tactic(auto, unfolding(crate::specs::Defining::number_in))]
 pub fn number_in(text: &[u8]) -> Option<u32>
     ensures { result ≡ number_in text.now }

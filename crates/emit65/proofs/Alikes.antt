@@ -8,17 +8,17 @@ use Rattle.object65.specs.declared.object.Fragment.TheVariants.{Literal, Fill}
 use Rattle.syntax65.specs.declared.source_location.SourceLocation.{SourceLocation}
 use Rattle.object65.specs.declared.object.Object.{Object}
 use Rattle.object65.specs.declared.object.Origin.{Origin}
-use Rattle.semantics65.specs.Contents.{Content, Part, Known, Filled, Declaration, section_part}
+use Rattle.semantics65.specs.Contents.{Content, Part, Known, ReservedBytes, Declaration, section_part}
 use Rattle.semantics65.specs.declared.contents.Segment.{Segment}
-use Rattle.semantics65.specs.Numbering.{all_joined, all_said, assert_files, assert_of, content_imports, export_files, export_of, fragments_of, import_keys, in_files, merged_fragments, name_of, names_once, distinct_keys, part_files, part_imports, parts_in, section_of, segment_name, segment_power}
-use Rattle.emit65.specs.SectionContents.{AreAlike}
+use Rattle.semantics65.specs.Numbering.{merged_neighbours, all_declarations, assert_files, assert_of, content_imports, export_files, export_of, fragments_of, import_keys, origin_in_files, merged_fragments, name_of, distinct_names, distinct_keys, part_files, part_imports, parts_in, section_of, segment_name, segment_power}
+use Rattle.emit65.specs.SectionContents.{AreEquivalentContents}
 
 -- ---- An equivalence.
 
-pub alike_same : (cs : List Content) → AreAlike cs cs
+pub alike_same : (cs : List Content) → AreEquivalentContents cs cs
 alike_same cs = record { imports = λ names. refl; parts = λ at s i g before following. refl; files = λ g. refl; said = refl }
 
-pub alike_trans : (cs ds es : List Content) → AreAlike cs ds → AreAlike ds es → AreAlike cs es
+pub alike_trans : (cs ds es : List Content) → AreEquivalentContents cs ds → AreEquivalentContents ds es → AreEquivalentContents cs es
 alike_trans cs ds es h k = record {
   imports = λ names. h.imports names ∙ k.imports names;
   parts = λ at s i g before following. h.parts at s i g before following ∙ k.parts at s i g before following;
@@ -26,7 +26,7 @@ alike_trans cs ds es h k = record {
   said = h.said ∙ k.said;
 }
 
-pub alike_sym : (cs ds : List Content) → AreAlike cs ds → AreAlike ds cs
+pub alike_sym : (cs ds : List Content) → AreEquivalentContents cs ds → AreEquivalentContents ds cs
 alike_sym cs ds h = record {
   imports = λ names. sym (h.imports names);
   parts = λ at s i g before following. sym (h.parts at s i g before following);
@@ -58,7 +58,7 @@ module _ (at : SourceLocation → Origin) (s i : List ℕ) where
   pub placed_more : (cs ds : List Content) (g : ℕ) → placed (cs ++ ds) g ≡ placed cs g ++ placed ds g
   placed_more cs ds g = ap (fragments_of at s i) (parts_more cs ds g) ∙ fragments_more (parts_in cs g) (parts_in ds g)
 
-pub alike_front : (cs ds es : List Content) → AreAlike cs ds → AreAlike (cs ++ es) (ds ++ es)
+pub alike_front : (cs ds es : List Content) → AreEquivalentContents cs ds → AreEquivalentContents (cs ++ es) (ds ++ es)
 alike_front cs ds es h = record {
   imports = λ names.
       flat_map-append (content_imports names) cs es
@@ -68,16 +68,16 @@ alike_front cs ds es h = record {
       split at s i g before following cs ∙ h.parts at s i g before (placed at s i es g ++ following) ∙ sym (split at s i g before following ds);
   files = λ g. files_more cs es g ∙ ap (λ fs. fs ++ files_in es g) (h.files g) ∙ sym (files_more ds es g);
   said =
-      flat_map-append (λ (c : Content). c.said) cs es ∙ ap (λ ss. ss ++ all_said es) h.said
+      flat_map-append (λ (c : Content). c.said) cs es ∙ ap (λ ss. ss ++ all_declarations es) h.said
       ∙ sym (flat_map-append (λ (c : Content). c.said) ds es);
 }
   where
-    split : (at : SourceLocation → Origin) (s i : List ℕ) (g : ℕ) (before following : List Fragment) (xs : List Content) → all_joined (before ++ (placed at s i (xs ++ es) g ++ following)) ≡ all_joined (before ++ (placed at s i xs g ++ (placed at s i es g ++ following)))
+    split : (at : SourceLocation → Origin) (s i : List ℕ) (g : ℕ) (before following : List Fragment) (xs : List Content) → merged_neighbours (before ++ (placed at s i (xs ++ es) g ++ following)) ≡ merged_neighbours (before ++ (placed at s i xs g ++ (placed at s i es g ++ following)))
     split at s i g before following xs =
-        ap (λ fs. all_joined (before ++ (fs ++ following))) (placed_more at s i xs es g)
-        ∙ ap (λ fs. all_joined (before ++ fs)) (append_assoc (placed at s i xs g) (placed at s i es g) following)
+        ap (λ fs. merged_neighbours (before ++ (fs ++ following))) (placed_more at s i xs es g)
+        ∙ ap (λ fs. merged_neighbours (before ++ fs)) (append_assoc (placed at s i xs g) (placed at s i es g) following)
 
-pub alike_back : (es cs ds : List Content) → AreAlike cs ds → AreAlike (es ++ cs) (es ++ ds)
+pub alike_back : (es cs ds : List Content) → AreEquivalentContents cs ds → AreEquivalentContents (es ++ cs) (es ++ ds)
 alike_back es cs ds h = record {
   imports = λ names.
       flat_map-append (content_imports names) es cs
@@ -87,18 +87,18 @@ alike_back es cs ds h = record {
       split at s i g before following cs ∙ h.parts at s i g (before ++ placed at s i es g) following ∙ sym (split at s i g before following ds);
   files = λ g. files_more es cs g ∙ ap (λ fs. files_in es g ++ fs) (h.files g) ∙ sym (files_more es ds g);
   said =
-      flat_map-append (λ (c : Content). c.said) es cs ∙ ap (λ ss. all_said es ++ ss) h.said
+      flat_map-append (λ (c : Content). c.said) es cs ∙ ap (λ ss. all_declarations es ++ ss) h.said
       ∙ sym (flat_map-append (λ (c : Content). c.said) es ds);
 }
   where
-    split : (at : SourceLocation → Origin) (s i : List ℕ) (g : ℕ) (before following : List Fragment) (xs : List Content) → all_joined (before ++ (placed at s i (es ++ xs) g ++ following)) ≡ all_joined ((before ++ placed at s i es g) ++ (placed at s i xs g ++ following))
+    split : (at : SourceLocation → Origin) (s i : List ℕ) (g : ℕ) (before following : List Fragment) (xs : List Content) → merged_neighbours (before ++ (placed at s i (es ++ xs) g ++ following)) ≡ merged_neighbours ((before ++ placed at s i es g) ++ (placed at s i xs g ++ following))
     split at s i g before following xs =
-        ap (λ fs. all_joined (before ++ (fs ++ following))) (placed_more at s i es xs g)
-        ∙ ap (λ fs. all_joined (before ++ fs)) (append_assoc (placed at s i es g) (placed at s i xs g) following)
-        ∙ ap all_joined (sym (append_assoc before (placed at s i es g) (placed at s i xs g ++ following)))
+        ap (λ fs. merged_neighbours (before ++ (fs ++ following))) (placed_more at s i es xs g)
+        ∙ ap (λ fs. merged_neighbours (before ++ fs)) (append_assoc (placed at s i es g) (placed at s i xs g) following)
+        ∙ ap merged_neighbours (sym (append_assoc before (placed at s i es g) (placed at s i xs g ++ following)))
 
 -- contents that are fed behind those of which others make no difference
-pub alike_nothing : (cs es : List Content) → AreAlike es [] → AreAlike (cs ++ es) cs
+pub alike_nothing : (cs es : List Content) → AreEquivalentContents es [] → AreEquivalentContents (cs ++ es) cs
 alike_nothing cs es h = alike_trans (cs ++ es) (cs ++ []) cs (alike_back cs es [] h) (rw (append-nil cs) (alike_same cs))
 
 -- ---- Neighbours that are joined.
@@ -109,7 +109,7 @@ literals_join x (y ∷ before) following a b =
     let again : (f : Fragment) → merged_fragments f (before ++ (Literal a ∷ Literal b ∷ following)) ≡ merged_fragments f (before ++ (Literal (a ++ b) ∷ following)) = λ f. literals_join f before following a b in
     grind (arith, common_steps, again)
 
-all_literals_join : (before following : List Fragment) (a b : List ℕ) → all_joined (before ++ (Literal a ∷ Literal b ∷ following)) ≡ all_joined (before ++ (Literal (a ++ b) ∷ following))
+all_literals_join : (before following : List Fragment) (a b : List ℕ) → merged_neighbours (before ++ (Literal a ∷ Literal b ∷ following)) ≡ merged_neighbours (before ++ (Literal (a ++ b) ∷ following))
 all_literals_join [] following a b = refl
 all_literals_join (f ∷ before) following a b = literals_join f before following a b
 
@@ -119,48 +119,48 @@ fills_join x (y ∷ before) following a b =
     let again : (f : Fragment) → merged_fragments f (before ++ (Fill a ∷ Fill b ∷ following)) ≡ merged_fragments f (before ++ (Fill (a + b) ∷ following)) = λ f. fills_join f before following a b in
     grind (arith, common_steps, again)
 
-all_fills_join : (before following : List Fragment) (a b : ℕ) → all_joined (before ++ (Fill a ∷ Fill b ∷ following)) ≡ all_joined (before ++ (Fill (a + b) ∷ following))
+all_fills_join : (before following : List Fragment) (a b : ℕ) → merged_neighbours (before ++ (Fill a ∷ Fill b ∷ following)) ≡ merged_neighbours (before ++ (Fill (a + b) ∷ following))
 all_fills_join [] following a b = refl
 all_fills_join (f ∷ before) following a b = fills_join f before following a b
 
 -- contents of bytes alone, or of room alone, which come to the same fragments in their segment
-unnamed_alike : (g : ℕ) (p q r : Part) → part_imports p ≡ [] → part_imports q ≡ [] → part_imports r ≡ [] → part_files p ≡ [] → part_files q ≡ [] → part_files r ≡ [] → ((at : SourceLocation → Origin) (s i : List ℕ) (before following : List Fragment) → all_joined (before ++ (fragments_of at s i (p ∷ q ∷ []) ++ following)) ≡ all_joined (before ++ (fragments_of at s i (r ∷ []) ++ following))) → AreAlike (section_part g p ∷ section_part g q ∷ []) (section_part g r ∷ [])
+unnamed_alike : (g : ℕ) (p q r : Part) → part_imports p ≡ [] → part_imports q ≡ [] → part_imports r ≡ [] → part_files p ≡ [] → part_files q ≡ [] → part_files r ≡ [] → ((at : SourceLocation → Origin) (s i : List ℕ) (before following : List Fragment) → merged_neighbours (before ++ (fragments_of at s i (p ∷ q ∷ []) ++ following)) ≡ merged_neighbours (before ++ (fragments_of at s i (r ∷ []) ++ following))) → AreEquivalentContents (section_part g p ∷ section_part g q ∷ []) (section_part g r ∷ [])
 unnamed_alike g p q r no_p no_q no_r none_p none_q none_r same = grind (arith, common_steps)
 
-pub bytes_alike : (g : ℕ) (a b : List ℕ) → AreAlike (section_part g (Known a) ∷ section_part g (Known b) ∷ []) (section_part g (Known (a ++ b)) ∷ [])
+pub bytes_alike : (g : ℕ) (a b : List ℕ) → AreEquivalentContents (section_part g (Known a) ∷ section_part g (Known b) ∷ []) (section_part g (Known (a ++ b)) ∷ [])
 bytes_alike g a b = grind (arith, common_steps, unnamed_alike, append-nil, all_literals_join)
 
-room_is : (at : SourceLocation → Origin) (s i : List ℕ) (before following : List Fragment) (k j : ℕ) → k ≡ suc j → all_joined (before ++ (Fill k ∷ following)) ≡ all_joined (before ++ (fragments_of at s i (Filled k ∷ []) ++ following))
+room_is : (at : SourceLocation → Origin) (s i : List ℕ) (before following : List Fragment) (k j : ℕ) → k ≡ suc j → merged_neighbours (before ++ (Fill k ∷ following)) ≡ merged_neighbours (before ++ (fragments_of at s i (ReservedBytes k ∷ []) ++ following))
 room_is at s i before following k j e = rw e refl
 
-pub room_alike : (g m n : ℕ) → AreAlike (section_part g (Filled m) ∷ section_part g (Filled n) ∷ []) (section_part g (Filled (m + n)) ∷ [])
+pub room_alike : (g m n : ℕ) → AreEquivalentContents (section_part g (ReservedBytes m) ∷ section_part g (ReservedBytes n) ∷ []) (section_part g (ReservedBytes (m + n)) ∷ [])
 room_alike g m n = grind (arith, common_steps, unnamed_alike, all_fills_join, room_is)
 
 -- ---- What makes no difference.
 
 -- a content that holds nothing
-pub empty_alike : (g : ℕ) (asks : Bool) → AreAlike (record { segment = g; asks = asks; parts = []; said = [] } ∷ []) []
+pub empty_alike : (g : ℕ) (asks : Bool) → AreEquivalentContents (record { segment = g; requests_section = asks; parts = []; said = [] } ∷ []) []
 empty_alike g asks = grind (arith, common_steps)
 
 -- a part of no byte
-empty_part : (g : ℕ) (p : Part) → part_imports p ≡ [] → part_files p ≡ [] → ((at : SourceLocation → Origin) (s i : List ℕ) → fragments_of at s i (p ∷ []) ≡ []) → AreAlike (section_part g p ∷ []) []
+empty_part : (g : ℕ) (p : Part) → part_imports p ≡ [] → part_files p ≡ [] → ((at : SourceLocation → Origin) (s i : List ℕ) → fragments_of at s i (p ∷ []) ≡ []) → AreEquivalentContents (section_part g p ∷ []) []
 empty_part g p no_imports no_files nothing = grind (arith, common_steps)
 
-pub no_bytes_alike : (g : ℕ) → AreAlike (section_part g (Known []) ∷ []) []
+pub no_bytes_alike : (g : ℕ) → AreEquivalentContents (section_part g (Known []) ∷ []) []
 no_bytes_alike g = empty_part g (Known []) refl refl (λ at s i. refl)
 
-pub no_room_alike : (g : ℕ) → AreAlike (section_part g (Filled 0) ∷ []) []
-no_room_alike g = empty_part g (Filled 0) refl refl (λ at s i. refl)
+pub no_room_alike : (g : ℕ) → AreEquivalentContents (section_part g (ReservedBytes 0) ∷ []) []
+no_room_alike g = empty_part g (ReservedBytes 0) refl refl (λ at s i. refl)
 
 -- ---- One object.
 
 -- the files that contents name, with sections of these segments
 abbrev pub files_named_by : List ℕ → List Content → List (List ℕ)
 files_named_by sections cs = flat_map (λ g. flat_map part_files (parts_in cs g)) sections
-    ++ flat_map export_files (all_said cs) ++ flat_map assert_files (all_said cs)
+    ++ flat_map export_files (all_declarations cs) ++ flat_map assert_files (all_declarations cs)
 
 abbrev pub files_by : List ℕ → List Content → List (List ℕ)
-files_by sections cs = names_once [] (files_named_by sections cs)
+files_by sections cs = distinct_names [] (files_named_by sections cs)
 
 -- the object of contents with sections of these segments
 abbrev pub object_over : List Segment → List (List ℕ) → List ℕ → List Content → Object
@@ -171,13 +171,13 @@ object_over segments names sections cs =
       version = 2;
       files = files;
       imports = map (name_of names) imports;
-      sections = map (section_of (in_files files) segments sections imports cs) sections;
-      exports = filter_map (export_of (in_files files) sections imports) (all_said cs);
-      asserts = filter_map (assert_of (in_files files) sections imports) (all_said cs);
+      sections = map (section_of (origin_in_files files) segments sections imports cs) sections;
+      exports = filter_map (export_of (origin_in_files files) sections imports) (all_declarations cs);
+      asserts = filter_map (assert_of (origin_in_files files) sections imports) (all_declarations cs);
     }
 
-pub same_object : (segments : List Segment) (names : List (List ℕ)) (s : List ℕ) (cs ds : List Content) → AreAlike cs ds → object_over segments names s cs ≡ object_over segments names s ds
-same_object segments names s cs ds h = λ n. made (numbers n) (files n) (λ g. fragments (in_files (files n)) (numbers n) g n) (h.said n)
+pub same_object : (segments : List Segment) (names : List (List ℕ)) (s : List ℕ) (cs ds : List Content) → AreEquivalentContents cs ds → object_over segments names s cs ≡ object_over segments names s ds
+same_object segments names s cs ds h = λ n. made (numbers n) (files n) (λ g. fragments (origin_in_files (files n)) (numbers n) g n) (h.said n)
   where
     numbers : import_keys names cs ≡ import_keys names ds
     numbers = ap (distinct_keys []) (h.imports names)
@@ -187,11 +187,11 @@ same_object segments names s cs ds h = λ n. made (numbers n) (files n) (λ g. f
     sections_files (g ∷ keys) = λ n. h.files g n ++ sections_files keys n
 
     files : files_by s cs ≡ files_by s ds
-    files = λ n. names_once [] (sections_files s n ++ flat_map export_files (h.said n) ++ flat_map assert_files (h.said n))
+    files = λ n. distinct_names [] (sections_files s n ++ flat_map export_files (h.said n) ++ flat_map assert_files (h.said n))
 
-    fragments : (at : SourceLocation → Origin) (i : List ℕ) (g : ℕ) → all_joined (placed at s i cs g) ≡ all_joined (placed at s i ds g)
+    fragments : (at : SourceLocation → Origin) (i : List ℕ) (g : ℕ) → merged_neighbours (placed at s i cs g) ≡ merged_neighbours (placed at s i ds g)
     fragments at i g =
-        ap all_joined (sym (append-nil (placed at s i cs g))) ∙ h.parts at s i g [] [] ∙ ap all_joined (append-nil (placed at s i ds g))
+        ap merged_neighbours (sym (append-nil (placed at s i cs g))) ∙ h.parts at s i g [] [] ∙ ap merged_neighbours (append-nil (placed at s i ds g))
 
     made : List ℕ → List (List ℕ) → (ℕ → List Fragment) → List Declaration → Object
     made i files fragments ss = record {
@@ -199,6 +199,6 @@ same_object segments names s cs ds h = λ n. made (numbers n) (files n) (λ g. f
       files = files;
       imports = map (name_of names) i;
       sections = map (λ g. record { name = segment_name (slice_get segments g); align = segment_power (slice_get segments g); fragments = fragments g }) s;
-      exports = filter_map (export_of (in_files files) s i) ss;
-      asserts = filter_map (assert_of (in_files files) s i) ss;
+      exports = filter_map (export_of (origin_in_files files) s i) ss;
+      asserts = filter_map (assert_of (origin_in_files files) s i) ss;
     }

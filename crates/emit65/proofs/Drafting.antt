@@ -8,7 +8,7 @@ use Rattle.std.proofs.lemmas.List.{map-id}
 use Rattle.std.proofs.lemmas.Map.Keys.{IsDistinct-head, IsDistinct-tail}
 use Rattle.emit65.specs.declared.entries.SectionEntry.{SectionEntry}
 use Rattle.emit65.specs.declared.numbering.drafts.SectionDraft.{SectionDraft}
-use Rattle.emit65.specs.Internal.Drafts.{draft_of, is_segment, put_in, segment_of, with_entry}
+use Rattle.emit65.specs.Internal.Drafts.{draft_of, is_segment, entries_in, segment_of, with_entry}
 
 -- ---- One item of a list in which each has a key of its own.
 
@@ -33,13 +33,13 @@ at_length key g h [] i d e at distinct is new = refl
 at_length key g h (x ∷ ds) zero d e at distinct is new = by (nat_eq g (key x)) refl at
   where
     by : (b : Bool) → nat_eq g (key x) ≡ b → 0 ≡ cond (not b) (1 + position_or_len (nat_eq g) (map key ds)) 0 → e ∷ ds ≡ map (changed key g h) (x ∷ ds)
-    by true eq place = let same : g ≡ key x = grind (arith, nat_tests) in rw (eq, others_stay key g (key x) h ds same (IsDistinct-head nat_eq (key x) (map key ds) distinct), new, is) refl
-    by false eq place = absurd (omega (arith, place))
-at_length key g h (x ∷ ds) (suc i) d e at distinct is new = by (nat_eq g (key x)) refl at (λ place. at_length key g h ds i d e place (IsDistinct-tail nat_eq (key x) (map key ds) distinct) is new)
+    by true eq index = let same : g ≡ key x = grind (arith, nat_tests) in rw (eq, others_stay key g (key x) h ds same (IsDistinct-head nat_eq (key x) (map key ds) distinct), new, is) refl
+    by false eq index = absurd (omega (arith, index))
+at_length key g h (x ∷ ds) (suc i) d e at distinct is new = by (nat_eq g (key x)) refl at (λ index. at_length key g h ds i d e index (IsDistinct-tail nat_eq (key x) (map key ds) distinct) is new)
   where
     by : (b : Bool) → nat_eq g (key x) ≡ b → suc i ≡ cond (not b) (1 + position_or_len (nat_eq g) (map key ds)) 0 → (i ≡ position_or_len (nat_eq g) (map key ds) → slice_set ds i e ≡ map (changed key g h) ds) → x ∷ slice_set ds i e ≡ map (changed key g h) (x ∷ ds)
-    by true eq place again = absurd (omega (arith, place))
-    by false eq place again = let next : i ≡ position_or_len (nat_eq g) (map key ds) = omega (arith, place) in rw (eq, again next) refl
+    by true eq index again = absurd (omega (arith, index))
+    by false eq index again = let next : i ≡ position_or_len (nat_eq g) (map key ds) = omega (arith, index) in rw (eq, again next) refl
 
 pub one_changed : {A : Type 0} (key : A → ℕ) (g : ℕ) (h : A → A) (keys : List ℕ) (ds : List A) (i : ℕ) (d e : A) → map key ds ≡ keys → IsDistinct nat_eq keys → Some i ≡ position (nat_eq g) keys → d ≡ get_or ds i d → e ≡ h d → slice_set ds i e ≡ map (changed key g h) ds
 one_changed key g h keys ds i d e same distinct at is new = grind (arith, common_steps, at_length, position_is)
@@ -71,7 +71,7 @@ segments_begin (k ∷ keys) = ap (λ ks. k ∷ ks) (segments_begin keys)
 -- ---- Drafts behind all entries.
 
 abbrev pub following : List SectionEntry → SectionDraft → SectionDraft
-following es d = record d { entries = d.entries ++ put_in d.segment es }
+following es d = record d { entries = d.entries ++ entries_in d.segment es }
 
 after_entry : (e : SectionEntry) (es : List SectionEntry) (d : SectionDraft) → following es (with_entry e d) ≡ following (e ∷ es) d
 after_entry e es d = grind (arith, common_steps)

@@ -10,10 +10,10 @@ use Rattle.syntax65.specs.declared.source_location.SourceLocation.{SourceLocatio
 use Rattle.object65.specs.declared.object.Origin.{Origin}
 use Rattle.object65.specs.declared.object.Fragment.{Fragment}
 use Rattle.object65.specs.declared.object.Fragment.TheVariants.{Literal, Fill}
-use Rattle.object65.specs.Objects.{are_apart, fragment_len, is_well_formed_fragment, is_well_formed_section, joins, section_limit}
+use Rattle.object65.specs.Objects.{are_all_merged, fragment_len, is_well_formed_fragment, is_well_formed_section, can_merge, section_limit}
 use Rattle.semantics65.specs.Contents.{Content, Part}
 use Rattle.semantics65.specs.declared.contents.Segment.{Segment}
-use Rattle.semantics65.specs.Numbering.{all_joined, content_imports, fragment_of, fragments_of, is_empty, merged_fragments, part_imports, parts_in, said_imports, section_of, segment_power, IsSoundContent, IsSoundPart, part_len}
+use Rattle.semantics65.specs.Numbering.{merged_neighbours, content_imports, fragment_of, fragments_of, is_empty, merged_fragments, part_imports, parts_in, declaration_imports, section_of, segment_power, IsWellFormedContent, IsWellFormedPart, part_len}
 use Rattle.emit65.proofs.Renumbering.{HasAll, first_has, good_form, left, right, and, same_literal, second_has}
 
 -- ---- Neighbours that are joined.
@@ -51,23 +51,23 @@ joined_len (Fill m) (Fill n ∷ fs) =
     omega (arith, again, more)
 joined_len f (g ∷ fs) = sum_by-cons fragment_len f (merged_fragments g fs) ∙ ap (λ n. fragment_len f + n) (joined_len g fs ∙ sym (sum_by-cons fragment_len g fs))
 
-literals_alike : (f : Fragment) (a b : List ℕ) → joins f (Literal a) ≡ joins f (Literal b)
+literals_alike : (f : Fragment) (a b : List ℕ) → can_merge f (Literal a) ≡ can_merge f (Literal b)
 literals_alike x a b = grind (arith, common_steps)
 
-fills_alike : (f : Fragment) (m n : ℕ) → joins f (Fill m) ≡ joins f (Fill n)
+fills_alike : (f : Fragment) (m n : ℕ) → can_merge f (Fill m) ≡ can_merge f (Fill n)
 fills_alike x m n = grind (arith, common_steps)
 
 -- a fragment in front of joined ones, which doesn't join the first of them
-pub front_apart : (f g : Fragment) (fs : List Fragment) → joins f g ≡ false → are_apart (merged_fragments g fs) ≡ true → are_apart (f ∷ merged_fragments g fs) ≡ true
-front_apart f g [] h all = and (not (joins f g)) true (ap not h) refl
+pub front_apart : (f g : Fragment) (fs : List Fragment) → can_merge f g ≡ false → are_all_merged (merged_fragments g fs) ≡ true → are_all_merged (f ∷ merged_fragments g fs) ≡ true
+front_apart f g [] h all = and (not (can_merge f g)) true (ap not h) refl
 front_apart f (Literal a) (Literal b ∷ fs) h all = front_apart f (Literal (a ++ b)) fs (literals_alike f (a ++ b) a ∙ h) all
 front_apart f (Fill m) (Fill n ∷ fs) h all = front_apart f (Fill (m + n)) fs (fills_alike f (m + n) m ∙ h) all
-front_apart f g (e ∷ fs) h all = and (not (joins f g)) (are_apart (g ∷ merged_fragments e fs)) (ap not h) all
+front_apart f g (e ∷ fs) h all = and (not (can_merge f g)) (are_all_merged (g ∷ merged_fragments e fs)) (ap not h) all
 
-pub joined_apart : (f : Fragment) (fs : List Fragment) → are_apart (merged_fragments f fs) ≡ true
+pub joined_apart : (f : Fragment) (fs : List Fragment) → are_all_merged (merged_fragments f fs) ≡ true
 joined_apart f [] = refl
 joined_apart x (y ∷ fs) =
-    let again : (f : Fragment) → are_apart (merged_fragments f fs) ≡ true = λ f. joined_apart f fs in
+    let again : (f : Fragment) → are_all_merged (merged_fragments f fs) ≡ true = λ f. joined_apart f fs in
     grind (arith, common_steps, again, front_apart)
 
 -- ---- The fragments of parts.
@@ -94,21 +94,21 @@ module _ (at : SourceLocation → Origin) (s i : List ℕ) where
   fragments_good [] h = refl
   fragments_good (p ∷ ps) h = grind (arith, common_steps, (fragments_good ps), and, left, right)
 
-  part_good : (count : ℕ) (p : Part) → IsSoundPart s count p → HasAll i (part_imports p) → is_good_part p ≡ true
+  part_good : (count : ℕ) (p : Part) → IsWellFormedPart s count p → HasAll i (part_imports p) → is_good_part p ≡ true
   part_good count x sound has_imports = grind (arith, common_steps, nat_tests, and, good_form, same_literal)
 
-  parts_good : (count : ℕ) (ps : List Part) → AllByRecursion (IsSoundPart s count) ps → HasAll i (flat_map part_imports ps) → list_all is_good_part ps ≡ true
+  parts_good : (count : ℕ) (ps : List Part) → AllByRecursion (IsWellFormedPart s count) ps → HasAll i (flat_map part_imports ps) → list_all is_good_part ps ≡ true
   parts_good count [] sound has_imports = refl
   parts_good count (p ∷ ps) sound has_imports = grind (arith, common_steps, (parts_good count ps sound.1 (second_has i (part_imports p) (flat_map part_imports ps) has_imports)), and, part_good, first_has, second_has)
 
   -- all parts in a segment
-  pub parts_in_good : (names : List (List ℕ)) (count g : ℕ) (cs : List Content) → AllByRecursion (IsSoundContent s count) cs → HasAll i (flat_map (content_imports names) cs) → list_all is_good_part (parts_in cs g) ≡ true
+  pub parts_in_good : (names : List (List ℕ)) (count g : ℕ) (cs : List Content) → AllByRecursion (IsWellFormedContent s count) cs → HasAll i (flat_map (content_imports names) cs) → list_all is_good_part (parts_in cs g) ≡ true
   parts_in_good names count g [] sound has_imports = refl
   parts_in_good names count g (c ∷ cs) sound has_imports =
       by (nat_eq c.segment g) (parts_in_good names count g cs sound.1 (second_has i (content_imports names c) (flat_map (content_imports names) cs) has_imports))
     where
       here : list_all is_good_part c.parts ≡ true
-      here = parts_good count c.parts sound.0.parts (first_has i (flat_map part_imports c.parts) (flat_map (said_imports names) c.said) (first_has i (content_imports names c) (flat_map (content_imports names) cs) has_imports))
+      here = parts_good count c.parts sound.0.parts (first_has i (flat_map part_imports c.parts) (flat_map (declaration_imports names) c.said) (first_has i (content_imports names c) (flat_map (content_imports names) cs) has_imports))
 
       by : (b : Bool) → list_all is_good_part (parts_in cs g) ≡ true → list_all is_good_part (flat_map (λ c. c.parts) (cond b (c ∷ filter (λ c. nat_eq c.segment g) cs) (filter (λ c. nat_eq c.segment g) cs))) ≡ true
       by true rest = list_all-append is_good_part c.parts (parts_in cs g) ∙ and (list_all is_good_part c.parts) (list_all is_good_part (parts_in cs g)) here rest
@@ -116,17 +116,17 @@ module _ (at : SourceLocation → Origin) (s i : List ℕ) where
 
   -- ---- Sections.
 
-  all_joined_good : (fs : List Fragment) → AllGood (length s) (length i) fs → AllGood (length s) (length i) (all_joined fs)
+  all_joined_good : (fs : List Fragment) → AllGood (length s) (length i) fs → AllGood (length s) (length i) (merged_neighbours fs)
   all_joined_good x h = grind (arith, common_steps, joined_good, left, right)
 
-  all_joined_len : (fs : List Fragment) → len_of (all_joined fs) ≡ len_of fs
+  all_joined_len : (fs : List Fragment) → len_of (merged_neighbours fs) ≡ len_of fs
   all_joined_len x = grind (arith, common_steps, joined_len, sum_by-cons)
 
-  all_joined_apart : (fs : List Fragment) → are_apart (all_joined fs) ≡ true
+  all_joined_apart : (fs : List Fragment) → are_all_merged (merged_neighbours fs) ≡ true
   all_joined_apart x = grind (arith, common_steps, joined_apart)
 
   power_small : (o : Option Segment) → segment_power o ≤ 15
   power_small x = grind (arith, common_steps)
 
   pub section_good : (segments : List Segment) (cs : List Content) (g : ℕ) → sum_by part_len (parts_in cs g) ≤ section_limit → list_all is_good_part (parts_in cs g) ≡ true → is_well_formed_section (length s) (length i) (section_of at segments s i cs g) ≡ true
-  section_good segments cs g room good = grind (arith, common_steps, power_small, nat_tests, all_joined_len, fragments_len, and, all_joined_good, fragments_good, all_joined_apart)
+  section_good segments cs g capacity good = grind (arith, common_steps, power_small, nat_tests, all_joined_len, fragments_len, and, all_joined_good, fragments_good, all_joined_apart)

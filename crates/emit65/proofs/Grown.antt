@@ -5,15 +5,15 @@ use Rattle.std.specs.Prelude.{nat_lt}
 use Rattle.std.specs.List.{list_all}
 use Rattle.std.proofs.lemmas.List.Folds.{list_all-append}
 use Rattle.std.proofs.lemmas.Bool.Decides.{nat_tests}
-use Rattle.semantics65.specs.Views.{place_in}
+use Rattle.semantics65.specs.Views.{location_in}
 use Rattle.semantics65.specs.Numbering.{name_of}
 use Rattle.emit65.specs.declared.entries.SectionEntry.{SectionEntry}
 use Rattle.emit65.specs.declared.entries.SourcePos.{SourcePos}
-use Rattle.emit65.specs.SectionContents.{IsPrefix, StandIn, content_of, place_by, slot_of, so_far, stands_in}
+use Rattle.emit65.specs.SectionContents.{IsPrefix, HaveFilesBelow, content_of, location_of_pos, slot_of, content_so_far, has_file_below}
 use Rattle.emit65.proofs.Renumbering.{and, left, right}
 
 -- what entries have so far, by their slots
-pub contents_of_slots : (files : List (List ℕ)) (es : List SectionEntry) → map so_far (map (slot_of files) es) ≡ map (content_of files) es
+pub contents_of_slots : (files : List (List ℕ)) (es : List SectionEntry) → map content_so_far (map (slot_of files) es) ≡ map (content_of files) es
 contents_of_slots files [] = refl
 contents_of_slots files (x ∷ es) = grind (arith, common_steps, (contents_of_slots files es))
 
@@ -24,30 +24,30 @@ name_grown [] later k h = let lt : k < 0 = grind (arith, nat_tests) in absurd (o
 name_grown (n ∷ files) later zero h = refl
 name_grown (n ∷ files) later (suc k) h = name_grown files later k (let lt : nat_lt k (length files) ≡ true = grind (arith, nat_tests) in lt)
 
-pub place_grown : (files later : List (List ℕ)) (o : SourcePos) → nat_lt o.file (length files) ≡ true → place_by (files ++ later) o ≡ place_by files o
-place_grown files later o h = ap (λ n. place_in n o.line) (name_grown files later o.file h)
+pub place_grown : (files later : List (List ℕ)) (o : SourcePos) → nat_lt o.file (length files) ≡ true → location_of_pos (files ++ later) o ≡ location_of_pos files o
+place_grown files later o h = ap (λ n. location_in n o.line) (name_grown files later o.file h)
 
-pub slot_grown : (files later : List (List ℕ)) (e : SectionEntry) → stands_in (length files) e ≡ true → slot_of (files ++ later) e ≡ slot_of files e
+pub slot_grown : (files later : List (List ℕ)) (e : SectionEntry) → has_file_below (length files) e ≡ true → slot_of (files ++ later) e ≡ slot_of files e
 slot_grown files later x h = grind (arith, common_steps, place_grown)
 
-pub slots_grown : (files later : List (List ℕ)) (es : List SectionEntry) → StandIn (length files) es → map (slot_of (files ++ later)) es ≡ map (slot_of files) es
+pub slots_grown : (files later : List (List ℕ)) (es : List SectionEntry) → HaveFilesBelow (length files) es → map (slot_of (files ++ later)) es ≡ map (slot_of files) es
 slots_grown files later [] h = refl
 slots_grown files later (e ∷ es) h =
-    let one = slot_grown files later e (left (stands_in (length files) e) (list_all (stands_in (length files)) es) h) in
-    let rest = slots_grown files later es (right (stands_in (length files) e) (list_all (stands_in (length files)) es) h) in
+    let one = slot_grown files later e (left (has_file_below (length files) e) (list_all (has_file_below (length files)) es) h) in
+    let rest = slots_grown files later es (right (has_file_below (length files) e) (list_all (has_file_below (length files)) es) h) in
     λ n. one n ∷ rest n
 
 -- ---- Entries that stand in files.
 
-stands_grown : (m n : ℕ) (e : SectionEntry) → m ≤ n → stands_in m e ≡ true → stands_in n e ≡ true
+stands_grown : (m n : ℕ) (e : SectionEntry) → m ≤ n → has_file_below m e ≡ true → has_file_below n e ≡ true
 stands_grown m n x le h = grind (arith, common_steps)
 
-pub standing_grown : (m n : ℕ) (es : List SectionEntry) → m ≤ n → StandIn m es → StandIn n es
+pub standing_grown : (m n : ℕ) (es : List SectionEntry) → m ≤ n → HaveFilesBelow m es → HaveFilesBelow n es
 standing_grown m n [] le h = refl
-standing_grown m n (e ∷ es) le h = grind (arith, common_steps, (standing_grown m n es le (right (stands_in m e) (list_all (stands_in m) es) h)), and, stands_grown, left, right)
+standing_grown m n (e ∷ es) le h = grind (arith, common_steps, (standing_grown m n es le (right (has_file_below m e) (list_all (has_file_below m) es) h)), and, stands_grown, left, right)
 
-pub standing_more : (n : ℕ) (es : List SectionEntry) (e : SectionEntry) → stands_in n e ≡ true → StandIn n es → StandIn n (es ++ e ∷ [])
-standing_more n es e h all = list_all-append (stands_in n) es (e ∷ []) ∙ and (list_all (stands_in n) es) (list_all (stands_in n) (e ∷ [])) all (and (stands_in n e) true h refl)
+pub standing_more : (n : ℕ) (es : List SectionEntry) (e : SectionEntry) → has_file_below n e ≡ true → HaveFilesBelow n es → HaveFilesBelow n (es ++ e ∷ [])
+standing_more n es e h all = list_all-append (has_file_below n) es (e ∷ []) ∙ and (list_all (has_file_below n) es) (list_all (has_file_below n) (e ∷ [])) all (and (has_file_below n e) true h refl)
 
 -- names with others behind them are as many or more
 pub begins_long : (names more : List (List ℕ)) → IsPrefix names more → length names ≤ length more

@@ -10,8 +10,8 @@ use Rattle.indexmap.specs.IndexSet.{IndexSet}
 use Rattle.ast65.proofs.Lists.{position_mapped}
 use Rattle.syntax65.specs.declared.source_location.SourceLocation.{SourceLocation}
 use Rattle.semantics65.specs.declared.contents.Declaration as said
-use Rattle.semantics65.specs.Numbering.{content_imports, key_of, distinct_keys, said_imports}
-use Rattle.semantics65.specs.Views.{said_at}
+use Rattle.semantics65.specs.Numbering.{content_imports, key_of, distinct_keys, declaration_imports}
+use Rattle.semantics65.specs.Views.{declaration_at}
 use Rattle.emit65.specs.declared.entries.SectionEntry.{SectionEntry}
 use Rattle.emit65.specs.SectionContents.{content_of, names_of}
 
@@ -39,7 +39,7 @@ key_found imports name = position_mapped (λ m. bytes_eq m name) (λ k. k.items)
 
 -- ---- Imports of what is said, wherever it stands.
 
-pub said_anywhere : (names : List (List ℕ)) (p q : SourceLocation) (x : said.Declaration) → said_imports names (said_at p x) ≡ said_imports names (said_at q x)
+pub said_anywhere : (names : List (List ℕ)) (p q : SourceLocation) (x : said.Declaration) → declaration_imports names (declaration_at p x) ≡ declaration_imports names (declaration_at q x)
 said_anywhere names p q x = grind (arith, common_steps)
 
 -- the imports of entries, whatever the files are

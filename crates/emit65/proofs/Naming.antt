@@ -12,7 +12,7 @@ use Rattle.std.proofs.lemmas.Grind.{common_steps}
 use Rattle.std.proofs.lemmas.List.{map-append}
 use Rattle.std.proofs.lemmas.Map.Keys.{IsDistinct-cons, IsDistinct-head, IsDistinct-tail, apart_from_distinct}
 use Rattle.std.proofs.lemmas.Slice.Eq.{bytes_eq-Decides}
-use Rattle.semantics65.specs.Numbering.{name_of, names_once, distinct_keys}
+use Rattle.semantics65.specs.Numbering.{name_of, distinct_names, distinct_keys}
 use Rattle.emit65.proofs.Fitting.{all_more}
 
 -- ---- A table of files, in which each name stands once.
@@ -106,10 +106,10 @@ module _ (files : List (List ℕ)) (apart : IsDistinct bytes_eq files) where
   any_same k (j ∷ found) lt below = λ n. one_name k j lt below.0 n || any_same k found lt below.1 n
 
   -- names are taken once where their places are
-  pub once_named : (found ks : List ℕ) → AreBelow found → AreBelow ks → names_once (map (name_of files) found) (map (name_of files) ks) ≡ map (name_of files) (distinct_keys found ks)
+  pub once_named : (found ks : List ℕ) → AreBelow found → AreBelow ks → distinct_names (map (name_of files) found) (map (name_of files) ks) ≡ map (name_of files) (distinct_keys found ks)
   once_named found [] f g = refl
   once_named found (k ∷ ks) f g =
-      ap (λ b. names_once (if b then map (name_of files) found else map (name_of files) found ++ name_of files k ∷ []) (map (name_of files) ks)) (any_same k found g.0 f)
+      ap (λ b. distinct_names (if b then map (name_of files) found else map (name_of files) found ++ name_of files k ∷ []) (map (name_of files) ks)) (any_same k found g.0 f)
       ∙ by (list_any (nat_eq k) found) (once_named found ks f g.1)
       (once_named (found ++ k ∷ []) ks (all_more (λ k. k < length files) found (k ∷ []) f (g.0, tt)) g.1)
     where
@@ -117,11 +117,11 @@ module _ (files : List (List ℕ)) (apart : IsDistinct bytes_eq files) where
       push = sym (map-append (name_of files) found (k ∷ []))
 
       by : (b : Bool) →
-          names_once (map (name_of files) found) (map (name_of files) ks) ≡ map (name_of files) (distinct_keys found ks) →
-          names_once (map (name_of files) (found ++ k ∷ [])) (map (name_of files) ks) ≡ map (name_of files) (distinct_keys (found ++ k ∷ []) ks) →
-          names_once (if b then map (name_of files) found else map (name_of files) found ++ name_of files k ∷ []) (map (name_of files) ks) ≡ map (name_of files) (distinct_keys (if b then found else found ++ k ∷ []) ks)
+          distinct_names (map (name_of files) found) (map (name_of files) ks) ≡ map (name_of files) (distinct_keys found ks) →
+          distinct_names (map (name_of files) (found ++ k ∷ [])) (map (name_of files) ks) ≡ map (name_of files) (distinct_keys (found ++ k ∷ []) ks) →
+          distinct_names (if b then map (name_of files) found else map (name_of files) found ++ name_of files k ∷ []) (map (name_of files) ks) ≡ map (name_of files) (distinct_keys (if b then found else found ++ k ∷ []) ks)
       by true old new = old
-      by false old new = ap (λ ns. names_once ns (map (name_of files) ks)) push ∙ new
+      by false old new = ap (λ ns. distinct_names ns (map (name_of files) ks)) push ∙ new
 
   -- ---- Places of names in the table.
 

@@ -4,31 +4,31 @@ use Rattle.std.specs.List.{flat_map}
 use Rattle.std.proofs.lemmas.List.{map-append}
 use Rattle.semantics65.specs.Contents.{Content, Known, section_part}
 use Rattle.semantics65.specs.Module.{Slot, resolved}
-use Rattle.semantics65.specs.Numbering.{distinct_keys, section_keys, segments_asked}
+use Rattle.semantics65.specs.Numbering.{distinct_keys, section_keys, segment_requests}
 use Rattle.emit65.specs.declared.sections.Sections.{Sections}
-use Rattle.emit65.specs.SectionContents.{AreAlike, AreSlotsAlike, contents_so_far, names_in, slots_in, so_far, AppendsSlot, RepresentsSlots}
+use Rattle.emit65.specs.SectionContents.{AreEquivalentContents, AreEquivalentSlots, contents_so_far, names_in, slots_in, content_so_far, AppendsSlot, RepresentsSlots}
 use Rattle.emit65.proofs.Alikes.{alike_back, alike_sym, alike_trans, bytes_alike, no_bytes_alike}
 use Rattle.emit65.proofs.Slots.{asked_more, held_alike, held_contents, slots_back, slots_sym, slots_trans}
 
 -- contents that are alike and ask for the same sections
-pub alike_stands : (xs ys : List Slot) (s : Sections) → AreSlotsAlike xs ys → section_keys (contents_so_far xs) ≡ section_keys (contents_so_far ys) → RepresentsSlots xs s → RepresentsSlots ys s
+pub alike_stands : (xs ys : List Slot) (s : Sections) → AreEquivalentSlots xs ys → section_keys (contents_so_far xs) ≡ section_keys (contents_so_far ys) → RepresentsSlots xs s → RepresentsSlots ys s
 alike_stands xs ys s alike keys h = record {
-  asked = sym keys ∙ h.asked;
+  requested = sym keys ∙ h.requested;
   latest = h.latest;
-  alike = slots_trans ys xs (slots_in (names_in s.files) s.entries) (slots_sym xs ys alike) h.alike;
+  equivalent = slots_trans ys xs (slots_in (names_in s.files) s.entries) (slots_sym xs ys alike) h.equivalent;
   standing = h.standing;
 }
 
 -- contents behind the same
-pub held_stand : (xs : List Slot) (cs ds : List Content) (s : Sections) → AreAlike cs ds → segments_asked cs ≡ segments_asked ds → RepresentsSlots (xs ++ map resolved cs) s → RepresentsSlots (xs ++ map resolved ds) s
+pub held_stand : (xs : List Slot) (cs ds : List Content) (s : Sections) → AreEquivalentContents cs ds → segment_requests cs ≡ segment_requests ds → RepresentsSlots (xs ++ map resolved cs) s → RepresentsSlots (xs ++ map resolved ds) s
 held_stand xs cs ds s alike asks h =
     alike_stands (xs ++ map resolved cs) (xs ++ map resolved ds) s (slots_back xs (map resolved cs) (map resolved ds) (held_alike cs ds alike))
     (keys cs ∙ ap (distinct_keys (section_keys (contents_so_far xs))) asks ∙ sym (keys ds))
     h
   where
-    keys : (es : List Content) → section_keys (contents_so_far (xs ++ map resolved es)) ≡ distinct_keys (section_keys (contents_so_far xs)) (segments_asked es)
+    keys : (es : List Content) → section_keys (contents_so_far (xs ++ map resolved es)) ≡ distinct_keys (section_keys (contents_so_far xs)) (segment_requests es)
     keys es =
-        ap section_keys (map-append so_far xs (map resolved es))
+        ap section_keys (map-append content_so_far xs (map resolved es))
         ∙ ap (λ ds. section_keys (contents_so_far xs ++ ds)) (held_contents es)
         ∙ asked_more (contents_so_far xs) es
 
@@ -38,14 +38,14 @@ held_stand xs cs ds s alike asks h =
 abbrev pub runs : {A : Type 0} → ℕ → (A → List ℕ) → List A → List Content
 runs g f xs = map (λ x. section_part g (Known (f x))) xs
 
-runs_alike : {A : Type 0} (g : ℕ) (f : A → List ℕ) (xs : List A) → AreAlike (section_part g (Known (flat_map f xs)) ∷ []) (runs g f xs)
+runs_alike : {A : Type 0} (g : ℕ) (f : A → List ℕ) (xs : List A) → AreEquivalentContents (section_part g (Known (flat_map f xs)) ∷ []) (runs g f xs)
 runs_alike g f [] = no_bytes_alike g
 runs_alike g f (x ∷ xs) =
     alike_trans (section_part g (Known (f x ++ flat_map f xs)) ∷ []) (section_part g (Known (f x)) ∷ section_part g (Known (flat_map f xs)) ∷ []) (runs g f (x ∷ xs))
     (alike_sym _ _ (bytes_alike g (f x) (flat_map f xs)))
     (alike_back (section_part g (Known (f x)) ∷ []) (section_part g (Known (flat_map f xs)) ∷ []) (runs g f xs) (runs_alike g f xs))
 
-runs_ask : {A : Type 0} (g : ℕ) (f : A → List ℕ) (xs : List A) → segments_asked (runs g f xs) ≡ []
+runs_ask : {A : Type 0} (g : ℕ) (f : A → List ℕ) (xs : List A) → segment_requests (runs g f xs) ≡ []
 runs_ask g f [] = refl
 runs_ask g f (x ∷ xs) = runs_ask g f xs
 

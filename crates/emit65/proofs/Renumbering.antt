@@ -10,10 +10,10 @@ use Rattle.std.proofs.lemmas.List.Sums.{passes_at_first}
 use Rattle.std.proofs.lemmas.Map.Keys.{IsDistinct-push}
 use Rattle.base65.specs.declared.values.Op1.{Op1}
 use Rattle.base65.specs.declared.values.Op2.{Op2}
-use Rattle.object65.specs.Folding.{is_literal, is_normal, is_within, folds1, folds2, folds_sum, folds_difference}
+use Rattle.object65.specs.Folding.{is_literal, is_normal, has_valid_indices, folds1, folds2, folds_sum, folds_difference}
 use Rattle.object65.specs.Form.{Form, lit, sec, imp, prefix, binary, nodes}
 use Rattle.object65.specs.Objects.{is_well_formed_form}
-use Rattle.semantics65.specs.Numbering.{imports_in, number_of, renumbered_form, distinct_keys, sections_in, IsSoundForm}
+use Rattle.semantics65.specs.Numbering.{imports_in, number_of, renumbered_form, distinct_keys, sections_in, IsWellFormedForm}
 
 -- ---- Tests.
 
@@ -118,17 +118,17 @@ module _ (s i : List ℕ) where
   number_within : (keys : List ℕ) (k : ℕ) → has keys k ≡ true → nat_le (number_of keys k + 1) (length keys) ≡ true
   number_within keys k h = let below = number_below keys k h in grind (arith, nat_tests)
 
-  pub now_within : (f : Form) → HasAll s (sections_in f) → HasAll i (imports_in f) → is_within (length s) (length i) (renumbered_form s i f) ≡ true
+  pub now_within : (f : Form) → HasAll s (sections_in f) → HasAll i (imports_in f) → has_valid_indices (length s) (length i) (renumbered_form s i f) ≡ true
   now_within (lit v) h g = refl
   now_within (sec k a) h g = number_within s k (left (has s k) true h)
   now_within (imp k) h g = number_within i k (left (has i k) true g)
   now_within (prefix op f) h g = now_within f h g
   now_within (binary op e f) h g =
-      and (is_within (length s) (length i) (renumbered_form s i e)) (is_within (length s) (length i) (renumbered_form s i f))
+      and (has_valid_indices (length s) (length i) (renumbered_form s i e)) (has_valid_indices (length s) (length i) (renumbered_form s i f))
       (now_within e (first_has s (sections_in e) (sections_in f) h) (first_has i (imports_in e) (imports_in f) g))
       (now_within f (second_has s (sections_in e) (sections_in f) h) (second_has i (imports_in e) (imports_in f) g))
 
-  pub good_form : (count : ℕ) (f : Form) → IsSoundForm s count f → HasAll i (imports_in f) → is_well_formed_form (length s) (length i) (renumbered_form s i f) ≡ true
+  pub good_form : (count : ℕ) (f : Form) → IsWellFormedForm s count f → HasAll i (imports_in f) → is_well_formed_form (length s) (length i) (renumbered_form s i f) ≡ true
   good_form count f sound has_imports = grind (arith, common_steps, same_nodes, nat_tests, and, now_within, same_normal)
 
 -- ---- Keys that are taken once.

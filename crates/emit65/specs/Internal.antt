@@ -1,2 +1,2 @@
--- Definitions in terms of the code, for contracts within the crate alone.
+-- Definitions in terms of the code's types, for contracts within the crate only.
 pub mod Drafts

@@ -1,9 +1,9 @@
 //! Section contents, declarations and pending fixups, in source order.
 
 ghost use Rattle.std.specs.Prelude.{◌≡◌, ◌+◌, ℕ, List, [], ◌∷◌, length, map, true, OnOk, IfOk};
-ghost use Rattle.semantics65.specs.Contents.{Filled, Known, section_part};
+ghost use Rattle.semantics65.specs.Contents.{ReservedBytes, Known, section_part};
 ghost use Rattle.semantics65.specs.Module.{resolved};
-ghost use Rattle.emit65.specs.SectionContents.{AreSlotsAlike, slot_of, slots_in, stands_in, IsAdded, StandIn, AppendsSlots, TakesIn};
+ghost use Rattle.emit65.specs.SectionContents.{AreEquivalentSlots, slot_of, slots_in, has_file_below, IsAdded, HaveFilesBelow, AppendsSlots, AppendsSlotsWithFiles};
 
 use crate::fixups::Fixup;
 use base65::ListVec;
@@ -28,21 +28,21 @@ pub struct LocatedDeclaration {
 }
 
 /// A part of a section, a declaration, or a pending fixup. A large source has very many entries, so
-/// they are small: fields lie in memory in this order, and the width of a value is stored beside
-/// the variant's tag.
+/// they are small: the order of the fields is their order in memory, and the width of a value is
+/// stored beside the variant's tag.
 #[derive(Drop)]
 pub enum SectionEntry {
-    /// Bytes of the section of a segment.
+    /// Bytes in the section of a segment.
     Bytes {
         segment: u32,
         bytes: ListVec<u8>,
     },
-    /// This many bytes of the linker's fill value.
+    /// This many bytes of the linker's fill value, in the section of a segment.
     Reserve {
         segment: u32,
         count: u32,
     },
-    /// A value there that the linker computes.
+    /// A value that the linker computes, in the section of a segment.
     Value {
         width: Width,
         segment: u32,
@@ -55,23 +55,24 @@ pub enum SectionEntry {
     FixupEntry(Box<Fixup>),
 }
 
-/// The capacity with which the bytes after an entry begin. Most entries are followed by fewer bytes,
-/// so the list doesn't grow.
+/// The initial capacity for the bytes after an entry. Most entries are followed by fewer bytes, so
+/// they cause no further allocation.
 const FEW_BYTES: usize = 24;
 
-/// Entries in source order. The last ones, bytes and room after them in one section, may still
-/// grow.
+/// Entries in source order. The open part at the end, bytes and then reserved bytes in one section,
+/// may still grow.
 #[derive(Drop)]
 pub struct Entries {
     pub alloc: Global,
     pub done: Vec<SectionEntry>,
-    /// The segment of what may grow.
+    /// The segment of the open part.
     pub segment: u32,
     pub bytes: ListVec<u8>,
-    pub room: u32,
+    pub reserve: u32,
 }
 
-/// Two numbers of bytes as one. No section has more than 32 bits hold.
+/// Returns the sum of two byte counts. No section has more than 32 bits can count, so a larger sum
+/// counts as out of memory.
 pub fn sum_of(left: u32, right: u32) -> Result<u32, AllocError>
     ensures { IfOk result (λ n. n ≡ left + right) }
 {
@@ -83,19 +84,19 @@ pub fn sum_of(left: u32, right: u32) -> Result<u32, AllocError>
 
 impl Entries {
     pub fn new(alloc: Global) -> Self
-        ensures none { (files : List (List ℕ)) → AreSlotsAlike [] (slots_in files result) }
-        ensures standing { (count : ℕ) → StandIn count result.done.items }
+        ensures none { (files : List (List ℕ)) → AreEquivalentSlots [] (slots_in files result) }
+        ensures standing { (count : ℕ) → HaveFilesBelow count result.done.items }
     {
         Entries {
             alloc,
             done: Vec::new(alloc),
             segment: 0,
             bytes: ListVec::new(alloc),
-            room: 0,
+            reserve: 0,
         }
     }
 
-    /// Adds an entry to those that no longer grow.
+    /// Adds an entry before the open part.
     fn add(&mut self, entry: SectionEntry) -> Result<(), AllocError>
         ensures { OnOk result (IsAdded self.old self.new entry) }
     {
@@ -103,11 +104,11 @@ impl Entries {
         Ok(())
     }
 
-    /// Ends the bytes that might have grown.
+    /// Makes the bytes of the open part an entry.
     fn close_bytes(&mut self) -> Result<(), AllocError>
         ensures same { OnOk result (AppendsSlots self.old self.new []) }
         ensures none { OnOk result (self.new.bytes ≡ []) }
-        ensures room { OnOk result (self.new.room ≡ self.old.room) }
+        ensures reserve { OnOk result (self.new.reserve ≡ self.old.reserve) }
     {
         if self.bytes.len() > 0 {
             let segment = self.segment;
@@ -118,27 +119,27 @@ impl Entries {
         Ok(())
     }
 
-    /// Ends what might have grown.
+    /// Makes the open part entries, so that nothing is open.
     fn close(&mut self) -> Result<(), AllocError>
         ensures same { OnOk result (AppendsSlots self.old self.new []) }
         ensures bytes { OnOk result (self.new.bytes ≡ []) }
-        ensures room { OnOk result (self.new.room ≡ 0) }
+        ensures reserve { OnOk result (self.new.reserve ≡ 0) }
     {
         self.close_bytes()?;
-        if self.room > 0 {
+        if self.reserve > 0 {
             let segment = self.segment;
-            let count = self.room;
-            self.room = 0;
+            let count = self.reserve;
+            self.reserve = 0;
             self.add(SectionEntry::Reserve { segment, count })?;
         }
         Ok(())
     }
 
-    /// Lets what grows be of a segment.
-    fn begin(&mut self, segment: u32) -> Result<(), AllocError>
+    /// Makes the open part one in this segment. Closes the part of another segment.
+    fn open_part(&mut self, segment: u32) -> Result<(), AllocError>
         ensures same { OnOk result (AppendsSlots self.old self.new []) }
         ensures segment { OnOk result (self.new.segment ≡ segment) }
-        ensures room { OnOk result (self.old.room ≡ 0 → self.new.room ≡ 0) }
+        ensures reserve { OnOk result (self.old.reserve ≡ 0 → self.new.reserve ≡ 0) }
     {
         if self.segment == segment {
             return Ok(());
@@ -152,39 +153,39 @@ impl Entries {
     pub fn add_bytes(&mut self, segment: u32, bytes: &[u8]) -> Result<(), AllocError>
         ensures { OnOk result (AppendsSlots self.old self.new (resolved (section_part segment (Known bytes.now)) ∷ [])) }
     {
-        if self.room > 0 {
+        if self.reserve > 0 {
             self.close()?;
         }
-        self.begin(segment)?;
+        self.open_part(segment)?;
         self.bytes.extend_from_slice(bytes)?;
         Ok(())
     }
 
     /// Reserves `count` bytes in the section of a segment.
-    pub fn add_room(&mut self, segment: u32, count: u32) -> Result<(), AllocError>
-        ensures { OnOk result (AppendsSlots self.old self.new (resolved (section_part segment (Filled count)) ∷ [])) }
+    pub fn add_reserved(&mut self, segment: u32, count: u32) -> Result<(), AllocError>
+        ensures { OnOk result (AppendsSlots self.old self.new (resolved (section_part segment (ReservedBytes count)) ∷ [])) }
     {
-        self.begin(segment)?;
-        self.room = sum_of(self.room, count)?;
+        self.open_part(segment)?;
+        self.reserve = sum_of(self.reserve, count)?;
         Ok(())
     }
 
-    /// Adds an entry.
+    /// Adds an entry after the open part, which it closes.
     pub fn push(&mut self, entry: SectionEntry) -> Result<(), AllocError>
-        ensures { OnOk result ((files : List (List ℕ)) → stands_in (length files) entry ≡ true →
-            TakesIn files self.old self.new (slot_of files entry ∷ [])) }
+        ensures { OnOk result ((files : List (List ℕ)) → has_file_below (length files) entry ≡ true →
+            AppendsSlotsWithFiles files self.old self.new (slot_of files entry ∷ [])) }
     {
         self.close()?;
         self.add(entry)?;
         Ok(())
     }
 
-    /// All entries.
+    /// Closes the open part, and returns all entries.
     pub fn into_list(self) -> Result<Vec<SectionEntry>, AllocError>
-        ensures alike { IfOk result (λ list. (files : List (List ℕ)) →
-            AreSlotsAlike (slots_in files self) (map (slot_of files) list.items)) }
+        ensures equivalent { IfOk result (λ list. (files : List (List ℕ)) →
+            AreEquivalentSlots (slots_in files self) (map (slot_of files) list.items)) }
         ensures standing { IfOk result (λ list. (files : List (List ℕ)) →
-            StandIn (length files) self.done.items → StandIn (length files) list.items) }
+            HaveFilesBelow (length files) self.done.items → HaveFilesBelow (length files) list.items) }
     {
         let mut all = self;
         all.close()?;

@@ -9,16 +9,16 @@ use base65::Seed;
 use indexmap::IndexSet;
 use std::alloc::{AllocError, Global};
 
-/// The names of files in the order in which they are first asked for, each once.
+/// The names of files, each once, in the order in which they were first requested.
 #[derive(Drop)]
 pub struct Files {
     pub table: IndexSet<String, Seed>,
-    /// The place of the one that was asked for last.
+    /// The index of the file that was requested last.
     last: Option<usize>,
 }
 
 impl Files {
-    /// No file.
+    /// Creates an empty table of files.
     pub fn new(alloc: Global, seed: Seed) -> Self
         ensures { length (names_in result) ≡ 0 }
     {
@@ -36,34 +36,34 @@ impl Files {
         self.table.as_slice()
     }
 
-    /// The place of the file that was asked for last, where it has this name.
-    fn same_place(&self, name: &str) -> Option<usize>
+    /// Returns the index of the file that was requested last, if it has this name.
+    fn last_index_of(&self, name: &str) -> Option<usize>
         ensures { IfSome result (λ i. slice_get (names_in self.now) i ≡ Some name.now) }
     {
-        let place = self.last?;
-        let file = self.table.get_index(place)?;
+        let index = self.last?;
+        let file = self.table.get_index(index)?;
         if file.as_str() == name {
-            Some(place)
+            Some(index)
         } else {
             None
         }
     }
 
-    /// The place of a file by its name, which is put in if it is new. It is mostly the one before, and then it isn't
-    /// looked up.
-    pub fn place_of(&mut self, alloc: Global, name: &str) -> Result<usize, AllocError>
+    /// Returns the index of a file by its name, which is added if it is new. Mostly it is the file that was
+    /// requested last, which needs no lookup.
+    pub fn index_of(&mut self, alloc: Global, name: &str) -> Result<usize, AllocError>
         ensures more { IsPrefix (names_in self.old) (names_in self.new) }
         ensures place { IfOk result (λ i. slice_get (names_in self.new) i ≡ Some name.now) }
     {
-        if let Some(place) = self.same_place(name) {
-            return Ok(place);
+        if let Some(index) = self.last_index_of(name) {
+            return Ok(index);
         }
-        if let Some(place) = self.table.get_index_of(name) {
-            self.last = Some(place);
-            return Ok(place);
+        if let Some(index) = self.table.get_index_of(name) {
+            self.last = Some(index);
+            return Ok(index);
         }
-        let (place, _) = self.table.insert_full(String::from_str(alloc, name)?)?;
-        self.last = Some(place);
-        Ok(place)
+        let (index, _) = self.table.insert_full(String::from_str(alloc, name)?)?;
+        self.last = Some(index);
+        Ok(index)
     }
 }

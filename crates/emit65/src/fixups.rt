@@ -19,7 +19,7 @@ pub enum FixupKind {
         width: Width,
         value: Expr,
     },
-    /// The expression of a constant, which may have a fault.
+    /// The expression of a constant, which may have an error.
     Constant(Expr),
     Assertion {
         action: Action,
@@ -28,9 +28,10 @@ pub enum FixupKind {
     },
     /// A name that the module may not define.
     Import(ListVec<u8>),
-    /// A name that is imported though nothing may use it.
+    /// A name that is imported even if nothing uses it.
     ForcedImport(ListVec<u8>),
-    /// A name that is exported where it is defined, or has to be.
+    /// A name that is exported if it is defined; if `must`, it
+    /// must be.
     Export {
         must: bool,
         name: ListVec<u8>,

@@ -1,4 +1,4 @@
-//! From entries to the object.
+//! Builds the object from the entries.
 
 ghost use Rattle.std.specs.Prelude.{◌≡◌, map, string_bytes, IfOk};
 ghost use Rattle.std.specs.List.{AllByRecursion};
@@ -17,17 +17,17 @@ mod ordering;
 use crate::entries::SectionEntry;
 use base65::ListVec;
 use drafts::{EntriesBySection, SectionDraft, group_by_section};
-use exports::declared_by;
+use exports::declaration_tables;
 use fragments::fragments_of;
 use indexmap::IndexSet;
 pub use keys::{Imports, narrow};
 use keys::{Numbers, import_keys};
 use object65::{Object, Section};
-use ordering::{file_names, order_of};
+use ordering::{file_names, files_in_order};
 use semantics65::Segment;
 use std::alloc::{AllocError, Global};
 
-/// The power of two to a multiple of which a segment is aligned.
+/// Returns the exponent of an alignment, which is a power of two up to 32768; 0 for any other value.
 fn power_of(align: u32) -> u8
     ensures { result ≡ number_of powers align }
 {
@@ -51,7 +51,7 @@ fn power_of(align: u32) -> u8
     }
 }
 
-/// The section of what is put into a segment.
+/// Builds the section of a segment.
 fn finish_section(
     alloc: Global,
     segments: &[Segment],
@@ -77,7 +77,7 @@ fn finish_section(
     }
 }
 
-/// The sections of a module.
+/// Builds the sections of a module.
 fn finish_sections(
     alloc: Global,
     segments: &[Segment],
@@ -95,7 +95,7 @@ fn finish_sections(
     Ok(sections)
 }
 
-/// The name of an import, empty where it has none.
+/// Returns the name of an import by its key; an empty name if there is no such import.
 fn import_name(alloc: Global, imports: &Imports, key: u32) -> Result<ListVec<u8>, AllocError>
     ensures { IfOk result (λ name. name ≡ name_of (names_of imports.now) key) }
 {
@@ -105,7 +105,7 @@ fn import_name(alloc: Global, imports: &Imports, key: u32) -> Result<ListVec<u8>
     }
 }
 
-/// The names of imports.
+/// Returns the names of imports by their keys.
 fn import_names(
     alloc: Global,
     imports: &Imports,
@@ -120,36 +120,36 @@ fn import_names(
     Ok(found)
 }
 
-/// The contents by section, and the numbers of the names in them.
+/// The entries by section, and the numbers of the sections, imports and files in them.
 #[derive(Drop)]
 pub struct Numbered {
     pub numbers: Numbers,
-    pub parted: EntriesBySection,
+    pub by_section: EntriesBySection,
 }
 
-/// Entries by the sections that were asked for, and the numbers of what they name.
+/// Groups entries by the requested sections, and numbers the sections, imports and files in them.
 pub fn number(
     alloc: Global,
     imports: &Imports,
-    asked: IndexSet<u32>,
+    requested: IndexSet<u32>,
     entries: Vec<SectionEntry>,
 ) -> Result<Numbered, AllocError>
-    ensures { IfOk result (IsNumbered (names_of imports.now) asked.keys entries.items) }
+    ensures { IfOk result (IsNumbered (names_of imports.now) requested.keys entries.items) }
 {
     let keys = import_keys(alloc, imports, entries.as_slice())?;
-    let parted = group_by_section(alloc, &asked, entries)?;
-    let files = order_of(alloc, &parted)?;
+    let by_section = group_by_section(alloc, &requested, entries)?;
+    let files = files_in_order(alloc, &by_section)?;
     Ok(Numbered {
         numbers: Numbers {
-            sections: asked,
+            sections: requested,
             imports: keys,
             files,
         },
-        parted,
+        by_section,
     })
 }
 
-/// The object of what was fed, by the names of its imports in the order of their keys and those of all files.
+/// Builds the object from numbered entries, with the names of all imports and of all files.
 pub fn object_of(
     alloc: Global,
     segments: &[Segment],
@@ -161,12 +161,15 @@ pub fn object_of(
         (map string_bytes files.now) numbered) }
     ensures fits { IfOk result ObjectFits }
 {
-    let Numbered { numbers, parted } = numbered;
+    let Numbered {
+        numbers,
+        by_section,
+    } = numbered;
     let EntriesBySection {
         drafts,
         declarations,
-    } = parted;
-    let declared = declared_by(alloc, &numbers, declarations)?;
+    } = by_section;
+    let declared = declaration_tables(alloc, &numbers, declarations)?;
     Ok(Object {
         version: 2,
         files: file_names(alloc, files, numbers.files.as_slice())?,

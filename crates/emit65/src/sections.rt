@@ -1,12 +1,12 @@
-//! Sections that are fed.
+//! Sections while statements are assembled, and after the last one.
 
 ghost use Rattle.std.specs.Prelude.{◌≡◌, ◌<◌, length, IfOk, map, [], List, replicate, true, OnOk};
-ghost use Rattle.semantics65.specs.Contents.{section_part, Content, Filled, Known, Waiting, section_request};
+ghost use Rattle.semantics65.specs.Contents.{section_part, Content, ReservedBytes, Known, LinkTimeValue, section_request};
 ghost use Rattle.semantics65.specs.Module.{Slot, resolved};
-ghost use Rattle.semantics65.specs.Views.{place_in};
-ghost use Rattle.emit65.specs.SectionContents.{place_by, IsPrefix, names_in, names_of, waiting, AppendsSlot, HasSlots, RepresentsSlots};
+ghost use Rattle.semantics65.specs.Views.{location_in};
+ghost use Rattle.emit65.specs.SectionContents.{location_of_pos, IsPrefix, names_in, names_of, deferred_slot, AppendsSlot, HasSlots, RepresentsSlots};
 ghost use Rattle.object65.specs.Objects.{is_well_formed_object, ObjectFits};
-ghost use Rattle.semantics65.specs.Numbering.{object_with, AreSound};
+ghost use Rattle.semantics65.specs.Numbering.{object_with, AreWellFormedContents};
 
 use crate::entries::{Entries, SectionEntry, SourcePos};
 use crate::files::Files;
@@ -23,24 +23,24 @@ impl Files {
     fn pos_of(&mut self, alloc: Global, at: LocationRef<'_>) -> Result<SourcePos, AllocError>
         ensures more { IsPrefix (names_in self.old) (names_in self.new) }
         ensures listed { IfOk result (λ o. o.file < length (names_in self.new)) }
-        ensures place { IfOk result (λ o. place_by (names_in self.new) o
-            ≡ place_in at.entry.file.now at.entry.line) }
+        ensures location { IfOk result (λ o. location_of_pos (names_in self.new) o
+            ≡ location_in at.entry.file.now at.entry.line) }
     {
-        let place = self.place_of(alloc, at.file)?;
+        let index = self.index_of(alloc, at.file)?;
         Ok(SourcePos {
-            file: narrow(place)?,
+            file: narrow(index)?,
             line: at.line,
         })
     }
 }
 
-/// Sections in the making: what statements put into them and say to other modules and to the linker, in the order of
-/// the source. Neighbouring bytes of a section lie in one buffer.
+/// The section contents, declarations and fixups of the statements so far, in source order. Adjacent bytes of a
+/// section share one buffer.
 #[derive(Drop)]
 pub struct Sections {
-    /// The segments of which a section was asked for.
-    asked: IndexSet<u32>,
-    /// One of these, which was asked for last.
+    /// The segments whose section was requested.
+    requested: IndexSet<u32>,
+    /// The segment whose section was requested last, if there is one.
     latest: Option<u32>,
     /// The files of values, declarations and fixups.
     files: Files,
@@ -48,19 +48,19 @@ pub struct Sections {
 }
 
 impl Sections {
-    /// No section, and nothing said.
+    /// Creates sections without contents or declarations.
     pub fn new(alloc: Global, seed: Seed) -> Self
         ensures { RepresentsSlots [] result }
     {
         Sections {
-            asked: IndexSet::new(alloc),
+            requested: IndexSet::new(alloc),
             latest: None,
             files: Files::new(alloc, seed),
             entries: Entries::new(alloc),
         }
     }
 
-    /// Asks for a section of a segment. Sections have the order in which they are first asked for.
+    /// Makes sure that a segment has a section. Sections are in the order of their first requests.
     pub fn request_section(&mut self, segment: u32) -> Result<(), AllocError>
         ensures { OnOk result (AppendsSlot self.old self.new (resolved (section_request segment))) }
     {
@@ -69,12 +69,12 @@ impl Sections {
                 return Ok(());
             }
         }
-        self.asked.insert(segment)?;
+        self.requested.insert(segment)?;
         self.latest = Some(segment);
         Ok(())
     }
 
-    /// Puts bytes into the section of a segment.
+    /// Appends bytes to the section of a segment.
     pub fn append(&mut self, segment: u32, bytes: &[u8]) -> Result<(), AllocError>
         ensures { OnOk result (AppendsSlot self.old self.new (resolved (section_part segment (Known bytes.now)))) }
     {
@@ -82,7 +82,7 @@ impl Sections {
         Ok(())
     }
 
-    /// Adds `count` bytes of one value to the section of a segment.
+    /// Appends `count` bytes of one value to the section of a segment.
     pub fn fill(&mut self, segment: u32, count: u32, byte: u8) -> Result<(), AllocError>
         ensures { OnOk result (AppendsSlot self.old self.new
             (resolved (section_part segment (Known (replicate count byte))))) }
@@ -95,14 +95,13 @@ impl Sections {
 
     /// Reserves `count` bytes, which the linker fills, in the section of a segment.
     pub fn reserve_bytes(&mut self, segment: u32, count: u32) -> Result<(), AllocError>
-        ensures { OnOk result (AppendsSlot self.old self.new (resolved (section_part segment (Filled count)))) }
+        ensures { OnOk result (AppendsSlot self.old self.new (resolved (section_part segment (ReservedBytes count)))) }
     {
-        self.entries.add_room(segment, count)?;
+        self.entries.add_reserved(segment, count)?;
         Ok(())
     }
 
-    /// Adds a value that the linker computes to the section of a segment, with its statement's
-    /// location.
+    /// Appends a value that the linker computes to the section of a segment, with its statement's location.
     pub fn value(
         &mut self,
         segment: u32,
@@ -111,7 +110,7 @@ impl Sections {
         form: Norm,
     ) -> Result<(), AllocError>
         ensures { OnOk result (AppendsSlot self.old self.new (resolved
-            (section_part segment (Waiting width (place_in at.entry.file.now at.entry.line) form)))) }
+            (section_part segment (LinkTimeValue width (location_in at.entry.file.now at.entry.line) form)))) }
     {
         let pos = self.files.pos_of(self.entries.alloc, at)?;
         self.entries.push(SectionEntry::Value {
@@ -132,7 +131,7 @@ impl Sections {
         piece: FixupKind,
     ) -> Result<(), AllocError>
         ensures { OnOk result (AppendsSlot self.old self.new
-            (waiting (place_in at.entry.file.now at.entry.line) context piece)) }
+            (deferred_slot (location_in at.entry.file.now at.entry.line) context piece)) }
     {
         let pos = self.files.pos_of(self.entries.alloc, at)?;
         let fixup = Fixup {
@@ -150,25 +149,25 @@ impl Sections {
         ensures { IfOk result (λ t. (xs : List Slot) → RepresentsSlots xs self → HasSlots xs t) }
     {
         let Sections {
-            asked,
+            requested,
             latest: _,
             files,
             entries,
         } = self;
         let entries = entries.into_list()?;
         Ok(ClosedSections {
-            asked,
+            requested,
             files,
             entries,
         })
     }
 }
 
-/// The sections after the last statement; entries no longer grow.
+/// The sections after the last statement. Their entries no longer grow.
 #[derive(Drop)]
 pub struct ClosedSections {
-    /// The segments of which a section was asked for.
-    pub asked: IndexSet<u32>,
+    /// The segments whose section was requested.
+    pub requested: IndexSet<u32>,
     /// The files that entries refer to.
     pub files: Files,
     pub entries: Vec<SectionEntry>,
@@ -187,14 +186,14 @@ impl ClosedSections {
             o ≡ object_with segments.now (names_of imports.now) cs) }
         ensures numbers { IfOk result ObjectFits }
         ensures good { IfOk result (λ o. (cs : List Content) → HasSlots (map resolved cs) self →
-            AreSound segments.now (names_of imports.now) cs → is_well_formed_object o ≡ true) }
+            AreWellFormedContents segments.now (names_of imports.now) cs → is_well_formed_object o ≡ true) }
     {
         let ClosedSections {
-            asked,
+            requested,
             files,
             entries,
         } = self;
-        let numbered = number(alloc, imports, asked, entries)?;
+        let numbered = number(alloc, imports, requested, entries)?;
         object_of(alloc, segments, imports, files.names(), numbered)
     }
 }

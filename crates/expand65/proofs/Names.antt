@@ -7,11 +7,11 @@ use Rattle.std.proofs.lemmas.Bool.Decides.{nat_tests}
 use Rattle.std.proofs.lemmas.List.{map-append, take-append-drop, take_all}
 use Rattle.std.proofs.lemmas.List.Folds.{list_any-append}
 use Rattle.indexmap.specs.IndexSet.{insert_key}
-use Rattle.expand65.specs.Macros.{are_distinct, distinct_of, braces_after, parts_within, put_in_first, without_braces, is_comma_at, name_at, part_len}
+use Rattle.expand65.specs.Macros.{are_distinct, distinct_of, braces_after, arguments_within, prepend_to_first, without_braces, is_comma_at, name_at, argument_len}
 use Rattle.expand65.proofs.Tables.{any_seen, drop_seen, take_seen, same_name}
 use Rattle.std.proofs.lemmas.Grind.{common_steps}
 use Rattle.syntax65.specs.Tokens.{Lexeme}
-use Rattle.expand65.specs.Fronts.{is_comma, names_from, ◌>=>◌}
+use Rattle.expand65.specs.LineStart.{is_comma, names_from, ◌>=>◌}
 
 -- ---- Names of which no two are alike, found one after another; and tables that take one more name.
 
@@ -149,23 +149,23 @@ abbrev ends_part : ℕ → Lexeme → Bool
 ends_part d t = is_comma t && (d == 0)
 
 -- a last part
-pub last_part : (d : ℕ) (ts : List Lexeme) → length ts ≤ part_len d ts → parts_within d ts ≡ ts ∷ []
+pub last_part : (d : ℕ) (ts : List Lexeme) → length ts ≤ argument_len d ts → arguments_within d ts ≡ ts ∷ []
 last_part d [] h = refl
 last_part d (t ∷ ts) h = by (ends_part d t) refl (last_part (braces_after d t) ts)
   where
-    by : (b : Bool) → ends_part d t ≡ b → (length ts ≤ part_len (braces_after d t) ts → parts_within (braces_after d t) ts ≡ ts ∷ []) → parts_within d (t ∷ ts) ≡ (t ∷ ts) ∷ []
-    by true e next = absurd (let z : part_len d (t ∷ ts) ≡ 0 = rw e refl in omega arith)
-    by false e next = let n : part_len d (t ∷ ts) ≡ 1 + part_len (braces_after d t) ts = rw e refl in rw e (ap (put_in_first t) (next (omega arith)))
+    by : (b : Bool) → ends_part d t ≡ b → (length ts ≤ argument_len (braces_after d t) ts → arguments_within (braces_after d t) ts ≡ ts ∷ []) → arguments_within d (t ∷ ts) ≡ (t ∷ ts) ∷ []
+    by true e next = absurd (let z : argument_len d (t ∷ ts) ≡ 0 = rw e refl in omega arith)
+    by false e next = let n : argument_len d (t ∷ ts) ≡ 1 + argument_len (braces_after d t) ts = rw e refl in rw e (ap (prepend_to_first t) (next (omega arith)))
 
 -- a part and a comma behind it
-pub next_part : (d : ℕ) (ts : List Lexeme) → part_len d ts < length ts → parts_within d ts ≡ take (part_len d ts) ts ∷ parts_within 0 (drop (part_len d ts + 1) ts)
+pub next_part : (d : ℕ) (ts : List Lexeme) → argument_len d ts < length ts → arguments_within d ts ≡ take (argument_len d ts) ts ∷ arguments_within 0 (drop (argument_len d ts + 1) ts)
 next_part d [] h = absurd (omega arith)
 next_part d (t ∷ ts) h = grind (arith, common_steps, (next_part (braces_after d t) ts))
 
 -- ---- The parts so far, and one more.
 
-pub parts_end : (done all : List (List Lexeme)) (rest x : List Lexeme) (n : ℕ) → n ≡ part_len 0 rest → length rest ≤ n → x ≡ without_braces (take n rest) → done ++ map without_braces (parts_within 0 rest) ≡ all → done ++ x ∷ [] ≡ all
+pub parts_end : (done all : List (List Lexeme)) (rest x : List Lexeme) (n : ℕ) → n ≡ argument_len 0 rest → length rest ≤ n → x ≡ without_braces (take n rest) → done ++ map without_braces (arguments_within 0 rest) ≡ all → done ++ x ∷ [] ≡ all
 parts_end done all rest x n e h same so_far = grind (arith, common_steps, last_part, take_all)
 
-pub parts_more : (done all : List (List Lexeme)) (rest x : List Lexeme) (n : ℕ) → n ≡ part_len 0 rest → n < length rest → x ≡ without_braces (take n rest) → done ++ map without_braces (parts_within 0 rest) ≡ all → (done ++ x ∷ []) ++ map without_braces (parts_within 0 (drop (n + 1) rest)) ≡ all
+pub parts_more : (done all : List (List Lexeme)) (rest x : List Lexeme) (n : ℕ) → n ≡ argument_len 0 rest → n < length rest → x ≡ without_braces (take n rest) → done ++ map without_braces (arguments_within 0 rest) ≡ all → (done ++ x ∷ []) ++ map without_braces (arguments_within 0 (drop (n + 1) rest)) ≡ all
 parts_more done all rest x n e h same so_far = grind (arith, common_steps, next_part, append_assoc)

@@ -11,8 +11,8 @@ use Rattle.std.specs.declared.rc.Rc.{Rc}
 use Rattle.indexmap.specs.IndexMap.{insert_entry}
 use Rattle.base65.specs.Store.{Files}
 use Rattle.syntax65.specs.Tokens.{Lexeme}
-use Rattle.expand65.specs.Replay.{tokens_in, left_to_play, replacing_of}
-use Rattle.expand65.specs.Lines.{all_local, with_local, with_locals, Substitution, own_token, with_local_names, Item, played, mark, InputEnd}
+use Rattle.expand65.specs.Replay.{tokens_in, remaining_replay, substitution_of}
+use Rattle.expand65.specs.Lines.{all_local, with_local, with_locals, Substitution, local_name_token, with_local_names, Item, body_line, end_mark, InputEnd}
 use Rattle.expand65.specs.declared.line.StoredLine.{StoredLine}
 use Rattle.expand65.specs.declared.macro_replay.Body.{Body}
 use Rattle.expand65.specs.declared.macro_replay.Replay.{Replay}
@@ -68,21 +68,21 @@ abbrev pub own_locals : Substitution → List (List ℕ × List Lexeme) → Subs
 own_locals r ls = record { params = r.params; arguments = r.arguments; count = r.count; locals = ls; number = r.number }
 
 -- the names one after another
-pub all_more : (n : ℕ) (names : List (List ℕ)) (name : List ℕ) (ls : List (List ℕ × List Lexeme)) → all_local n (names ++ name ∷ []) ls ≡ with_local (all_local n names ls) name (own_token n name ∷ [])
+pub all_more : (n : ℕ) (names : List (List ℕ)) (name : List ℕ) (ls : List (List ℕ × List Lexeme)) → all_local n (names ++ name ∷ []) ls ≡ with_local (all_local n names ls) name (local_name_token n name ∷ [])
 all_more n [] name ls = refl
-all_more n (x ∷ names) name ls = all_more n names name (with_local ls x (own_token n x ∷ []))
+all_more n (x ∷ names) name ls = all_more n names name (with_local ls x (local_name_token n x ∷ []))
 
 -- more names for the lines up to the end mark
-pub localised_lines : (names : List (List ℕ)) (e : Substitution) (ls : List (List Lexeme)) (k : InputEnd) (is : List Item) → with_local_names names (map (played e) ls ++ mark k ∷ is) ≡ map (played (with_locals names e)) ls ++ mark k ∷ is
+pub localised_lines : (names : List (List ℕ)) (e : Substitution) (ls : List (List Lexeme)) (k : InputEnd) (is : List Item) → with_local_names names (map (body_line e) ls ++ end_mark k ∷ is) ≡ map (body_line (with_locals names e)) ls ++ end_mark k ∷ is
 localised_lines names e [] k is = refl
-localised_lines names e (l ∷ ls) k is = ap (λ x. played (with_locals names e) l ∷ x) (localised_lines names e ls k is)
+localised_lines names e (l ∷ ls) k is = ap (λ x. body_line (with_locals names e) l ∷ x) (localised_lines names e ls k is)
 
 -- ---- One more name of an expansion's own, and more.
 
-pub with_own : (old : Replay) (es : List (Vec ℕ Global × StoredLine)) (k : Vec ℕ Global) (v : StoredLine) (name : List ℕ) → es ≡ insert_entry same_name old.locals.entries k v → k.items ≡ name → tokens_in v ≡ own_token old.number name ∷ [] → own_locals (replacing_of old) (map local_of es) ≡ with_locals (name ∷ []) (replacing_of old)
+pub with_own : (old : Replay) (es : List (Vec ℕ Global × StoredLine)) (k : Vec ℕ Global) (v : StoredLine) (name : List ℕ) → es ≡ insert_entry same_name old.locals.entries k v → k.items ≡ name → tokens_in v ≡ local_name_token old.number name ∷ [] → own_locals (substitution_of old) (map local_of es) ≡ with_locals (name ∷ []) (substitution_of old)
 with_own old es k v name e n t =
     let ls = map local_of old.locals.entries in
-    ap (own_locals (replacing_of old)) (ap (map local_of) e ∙ inserted old.locals.entries k v ∙ ap (λ x. with_local ls x (tokens_in v)) n ∙ ap (with_local ls name) t)
+    ap (own_locals (substitution_of old)) (ap (map local_of) e ∙ inserted old.locals.entries k v ∙ ap (λ x. with_local ls x (tokens_in v)) n ∙ ap (with_local ls name) t)
 
 pub more_names : (names : List (Bor (List ℕ))) (i : ℕ) (d : Bor (List ℕ)) (init old new : Substitution) → i < length names → new ≡ with_locals ((get_or names i d).now ∷ []) old → old ≡ with_locals (take i (map (λ s. s.now) names)) init → new ≡ with_locals (take (i + 1) (map (λ s. s.now) names)) init
 more_names names i d init old new l h e =
@@ -91,8 +91,8 @@ more_names names i d init old new l h e =
     h ∙ ap (with_locals (name ∷ [])) e ∙ ap (own_locals init) (sym (all_more init.number (take i ns) name init.locals)) ∙ ap (λ l. with_locals l init) (sym (take_seen (λ s. s.now) names i d l))
 
 -- what is left of an expansion, with more names
-pub left_localised : (m : Files) (old new : Replay) (names : List (List ℕ)) (k : InputEnd) (is : List Item) → replacing_of new ≡ with_locals names (replacing_of old) → new.body ≡ old.body → new.at ≡ old.at → left_to_play new ++ mark k ∷ is ≡ with_local_names names (left_to_play old ++ mark k ∷ is)
+pub left_localised : (m : Files) (old new : Replay) (names : List (List ℕ)) (k : InputEnd) (is : List Item) → substitution_of new ≡ with_locals names (substitution_of old) → new.body ≡ old.body → new.at ≡ old.at → remaining_replay new ++ end_mark k ∷ is ≡ with_local_names names (remaining_replay old ++ end_mark k ∷ is)
 left_localised m old new names k is r b a =
     let ls = drop old.at (map tokens_in old.body.value.lines) in
     let lines : drop new.at (map tokens_in new.body.value.lines) ≡ ls = ap (λ i. drop i (map tokens_in new.body.value.lines)) a ∙ ap (λ (x : Rc Body Global). drop old.at (map tokens_in x.value.lines)) b in
-    ap (λ e. map (played e) (drop new.at (map tokens_in new.body.value.lines)) ++ mark k ∷ is) r ∙ ap (λ l. map (played (with_locals names (replacing_of old))) l ++ mark k ∷ is) lines ∙ sym (localised_lines names (replacing_of old) ls k is)
+    ap (λ e. map (body_line e) (drop new.at (map tokens_in new.body.value.lines)) ++ end_mark k ∷ is) r ∙ ap (λ l. map (body_line (with_locals names (substitution_of old))) l ++ end_mark k ∷ is) lines ∙ sym (localised_lines names (substitution_of old) ls k is)

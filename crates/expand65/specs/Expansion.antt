@@ -9,10 +9,10 @@ use Rattle.syntax65.specs.Tokens.{Lexeme}
 use Rattle.syntax65.specs.Expressions.{IsParsed}
 use Rattle.syntax65.specs.Trees.{Tree}
 use Rattle.expand65.specs.Blocks.{Block, CompleteBlock}
-use Rattle.expand65.specs.Fronts.{begins, string_of, front_directive, is_mislabelled, label_len, line_directive, ok_or_unknown}
-use Rattle.expand65.specs.Lines.{lines_of, file_limit, LineAndRest, TakesNextLine, line_limit, file_lines_after, Item, labelled, branch, mark, remaining_input, innermost, come_back, RemainingInput, LocatedError}
-use Rattle.expand65.specs.Macros.{with_input, exit_macro, local_line, macro_line, mark_from, ordinary, repeat_line}
-use Rattle.expand65.specs.State.{State, ExpansionStep, leads, parses, decides, takes, takes_block, searches, StepResult, stops, EnvironmentView, label, goes, gives, ends, with_remaining, with_items, ExpandedStatement, IsCondition, else_line, ended_if, if_alone, if_line, without_last_condition, unless_refused, unless_stopped}
+use Rattle.expand65.specs.LineStart.{first_satisfies, string_of, first_directive, is_mislabelled, label_len, line_directive, ok_or_not_understood}
+use Rattle.expand65.specs.Lines.{lines_of, file_limit, LineAndRest, ReadsNextLine, line_limit, file_lines_after, Item, label_rest, elseif_rest, end_mark, remaining_input, innermost, restored_location, RemainingInput, LocatedError}
+use Rattle.expand65.specs.Macros.{with_input, exit_macro, local_line, macro_line, new_end_mark, plain_line_result, repeat_line}
+use Rattle.expand65.specs.State.{State, ExpansionStep, finishes, parses, decides, reads_line, reads_block, searches, StepResult, raises, EnvironmentView, label, continues, yields, ends, with_remaining, with_items, ExpandedStatement, IsCondition, else_line, endif_result, if_alone, if_line, without_last_condition, and_then_step, and_then_result}
 use Rattle.expand65.specs.Types.{ExprFault, ExpandFault, FileNotFound, FileTooLong, Directive, Macro, EndMacro, ExitMacro, Local, Repeat, EndRepeat, If, ElseIf, Else, EndIf, Include, Error, End, True}
 use Rattle.syntax65.specs.declared.fault.ExpandFault.TheVariants as faults
 use Rattle.base65.specs.Outcome.{◌>>=◌}
@@ -44,11 +44,11 @@ path_in name folder = folder ++ 47 ∷ name
 
 -- the candidate paths of an included file, in order, for the including file and these folders
 abbrev pub candidate_names : List ℕ → List (List ℕ) → List ℕ → List (List ℕ)
-candidate_names file folders name = if begins is_slash name then name ∷ [] else (folder_of file ++ name) ∷ map (path_in name) folders
+candidate_names file folders name = if first_satisfies is_slash name then name ∷ [] else (folder_of file ++ name) ∷ map (path_in name) folders
 
 -- the only candidate path of a file that is searched in the including file's folder alone
-abbrev pub beside : List ℕ → List ℕ → List ℕ
-beside file name = if begins is_slash name then name else folder_of file ++ name
+abbrev pub sibling_path : List ℕ → List ℕ → List ℕ
+sibling_path file name = if first_satisfies is_slash name then name else folder_of file ++ name
 
 -- the name, if it is UTF-8
 abbrev pub as_text : List ℕ → Option (List ℕ)
@@ -70,18 +70,18 @@ first_file m (name ∷ names) = found_or name (file_named m name) (first_file m 
 -- the step to the lines of a file, given its name and bytes
 abbrev pub file_step : State → List ℕ × List ℕ → StepResult
 file_step s (name, bytes) =
-    with_input s (file_lines_after 0 (lines_of bytes)) (mark_from s false (Some s.left.place)) (record { file = name; line = 0 })
+    with_input s (file_lines_after 0 (lines_of bytes)) (new_end_mark s false (Some s.left.place)) (record { file = name; line = 0 })
 
 -- searches an included file
 abbrev pub include_file : State → List ℕ → ExpansionStep
 include_file s name =
-    searches s.left (candidate_names s.left.place.file s.folders name) (λ q. unless_refused s q (λ file. leads (file_step s file)))
+    searches s.left (candidate_names s.left.place.file s.folders name) (λ q. and_then_step s q (λ file. finishes (file_step s file)))
 
 -- ---- One step of expansion, by the next line.
 
 -- the error of an end or exit directive without an open block
 abbrev pub not_opened : State → StepResult
-not_opened s = stops (faults.NotOpened, s.left.place)
+not_opened s = raises (faults.NotOpened, s.left.place)
 
 -- the last open condition, if the innermost file, macro call or repeat opened it
 abbrev pub last_condition : State → Option (Bool × List Bool)
@@ -90,60 +90,60 @@ last_condition s = without_last_condition s.conditions (option_map_or (λ k. k.c
 -- the effect of a directive and the rest of its line
 abbrev pub directive_step : EnvironmentView → State → Directive → List Lexeme → ExpansionStep
 directive_step k s Macro ts = macro_line s ts
-directive_step k s EndMacro ts = if_alone s ts (leads (not_opened s))
-directive_step k s ExitMacro ts = if_alone s ts (leads (exit_macro s))
-directive_step k s Local ts = leads (local_line s ts)
+directive_step k s EndMacro ts = if_alone s ts (finishes (not_opened s))
+directive_step k s ExitMacro ts = if_alone s ts (finishes (exit_macro s))
+directive_step k s Local ts = finishes (local_line s ts)
 directive_step k s Repeat ts = repeat_line k s ts
-directive_step k s EndRepeat ts = if_alone s ts (leads (not_opened s))
+directive_step k s EndRepeat ts = if_alone s ts (finishes (not_opened s))
 directive_step k s (If test) ts = if_line k s test ts
 directive_step k s ElseIf ts = else_line s (last_condition s)
 directive_step k s Else ts = if_alone s ts (else_line s (last_condition s))
-directive_step k s EndIf ts = if_alone s ts (leads (ended_if s (last_condition s)))
-directive_step k s Include ts = unless_refused s (ok_or_unknown (string_of ts)) (include_file s)
-directive_step k s Error ts = unless_refused s (ok_or_unknown (string_of ts)) (λ text. leads (stops (faults.Error text, s.left.place)))
-directive_step k s End ts = if_alone s ts (leads (goes (with_items s [])))
+directive_step k s EndIf ts = if_alone s ts (finishes (endif_result s (last_condition s)))
+directive_step k s Include ts = and_then_step s (ok_or_not_understood (string_of ts)) (include_file s)
+directive_step k s Error ts = and_then_step s (ok_or_not_understood (string_of ts)) (λ text. finishes (raises (faults.Error text, s.left.place)))
+directive_step k s End ts = if_alone s ts (finishes (continues (with_items s [])))
 
 -- the effect of a line without a label, given its preprocessor directive
 abbrev pub line_step : EnvironmentView → State → List Lexeme → Option Directive → ExpansionStep
 line_step k s ts (Some directive) = directive_step k s directive (drop 1 ts)
-line_step k s ts None = leads (ordinary s ts)
+line_step k s ts None = finishes (plain_line_result s ts)
 
 -- the effect of a line whose label has this many tokens
 abbrev pub label_step : EnvironmentView → State → List Lexeme → Option Directive → ℕ → ExpansionStep
 label_step k s ts directive zero = line_step k s ts directive
-label_step k s ts directive (suc n) = leads (gives (label (take (suc n) ts)) (with_items s (labelled (drop (suc n) ts) ∷ s.left.items)))
+label_step k s ts directive (suc n) = finishes (yields (label (take (suc n) ts)) (with_items s (label_rest (drop (suc n) ts) ∷ s.left.items)))
 
 -- the label is the next statement, unless it must not precede the directive; the rest of its line is
 -- pending
 abbrev pub unless_mislabelled : EnvironmentView → State → List Lexeme → Bool → ExpansionStep
-unless_mislabelled k s ts true = leads (stops (faults.NotUnderstood, s.left.place))
+unless_mislabelled k s ts true = finishes (raises (faults.NotUnderstood, s.left.place))
 unless_mislabelled k s ts false = label_step k s ts (line_directive ts) (label_len ts)
 
 -- Removes an end mark, at which as many conditions must be open as at its beginning. After the last one the
 -- source ends.
-abbrev pub at_mark : State → List Item → StepResult
-at_mark s [] = ends s
-at_mark s (mark k ∷ is) = if k.conditions == length s.conditions then goes (with_remaining s (remaining_input is s.left.room (come_back s.left.place k.back))) else stops (faults.NotClosed, s.left.place)
-at_mark s (_ ∷ is) = ends s
+abbrev pub end_mark_step : State → List Item → StepResult
+end_mark_step s [] = ends s
+end_mark_step s (end_mark k ∷ is) = if k.conditions == length s.conditions then continues (with_remaining s (remaining_input is s.left.room (restored_location s.left.place k.return_location))) else raises (faults.NotClosed, s.left.place)
+end_mark_step s (_ ∷ is) = ends s
 
 abbrev pub step_after : EnvironmentView → State → LineAndRest → ExpansionStep
-step_after k s (Err e) = leads (stops e)
+step_after k s (Err e) = finishes (raises e)
 step_after k s (Ok (Some ts, l)) = unless_mislabelled k (with_remaining s l) ts (is_mislabelled ts)
-step_after k s (Ok (None, l)) = leads (at_mark (with_remaining s l) l.items)
+step_after k s (Ok (None, l)) = finishes (end_mark_step (with_remaining s l) l.items)
 
 -- processes the rest of a line after its label, decides a pending branch, or reads the next line
 abbrev pub step_from : EnvironmentView → State → List Item → ExpansionStep
-step_from k s (labelled ts ∷ is) = line_step k (with_items s is) ts (front_directive ts)
-step_from k s (branch ts ∷ is) = if_line k (with_items s is) True ts
-step_from k s _ = takes s.left (step_after k s)
+step_from k s (label_rest ts ∷ is) = line_step k (with_items s is) ts (first_directive ts)
+step_from k s (elseif_rest ts ∷ is) = if_line k (with_items s is) True ts
+step_from k s _ = reads_line s.left (step_after k s)
 
 -- the outcome of a step once all that it reads is known
 abbrev pub StepReaches : Files → ExpansionStep → StepResult → Type 0
-StepReaches m (leads x) r = r ≡ x
+StepReaches m (finishes x) r = r ≡ x
 StepReaches m (parses ts next) r = (q : Result (Tree × ℕ) ExprFault) × IsParsed ts q × StepReaches m (next q) r
 StepReaches m (decides k test ts next) r = (c : Result Bool ExpandFault) × IsCondition k test ts c × StepReaches m (next c) r
-StepReaches m (takes l next) r = (t : LineAndRest) × TakesNextLine l t × StepReaches m (next t) r
-StepReaches m (takes_block k l next) r = (q : Result (CompleteBlock × RemainingInput) LocatedError) × Block k 0 [] l q × (r ≡ unless_stopped q (λ b. next b.0 b.1))
+StepReaches m (reads_line l next) r = (t : LineAndRest) × ReadsNextLine l t × StepReaches m (next t) r
+StepReaches m (reads_block k l next) r = (q : Result (CompleteBlock × RemainingInput) LocatedError) × Block k 0 [] l q × (r ≡ and_then_result q (λ b. next b.0 b.1))
 StepReaches m (searches l names next) r = StepReaches m (next (first_file m names)) r
 
 -- the outcome of the step from a state
@@ -160,21 +160,21 @@ pub data Next : Type 0 where
 
 -- steps from a state lead to this statement, end or error
 pub data ReachesNext (m : Files) (k : EnvironmentView) : State → Next → Type 0 where
-  further : (s t : State) (n : Next) → IsStep m k s (goes t) → ReachesNext m k t n → ReachesNext m k s n
-  given : (s t : State) (x : ExpandedStatement) → IsStep m k s (gives x t) → ReachesNext m k s (statement x t)
+  further : (s t : State) (n : Next) → IsStep m k s (continues t) → ReachesNext m k t n → ReachesNext m k s n
+  yielded : (s t : State) (x : ExpandedStatement) → IsStep m k s (yields x t) → ReachesNext m k s (statement x t)
   ended : (s t : State) → IsStep m k s (ends t) → ReachesNext m k s (nothing t)
-  stopped : (s : State) (e : LocatedError) → IsStep m k s (stops e) → ReachesNext m k s (fault e)
+  stopped : (s : State) (e : LocatedError) → IsStep m k s (raises e) → ReachesNext m k s (fault e)
 
 -- all lines of a source
-abbrev pub first_left : List ℕ → List ℕ → RemainingInput
-first_left file bytes =
-    remaining_input (file_lines_after 0 (lines_of bytes) ++ mark (record { is_macro = false; conditions = 0; back = None }) ∷ []) line_limit
+abbrev pub initial_input : List ℕ → List ℕ → RemainingInput
+initial_input file bytes =
+    remaining_input (file_lines_after 0 (lines_of bytes) ++ end_mark (record { is_macro = false; conditions = 0; return_location = None }) ∷ []) line_limit
     (record { file = file; line = 0 })
 
 -- the state before the first line of a source
 abbrev pub first_state : List ℕ → List (List ℕ) → List ℕ → State
 first_state file folders bytes = record {
-  left = first_left file bytes;
+  left = initial_input file bytes;
   macros = [];
   conditions = [];
   expansions = 0;
@@ -182,8 +182,8 @@ first_state file folders bytes = record {
 }
 
 -- the first state of the source with this name, or an error if it doesn't exist or is too long
-abbrev pub opened_in : Files → List ℕ → List (List ℕ) → Result State ExpandFault
-opened_in m file folders = bytes_in (file_named m file) >>= (λ bytes. Ok (first_state file folders bytes))
+abbrev pub first_state_in : Files → List ℕ → List (List ℕ) → Result State ExpandFault
+first_state_in m file folders = bytes_in (file_named m file) >>= (λ bytes. Ok (first_state file folders bytes))
 
 -- ---- Laws about the definitions.
 

@@ -1,7 +1,7 @@
 pub mod Blocks
 pub mod Expansion
-pub mod Failing
-pub mod Fronts
+pub mod Failures
+pub mod LineStart
 pub mod Laws
 pub mod Lines
 pub mod Macros

@@ -8,7 +8,7 @@ use Rattle.base65.specs.Store.{Files, FailedAt, PropagatesIoError, LastFailure}
 use Rattle.syntax65.specs.Faults.{is_failure, is_system_error, fault_of_lexing}
 use Rattle.syntax65.specs.Tokens.{Lexeme, IsRead}
 use Rattle.syntax65.specs.declared.lexing.tokens.TokenKind.TheVariants as token
-use Rattle.expand65.specs.Fronts.{begins}
+use Rattle.expand65.specs.LineStart.{first_satisfies}
 use Rattle.expand65.specs.Types.{ExpandFault, FileError, Syntax, Nested, NotClosed, TooManyLines, LineTooLong, SourceLocation, OpenFile}
 use Rattle.std.specs.FinMap as fmap
 use Rattle.base65.specs.Outcome.{Unless}
@@ -35,8 +35,8 @@ abbrev pub number_token : ℕ → Lexeme
 number_token n = (token.Number n, decimal n)
 
 -- the replacement of a local name as a token
-abbrev pub own_token : ℕ → List ℕ → Lexeme
-own_token number name = (token.Identifier, name ++ codes "?" ++ decimal number)
+abbrev pub local_name_token : ℕ → List ℕ → Lexeme
+local_name_token number name = (token.Identifier, name ++ codes "?" ++ decimal number)
 
 -- the argument of the parameter at an index, or empty if it is missing
 abbrev pub argument_at : List (List Lexeme) → Option ℕ → Option (List Lexeme)
@@ -44,20 +44,20 @@ argument_at arguments None = None
 argument_at arguments (Some i) = Some (unwrap_or (slice_get arguments i) [])
 
 -- the replacement of a name: the argument of a parameter, or that of a local name
-abbrev pub for_name : Substitution → List ℕ → Option (List Lexeme)
-for_name r name = option_or (argument_at r.arguments (position (bytes_eq name) r.params)) (lookup (bytes_eq name) r.locals)
+abbrev pub name_replacement : Substitution → List ℕ → Option (List Lexeme)
+name_replacement r name = option_or (argument_at r.arguments (position (bytes_eq name) r.params)) (lookup (bytes_eq name) r.locals)
 
-abbrev pub is_count_word : List ℕ → Bool
-is_count_word text = str_eq_ignore_ascii_case text (codes ".paramcount")
+abbrev pub is_paramcount : List ℕ → Bool
+is_paramcount text = str_eq_ignore_ascii_case text (codes ".paramcount")
 
 -- the replacement of a directive
-abbrev pub for_word : Substitution → List ℕ → Option (List Lexeme)
-for_word r text = if is_count_word text then r.count else None
+abbrev pub directive_replacement : Substitution → List ℕ → Option (List Lexeme)
+directive_replacement r text = if is_paramcount text then r.count else None
 
 -- the replacement of a token, if it has one
 abbrev pub replacement_for : Substitution → Lexeme → Option (List Lexeme)
-replacement_for r (token.Identifier, text) = for_name r text
-replacement_for r (token.Directive, text) = for_word r text
+replacement_for r (token.Identifier, text) = name_replacement r text
+replacement_for r (token.Directive, text) = directive_replacement r text
 replacement_for r _ = None
 
 -- The line with its tokens replaced in one pass. Replacements aren't expanded again.
@@ -89,7 +89,7 @@ with_local ((other, us) ∷ others) name ts = if bytes_eq name other then (other
 
 abbrev pub all_local : ℕ → List (List ℕ) → List (List ℕ × List Lexeme) → List (List ℕ × List Lexeme)
 all_local number [] locals = locals
-all_local number (name ∷ names) locals = all_local number names (with_local locals name (own_token number name ∷ []))
+all_local number (name ∷ names) locals = all_local number names (with_local locals name (local_name_token number name ∷ []))
 
 -- adds local names, whose replacements are followed by `?` and the number of the call
 abbrev pub with_locals : List (List ℕ) → Substitution → Substitution
@@ -104,19 +104,19 @@ pub record InputEnd : Type 0 where
   -- the number of conditions that were open at the beginning
   pub conditions : ℕ
   -- the location of the line that included the file
-  pub back : Option SourceLocation
+  pub return_location : Option SourceLocation
 
 -- an item of the remaining input: a line, the rest of a line, or an end mark
 pub data Item : Type 0 where
   -- a line of a file: its number and its bytes
-  written : ℕ → List ℕ → Item
+  file_line : ℕ → List ℕ → Item
   -- a line of a body, with its replacements
-  played : Substitution → List Lexeme → Item
+  body_line : Substitution → List Lexeme → Item
   -- the rest of a line after its label
-  labelled : List Lexeme → Item
+  label_rest : List Lexeme → Item
   -- the rest of an `.elseif` line whose condition is evaluated next
-  branch : List Lexeme → Item
-  mark : InputEnd → Item
+  elseif_rest : List Lexeme → Item
+  end_mark : InputEnd → Item
 
 -- the remaining lines, the line budget, and the location of the line read last
 pub record RemainingInput : Type 0 where
@@ -137,48 +137,48 @@ abbrev pub location_at : SourceLocation → ℕ → SourceLocation
 location_at p n = record { file = p.file; line = n }
 
 -- the location after an end mark
-abbrev pub come_back : SourceLocation → Option SourceLocation → SourceLocation
-come_back p None = p
-come_back p (Some q) = q
+abbrev pub restored_location : SourceLocation → Option SourceLocation → SourceLocation
+restored_location p None = p
+restored_location p (Some q) = q
 
 -- ---- End marks.
 
 -- the number of end marks
-abbrev pub marks : List Item → ℕ
-marks [] = 0
-marks (mark k ∷ is) = marks is + 1
-marks (_ ∷ is) = marks is
+abbrev pub end_mark_count : List Item → ℕ
+end_mark_count [] = 0
+end_mark_count (end_mark k ∷ is) = end_mark_count is + 1
+end_mark_count (_ ∷ is) = end_mark_count is
 
 -- the first end mark, which ends the innermost file, macro call or repeat
 abbrev pub innermost : List Item → Option InputEnd
 innermost [] = None
-innermost (mark k ∷ is) = Some k
+innermost (end_mark k ∷ is) = Some k
 innermost (_ ∷ is) = innermost is
 
 -- the number of conditions that stay open after the innermost macro call, the remaining input after it, and
 -- the location there
-abbrev pub outside_macro : List Item → SourceLocation → Option (ℕ × List Item × SourceLocation)
-outside_macro [] p = None
-outside_macro (mark k ∷ is) p = if k.is_macro then Some (k.conditions, is, come_back p k.back) else outside_macro is (come_back p k.back)
-outside_macro (_ ∷ is) p = outside_macro is p
+abbrev pub after_innermost_macro : List Item → SourceLocation → Option (ℕ × List Item × SourceLocation)
+after_innermost_macro [] p = None
+after_innermost_macro (end_mark k ∷ is) p = if k.is_macro then Some (k.conditions, is, restored_location p k.return_location) else after_innermost_macro is (restored_location p k.return_location)
+after_innermost_macro (_ ∷ is) p = after_innermost_macro is p
 
 -- ---- Lines.
 
 -- the lines of a file after the first n
 abbrev pub file_lines_after : ℕ → List (List ℕ) → List Item
 file_lines_after n [] = []
-file_lines_after n (line ∷ lines) = written (n + 1) line ∷ file_lines_after (n + 1) lines
+file_lines_after n (line ∷ lines) = file_line (n + 1) line ∷ file_lines_after (n + 1) lines
 
 -- the lines of this many iterations, from iteration t on
 abbrev pub iterations : Substitution → List (List Lexeme) → ℕ → ℕ → List Item
 iterations e body t zero = []
-iterations e body t (suc n) = map (played (in_iteration e t)) body ++ iterations e body (t + 1) n
+iterations e body t (suc n) = map (body_line (in_iteration e t)) body ++ iterations e body (t + 1) n
 
 -- the remaining input of a macro call, with more local names
 abbrev pub with_local_names : List (List ℕ) → List Item → List Item
 with_local_names names [] = []
-with_local_names names (played r ts ∷ is) = played (with_locals names r) ts ∷ with_local_names names is
-with_local_names names (mark k ∷ is) = mark k ∷ is
+with_local_names names (body_line r ts ∷ is) = body_line (with_locals names r) ts ∷ with_local_names names is
+with_local_names names (end_mark k ∷ is) = end_mark k ∷ is
 with_local_names names (i ∷ is) = i ∷ with_local_names names is
 
 -- ---- Frames of calls that may call the store.
@@ -205,17 +205,17 @@ abbrev pub is_return : ℕ → Bool
 is_return b = nat_eq b 13
 
 -- adds a byte to the start of the first line, or begins the first line with it
-abbrev pub put_before : ℕ → List (List ℕ) → List (List ℕ)
-put_before b [] = (b ∷ []) ∷ []
-put_before b (line ∷ lines) = (b ∷ line) ∷ lines
+abbrev pub prepend_byte : ℕ → List (List ℕ) → List (List ℕ)
+prepend_byte b [] = (b ∷ []) ∷ []
+prepend_byte b (line ∷ lines) = (b ∷ line) ∷ lines
 
 -- The lines of a file. LF ends a line, so no line begins after the last LF. A CR before LF is dropped.
 abbrev pub lines_of : List ℕ → List (List ℕ)
 lines_of [] = []
 lines_of (b ∷ bs) =
     if is_line_end b then [] ∷ lines_of bs
-    else if is_return b && begins is_line_end bs then lines_of bs
-    else put_before b (lines_of bs)
+    else if is_return b && first_satisfies is_line_end bs then lines_of bs
+    else prepend_byte b (lines_of bs)
 
 -- the maximum size of a file in bytes
 abbrev pub file_limit : ℕ
@@ -240,47 +240,47 @@ abbrev pub bytes_of : Files → List ℕ → List ℕ
 bytes_of m name = unwrap_or (fmap.get m name) []
 
 -- as many of them as are read
-abbrev pub content : Files → List ℕ → List ℕ
-content m name = take file_limit (bytes_of m name)
+abbrev pub readable_bytes : Files → List ℕ → List ℕ
+readable_bytes m name = take file_limit (bytes_of m name)
 
 -- the piece consists of the first n bytes of the rest of a file; n is 0 only at its end or if no byte is
 -- wanted
-pub record IsPiece (rest : List ℕ) (want n : ℕ) (piece : List ℕ) : Type 0 where
+pub record IsPiece (rest : List ℕ) (max_len n : ℕ) (piece : List ℕ) : Type 0 where
   pub pending : piece ≡ take n rest
-  pub few : n ≤ want
-  pub ends : n ≡ 0 → 0 < want → rest ≡ []
+  pub few : n ≤ max_len
+  pub ends : n ≡ 0 → 0 < max_len → rest ≡ []
 
 -- the unread bytes of an open file: those in the buffer, and those of the store's file after them
 abbrev pub rest_of : Files → OpenFile → List ℕ
-rest_of m f = drop f.at f.buffer.items ++ drop f.next (content m f.name)
+rest_of m f = drop f.at f.buffer.items ++ drop f.next (readable_bytes m f.name)
 
 -- the unread lines
-abbrev pub left_in_file : Files → OpenFile → List Item
-left_in_file m f = file_lines_after f.line (lines_of (rest_of m f))
+abbrev pub remaining_file_lines : Files → OpenFile → List Item
+remaining_file_lines m f = file_lines_after f.line (lines_of (rest_of m f))
 
 -- A read continues after the buffered bytes, and reads no further than the maximum file size.
-abbrev pub IsReadOn : OpenFile → LastFailure → Type 0
-IsReadOn f last_failure = FailedAt last_failure f.name f.next × (f.next < file_limit) × (length f.buffer.items ≤ f.at)
+abbrev pub FailedAtRefill : OpenFile → LastFailure → Type 0
+FailedAtRefill f last_failure = FailedAt last_failure f.name f.next × (f.next < file_limit) × (length f.buffer.items ≤ f.at)
 
 -- The rest of some bytes after their first n lines: a prefix that reaches into the rest begins n lines more
 -- than its part in the rest.
-pub record ComesAfter (bytes rest : List ℕ) (n : ℕ) : Type 0 where
+pub record IsRestAfterLines (bytes rest : List ℕ) (n : ℕ) : Type 0 where
   pub taken : List ℕ
   pub whole : bytes ≡ taken ++ rest
   pub count : (pending following : List ℕ) → rest ≡ pending ++ following → length (lines_of (taken ++ pending)) ≡ n + length (lines_of pending)
 
 -- the same for the unread bytes of an open file
-abbrev pub IsFileAfter : Files → OpenFile → ℕ → Type 0
-IsFileAfter m f n = ComesAfter (content m f.name) (rest_of m f) n
+abbrev pub IsFileAfterLines : Files → OpenFile → ℕ → Type 0
+IsFileAfterLines m f n = IsRestAfterLines (readable_bytes m f.name) (rest_of m f) n
 
 -- a file is open at the location of the line read last from it
 pub record IsFileAt (m : Files) (f : OpenFile) (p : SourceLocation) : Type 0 where
   pub name : f.name ≡ p.file
   pub line : p.line ≡ f.line
-  pub following : IsFileAfter m f f.line
+  pub following : IsFileAfterLines m f f.line
 
-abbrev pub in_line : List ℕ → ℕ → SourceLocation
-in_line file n = record { file = file; line = n }
+abbrev pub line_location : List ℕ → ℕ → SourceLocation
+line_location file n = record { file = file; line = n }
 
 -- The last failed call was a read of the location's file, if the store tells it. The location's line is the
 -- one that contains the offset of that read or, if that is the line's first byte, the line before: as many
@@ -292,12 +292,12 @@ pub record IsReadingAt (m : Files) (last_failure : LastFailure) (p : SourceLocat
   pub line : p.line ≡ length (lines_of (take at (bytes_of m p.file)))
 
 -- the end of a line separates these
-abbrev pub IsEndedLine : List ℕ → List ℕ → List ℕ → Type 0
-IsEndedLine all line following = (b : ℕ) × (is_line_end b ≡ true) × (all ≡ line ++ b ∷ following)
+abbrev pub IsTerminatedLine : List ℕ → List ℕ → List ℕ → Type 0
+IsTerminatedLine all line following = (b : ℕ) × (is_line_end b ≡ true) × (all ≡ line ++ b ∷ following)
 
 -- a byte within a line
-abbrev pub is_inside : ℕ → Bool
-is_inside b = not (is_line_end b)
+abbrev pub is_within_line : ℕ → Bool
+is_within_line b = not (is_line_end b)
 
 -- whether the last byte of a line is CR
 abbrev pub ends_in_return : List ℕ → Bool
@@ -308,31 +308,31 @@ abbrev pub without_return : List ℕ → List ℕ
 without_return line = if ends_in_return line then take (length line - 1) line else line
 
 -- the first line has too many bytes
-abbrev pub BeginsLong : List (List ℕ) → Type 0
-BeginsLong lines = (line : List ℕ) × ((others : List (List ℕ)) × (lines ≡ line ∷ others) × (4096 < length line))
+abbrev pub FirstLineIsTooLong : List (List ℕ) → Type 0
+FirstLineIsTooLong lines = (line : List ℕ) × ((others : List (List ℕ)) × (lines ≡ line ∷ others) × (4096 < length line))
 
 -- reads the first line
 abbrev pub ReadsLine : List (List ℕ) → Result (List ℕ) ExpandFault → List (List ℕ) → Type 0
 ReadsLine before (Ok line) after = before ≡ line ∷ after
-ReadsLine before (Err f) after = Unless (is_system_error f) ((f ≡ Syntax lex.LineTooLong) × BeginsLong before)
+ReadsLine before (Err f) after = Unless (is_system_error f) ((f ≡ Syntax lex.LineTooLong) × FirstLineIsTooLong before)
 
 -- Reads more of a line from the rest of its file, whatever follows the buffered bytes: up to its end, or
 -- all that is buffered.
-abbrev pub TakesPiece : List ℕ → List ℕ → List ℕ → Result Bool ExpandFault → List ℕ → List ℕ → Type 0
-TakesPiece line here following (Ok true) after remaining_input = lines_of (line ++ (here ++ following)) ≡ without_return after ∷ lines_of (remaining_input ++ following)
-TakesPiece line here following (Ok false) after remaining_input = line ++ (here ++ following) ≡ after ++ (remaining_input ++ following)
-TakesPiece line here following (Err f) after remaining_input = Unless (is_system_error f) ((f ≡ Syntax lex.LineTooLong) × BeginsLong (lines_of (line ++ (here ++ following))))
+abbrev pub AppendsPiece : List ℕ → List ℕ → List ℕ → Result Bool ExpandFault → List ℕ → List ℕ → Type 0
+AppendsPiece line here following (Ok true) after remaining_input = lines_of (line ++ (here ++ following)) ≡ without_return after ∷ lines_of (remaining_input ++ following)
+AppendsPiece line here following (Ok false) after remaining_input = line ++ (here ++ following) ≡ after ++ (remaining_input ++ following)
+AppendsPiece line here following (Err f) after remaining_input = Unless (is_system_error f) ((f ≡ Syntax lex.LineTooLong) × FirstLineIsTooLong (lines_of (line ++ (here ++ following))))
 
 -- ---- Inputs that are opened and closed.
 
 -- pushes lines and an end mark onto the remaining input
 abbrev pub with_lines : List Item → InputEnd → RemainingInput → Result RemainingInput LocatedError
-with_lines is k l = if nat_le (marks l.items) nesting_limit then Ok (remaining_input (is ++ mark k ∷ l.items) l.room l.place) else Err (Nested, l.place)
+with_lines is k l = if nat_le (end_mark_count l.items) nesting_limit then Ok (remaining_input (is ++ end_mark k ∷ l.items) l.room l.place) else Err (Nested, l.place)
 
 -- Removes an end mark at which this many conditions must be open. Gives the remaining input after it and
 -- the location there.
 abbrev pub without_end_mark : ℕ → SourceLocation → List Item → Result (List Item × SourceLocation) LocatedError
-without_end_mark n p (mark k ∷ is) = if k.conditions == n then Ok (is, come_back p k.back) else Err (NotClosed, p)
+without_end_mark n p (end_mark k ∷ is) = if k.conditions == n then Ok (is, restored_location p k.return_location) else Err (NotClosed, p)
 without_end_mark n p is = Ok (is, p)
 
 -- ---- The tokens of the next line.
@@ -347,30 +347,30 @@ abbrev pub body_line_tokens : List Lexeme → Result (List Lexeme) ExpandFault
 body_line_tokens ts = if nat_le (length ts) token_limit then Ok ts else Err LineTooLong
 
 -- the result for a line; a rest after a label and an end mark are no lines
-abbrev pub IsOpened : Item → Result (List Lexeme) ExpandFault → Type 0
-IsOpened (written n bytes) t = (q : Result (List Lexeme) LexFault) × IsRead bytes q × (t ≡ file_line_tokens q)
-IsOpened (played e ts) t = t ≡ body_line_tokens (substituted_line e ts)
-IsOpened _ t = ⊥
+abbrev pub HasLineTokens : Item → Result (List Lexeme) ExpandFault → Type 0
+HasLineTokens (file_line n bytes) t = (q : Result (List Lexeme) LexFault) × IsRead bytes q × (t ≡ file_line_tokens q)
+HasLineTokens (body_line e ts) t = t ≡ body_line_tokens (substituted_line e ts)
+HasLineTokens _ t = ⊥
 
 -- a line of a file moves the location
-abbrev pub location_after : SourceLocation → Item → SourceLocation
-location_after p (written n bytes) = location_at p n
-location_after p _ = p
+abbrev pub location_after_item : SourceLocation → Item → SourceLocation
+location_after_item p (file_line n bytes) = location_at p n
+location_after_item p _ = p
 
 -- the tokens of a line, or none at an end mark or at the end; and the input after it
 abbrev pub LineAndRest : Type 0
 LineAndRest = Result (Option (List Lexeme) × RemainingInput) LocatedError
 
-abbrev pub taken_as : Result (List Lexeme) ExpandFault → RemainingInput → LineAndRest
-taken_as (Ok ts) l = Ok (Some ts, l)
-taken_as (Err fault) l = Err (fault, l.place)
+abbrev pub line_and_rest : Result (List Lexeme) ExpandFault → RemainingInput → LineAndRest
+line_and_rest (Ok ts) l = Ok (Some ts, l)
+line_and_rest (Err fault) l = Err (fault, l.place)
 
 -- each line counts against the budget, and a line beyond it is an error before its tokens are read
-abbrev pub TakesFrom : List Item → ℕ → SourceLocation → LineAndRest → Type 0
-TakesFrom [] r p t = t ≡ Ok (None, remaining_input [] r p)
-TakesFrom (mark k ∷ is) r p t = t ≡ Ok (None, remaining_input (mark k ∷ is) r p)
-TakesFrom (i ∷ is) zero p t = t ≡ Err (TooManyLines, location_after p i)
-TakesFrom (i ∷ is) (suc r) p t = (q : Result (List Lexeme) ExpandFault) × IsOpened i q × (t ≡ taken_as q (remaining_input is r (location_after p i)))
+abbrev pub ReadsFirstItem : List Item → ℕ → SourceLocation → LineAndRest → Type 0
+ReadsFirstItem [] r p t = t ≡ Ok (None, remaining_input [] r p)
+ReadsFirstItem (end_mark k ∷ is) r p t = t ≡ Ok (None, remaining_input (end_mark k ∷ is) r p)
+ReadsFirstItem (i ∷ is) zero p t = t ≡ Err (TooManyLines, location_after_item p i)
+ReadsFirstItem (i ∷ is) (suc r) p t = (q : Result (List Lexeme) ExpandFault) × HasLineTokens i q × (t ≡ line_and_rest q (remaining_input is r (location_after_item p i)))
 
-abbrev pub TakesNextLine : RemainingInput → LineAndRest → Type 0
-TakesNextLine l t = TakesFrom l.items l.room l.place t
+abbrev pub ReadsNextLine : RemainingInput → LineAndRest → Type 0
+ReadsNextLine l t = ReadsFirstItem l.items l.room l.place t

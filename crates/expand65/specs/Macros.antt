@@ -1,15 +1,15 @@
 -- Macros and repeats: headers, bodies, calls and names; and the search for included files.
 use Rattle.std.specs.Prelude.{ℕ, ◌+◌, ◌-◌, ◌==◌, ◌&&◌, Bool, false, List, [], ◌∷◌, length, take, drop, map, if◌then◌else◌, ◌≡◌, nat_le, true, ◌++◌, Option, Some, None, Result, Ok, Err, ℤ, pos, negsuc, slice_get}
 use Rattle.syntax65.specs.Tokens.{Lexeme}
-use Rattle.expand65.specs.Fronts.{is_comma, opens_brace, closes_brace, name_in, names_of, ◌>=>◌, ok_or_unknown, not_understood}
+use Rattle.expand65.specs.LineStart.{is_comma, opens_brace, closes_brace, name_in, names_of, ◌>=>◌, ok_or_not_understood, not_understood}
 use Rattle.std.specs.List.{list_any}
 use Rattle.std.specs.Map.{lookup}
 use Rattle.std.specs.Str.{bytes_eq}
 use Rattle.syntax65.specs.declared.lexing.tokens.TokenKind.TheVariants as token
 use Rattle.expand65.specs.declared.blocks.BlockKind.TheVariants as kind
 use Rattle.std.specs.Option.{option_map_or}
-use Rattle.expand65.specs.Lines.{file_limit, bytes_of, Definition, Substitution, number_token, repeat_substitution, Item, played, InputEnd, remaining_input, innermost, with_local_names, outside_macro, with_lines, iterations}
-use Rattle.expand65.specs.State.{State, plain, ExpansionStep, leads, parses, takes_block, StepResult, goes, gives, stops, unless_refused, unless_stopped, with_conditions, with_remaining, with_items, EnvironmentView}
+use Rattle.expand65.specs.Lines.{file_limit, bytes_of, Definition, Substitution, number_token, repeat_substitution, Item, body_line, InputEnd, remaining_input, innermost, with_local_names, after_innermost_macro, with_lines, iterations}
+use Rattle.expand65.specs.State.{State, plain, ExpansionStep, finishes, parses, reads_block, StepResult, continues, yields, raises, and_then_step, and_then_result, with_conditions, with_remaining, with_items, EnvironmentView}
 use Rattle.expand65.specs.Types.{TooManyArguments, MacroTwice, NotOpened, NotUnderstood, NotConstant, CountOutOfRange, FileTooLong, SourceLocation, ExprFault, ExpandFault}
 use Rattle.base65.specs.Outcome.{◌>>=◌, Unless}
 use Rattle.syntax65.specs.Trees.{Tree}
@@ -23,17 +23,17 @@ abbrev pub braces_after : ℕ → Lexeme → ℕ
 braces_after d t = if opens_brace t then d + 1 else if closes_brace t then d - 1 else d
 
 -- a token added to the start of the first part
-abbrev pub put_in_first : Lexeme → List (List Lexeme) → List (List Lexeme)
-put_in_first t [] = (t ∷ []) ∷ []
-put_in_first t (part ∷ parts) = (t ∷ part) ∷ parts
+abbrev pub prepend_to_first : Lexeme → List (List Lexeme) → List (List Lexeme)
+prepend_to_first t [] = (t ∷ []) ∷ []
+prepend_to_first t (part ∷ parts) = (t ∷ part) ∷ parts
 
 -- the parts between commas outside braces, with this many braces open
-abbrev pub parts_within : ℕ → List Lexeme → List (List Lexeme)
-parts_within d [] = [] ∷ []
-parts_within d (t ∷ ts) =
+abbrev pub arguments_within : ℕ → List Lexeme → List (List Lexeme)
+arguments_within d [] = [] ∷ []
+arguments_within d (t ∷ ts) =
     if is_comma t && (d == 0)
-    then [] ∷ parts_within 0 ts
-    else put_in_first t (parts_within (braces_after d t) ts)
+    then [] ∷ arguments_within 0 ts
+    else prepend_to_first t (arguments_within (braces_after d t) ts)
 
 -- whether the last token closes the brace opened before these tokens, with this many others open inside it
 abbrev pub closes_last : ℕ → List Lexeme → Bool
@@ -55,17 +55,17 @@ without_braces ts = if is_braced ts then take (length ts - 2) (drop 1 ts) else t
 -- the arguments in the tokens after a macro's name; there are none without tokens
 abbrev pub arguments_of : List Lexeme → List (List Lexeme)
 arguments_of [] = []
-arguments_of ts = map without_braces (parts_within 0 ts)
+arguments_of ts = map without_braces (arguments_within 0 ts)
 
 -- ---- Inputs pushed onto the remaining input.
 
 -- the end mark of an input that begins here
-abbrev pub mark_from : State → Bool → Option SourceLocation → InputEnd
-mark_from s is_macro back = record { is_macro = is_macro; conditions = length s.conditions; back = back }
+abbrev pub new_end_mark : State → Bool → Option SourceLocation → InputEnd
+new_end_mark s is_macro return_location = record { is_macro = is_macro; conditions = length s.conditions; return_location = return_location }
 
 -- pushes lines and their end mark and moves to a location, unless inputs are nested too deeply
 abbrev pub with_input : State → List Item → InputEnd → SourceLocation → StepResult
-with_input s is k p = unless_stopped (with_lines is k s.left) (λ l. goes (with_remaining s (remaining_input l.items l.room p)))
+with_input s is k p = and_then_result (with_lines is k s.left) (λ l. continues (with_remaining s (remaining_input l.items l.room p)))
 
 -- ---- Definitions.
 
@@ -93,8 +93,8 @@ macro_of ms name = lookup (bytes_eq name) ms
 
 -- adds a macro with the lines of its body, unless its name is defined
 abbrev pub definition_step : State → List ℕ → List (List ℕ) → Option Definition → ExpansionStep
-definition_step s name params (Some m) = leads (stops (MacroTwice, s.left.place))
-definition_step s name params None = takes_block kind.Macro s.left (λ b l. goes (record {
+definition_step s name params (Some m) = finishes (raises (MacroTwice, s.left.place))
+definition_step s name params None = reads_block kind.Macro s.left (λ b l. continues (record {
   left = l;
   macros = s.macros ++ (name, record { params = params; body = b.0 }) ∷ [];
   conditions = s.conditions;
@@ -104,13 +104,13 @@ definition_step s name params None = takes_block kind.Macro s.left (λ b l. goes
 
 -- `.macro` and the rest of its line
 abbrev pub macro_line : State → List Lexeme → ExpansionStep
-macro_line s ts = unless_refused s (ok_or_unknown (header_of ts)) (λ h. definition_step s h.0 h.1 (macro_of s.macros h.0))
+macro_line s ts = and_then_step s (ok_or_not_understood (header_of ts)) (λ h. definition_step s h.0 h.1 (macro_of s.macros h.0))
 
 -- ---- Calls.
 
 -- the initial replacements of a macro call
-abbrev pub given_to : Definition → List (List Lexeme) → ℕ → Substitution
-given_to m arguments number = record { params = m.params; arguments = arguments; count = Some (number_token (length arguments) ∷ []); locals = []; number = number }
+abbrev pub call_substitution : Definition → List (List Lexeme) → ℕ → Substitution
+call_substitution m arguments number = record { params = m.params; arguments = arguments; count = Some (number_token (length arguments) ∷ []); locals = []; number = number }
 
 -- counts a macro call
 abbrev pub with_one_more_call : State → State
@@ -119,8 +119,8 @@ with_one_more_call s = record { left = s.left; macros = s.macros; conditions = s
 abbrev pub call_result : State → Definition → List (List Lexeme) → StepResult
 call_result s m arguments =
     if nat_le (length arguments) (length m.params)
-    then with_input (with_one_more_call s) (map (played (given_to m arguments (s.expansions + 1))) m.body) (mark_from s true None) s.left.place
-    else stops (TooManyArguments, s.left.place)
+    then with_input (with_one_more_call s) (map (body_line (call_substitution m arguments (s.expansions + 1))) m.body) (new_end_mark s true None) s.left.place
+    else raises (TooManyArguments, s.left.place)
 
 -- the macro that a token names
 abbrev pub macro_at : List (List ℕ × Definition) → Lexeme → Option Definition
@@ -128,38 +128,38 @@ macro_at ms (token.Identifier, text) = macro_of ms text
 macro_at ms _ = None
 
 -- a call of this macro, or a statement if there is none
-abbrev pub called_or_given : State → Lexeme → List Lexeme → Option Definition → StepResult
-called_or_given s t ts None = gives (plain (t ∷ ts)) s
-called_or_given s t ts (Some m) = call_result s m (arguments_of ts)
+abbrev pub call_or_statement : State → Lexeme → List Lexeme → Option Definition → StepResult
+call_or_statement s t ts None = yields (plain (t ∷ ts)) s
+call_or_statement s t ts (Some m) = call_result s m (arguments_of ts)
 
 -- a line without preprocessor directive: empty, a macro call or a statement
-abbrev pub ordinary : State → List Lexeme → StepResult
-ordinary s [] = goes s
-ordinary s (t ∷ ts) = called_or_given s t ts (macro_at s.macros t)
+abbrev pub plain_line_result : State → List Lexeme → StepResult
+plain_line_result s [] = continues s
+plain_line_result s (t ∷ ts) = call_or_statement s t ts (macro_at s.macros t)
 
 -- ---- Local names of macro calls.
 
 -- `?` marks replacements of local names
-abbrev pub is_made : List ℕ → Bool
-is_made name = list_any (λ b. b == 63) name
+abbrev pub is_generated_name : List ℕ → Bool
+is_generated_name name = list_any (λ b. b == 63) name
 
 -- the names, if none is the replacement of a local name
-abbrev pub unmade : List (List ℕ) → Option (List (List ℕ))
-unmade names = if list_any is_made names then None else Some names
+abbrev pub unless_generated : List (List ℕ) → Option (List (List ℕ))
+unless_generated names = if list_any is_generated_name names then None else Some names
 
 abbrev pub new_names : List Lexeme → Option (List (List ℕ))
-new_names ts = names_of ts >=> unmade
+new_names ts = names_of ts >=> unless_generated
 
-abbrev pub local_named : State → Option (List (List ℕ)) → StepResult
-local_named s None = stops (NotUnderstood, s.left.place)
-local_named s (Some names) = goes (with_items s (with_local_names names s.left.items))
+abbrev pub local_result : State → Option (List (List ℕ)) → StepResult
+local_result s None = raises (NotUnderstood, s.left.place)
+local_result s (Some names) = continues (with_items s (with_local_names names s.left.items))
 
 -- `.local` is allowed directly in the body of a macro only
 abbrev pub local_line : State → List Lexeme → StepResult
 local_line s ts =
     if option_map_or (λ k. k.is_macro) (innermost s.left.items) false
-    then local_named s (new_names ts)
-    else stops (NotUnderstood, s.left.place)
+    then local_result s (new_names ts)
+    else raises (NotUnderstood, s.left.place)
 
 -- ---- Leaving a macro call.
 
@@ -168,11 +168,11 @@ abbrev pub outermost : ℕ → List Bool → List Bool
 outermost n conditions = drop (length conditions - n) conditions
 
 abbrev pub exit_result : State → Option (ℕ × List Item × SourceLocation) → StepResult
-exit_result s None = stops (NotOpened, s.left.place)
-exit_result s (Some (n, is, p)) = goes (with_conditions s (outermost n s.conditions) (remaining_input is s.left.room p))
+exit_result s None = raises (NotOpened, s.left.place)
+exit_result s (Some (n, is, p)) = continues (with_conditions s (outermost n s.conditions) (remaining_input is s.left.room p))
 
 abbrev pub exit_macro : State → StepResult
-exit_macro s = exit_result s (outside_macro s.left.items s.left.place)
+exit_macro s = exit_result s (after_innermost_macro s.left.items s.left.place)
 
 -- ---- Repeats.
 
@@ -189,7 +189,7 @@ variable_of _ = None
 -- the expression of a count and the optional variable
 abbrev pub repeat_header : List Lexeme → Result (Tree × ℕ) ExprFault → Result (Tree × List (List ℕ)) ExpandFault
 repeat_header ts (Err fault) = not_understood
-repeat_header ts (Ok (e, n)) = ok_or_unknown (variable_of (drop n ts)) >>= (λ v. Ok (e, v))
+repeat_header ts (Ok (e, n)) = ok_or_not_understood (variable_of (drop n ts)) >>= (λ v. Ok (e, v))
 
 abbrev pub iterations_of : Option ℤ → Result ℕ ExpandFault
 iterations_of None = Err NotConstant
@@ -202,12 +202,12 @@ repeat_of k ts q = repeat_header ts q >>= (λ h. iterations_of (k.value h.0) >>=
 
 -- repeats the lines that follow
 abbrev pub iterations_step : State → ℕ → List (List ℕ) → ExpansionStep
-iterations_step s n variable = takes_block kind.Repeat s.left (λ b l.
-    with_input (with_remaining s l) (iterations (repeat_substitution variable) b.0 0 n) (mark_from s false None) l.place)
+iterations_step s n variable = reads_block kind.Repeat s.left (λ b l.
+    with_input (with_remaining s l) (iterations (repeat_substitution variable) b.0 0 n) (new_end_mark s false None) l.place)
 
 -- `.repeat` and the rest of its line
 abbrev pub repeat_line : EnvironmentView → State → List Lexeme → ExpansionStep
-repeat_line k s ts = parses ts (λ q. unless_refused s (repeat_of k ts q) (λ h. iterations_step s h.0 h.1))
+repeat_line k s ts = parses ts (λ q. and_then_step s (repeat_of k ts q) (λ h. iterations_step s h.0 h.1))
 
 -- ---- The token at an index, and the end of the first argument.
 
@@ -220,16 +220,16 @@ abbrev pub is_comma_at : List Lexeme → ℕ → Bool
 is_comma_at ts at = option_map_or is_comma (slice_get ts at) false
 
 -- the number of tokens before the first comma outside braces, with this many braces open
-abbrev pub part_len : ℕ → List Lexeme → ℕ
-part_len d [] = 0
-part_len d (t ∷ ts) = if is_comma t && (d == 0) then 0 else 1 + part_len (braces_after d t) ts
+abbrev pub argument_len : ℕ → List Lexeme → ℕ
+argument_len d [] = 0
+argument_len d (t ∷ ts) = if is_comma t && (d == 0) then 0 else 1 + argument_len (braces_after d t) ts
 
 -- ---- Candidate names of included files, in order.
 
 -- whether a file exists; too many bytes are an error
-abbrev pub is_there : Option (List ℕ) → Result Bool ExpandFault
-is_there None = Ok false
-is_there (Some bytes) = if nat_le (length bytes) file_limit then Ok true else Err FileTooLong
+abbrev pub file_exists : Option (List ℕ) → Result Bool ExpandFault
+file_exists None = Ok false
+file_exists (Some bytes) = if nat_le (length bytes) file_limit then Ok true else Err FileTooLong
 
 -- an existing file, by its name
 abbrev pub file_of : Files → List ℕ → List ℕ × List ℕ

@@ -2,14 +2,14 @@
 use Rattle.std.specs.Prelude.{ℕ, ℤ, Bool, List, Option, ◌≡◌, pos, negsuc, zero, suc, ◌+◌, nat_lt, ◌==◌, true, false, not, [], ◌∷◌, length, Some, None, Result, Ok, Err, if◌then◌else◌}
 use Rattle.syntax65.specs.Trees.{Tree, name}
 use Rattle.syntax65.specs.Tokens.{Lexeme}
-use Rattle.expand65.specs.Lines.{Item, RemainingInput, remaining_input, LocatedError, Definition, branch, LineAndRest}
+use Rattle.expand65.specs.Lines.{Item, RemainingInput, remaining_input, LocatedError, Definition, elseif_rest, LineAndRest}
 use Rattle.syntax65.specs.Expressions.{IsParsed}
 use Rattle.base65.specs.Outcome.{◌>>=◌}
 use Rattle.expand65.specs.Types.{ExprFault, ConditionKind, True, Defined, NotDefined, Blank, NotBlank, ExpandFault, NotConstant, NotOpened, NotUnderstood}
 use Rattle.expand65.specs.Blocks.{Branch, at_elseif, at_else, at_end, CompleteBlock}
 use Rattle.expand65.specs.declared.blocks.BlockKind.{BlockKind}
 use Rattle.expand65.specs.declared.blocks.BlockKind.TheVariants.{Skipped, RemainingBranches}
-use Rattle.expand65.specs.Fronts.{begins, opens_parenthesis, not_understood}
+use Rattle.expand65.specs.LineStart.{first_satisfies, opens_parenthesis, not_understood}
 
 -- ---- The environment at a line.
 
@@ -50,10 +50,10 @@ pub data ExpandedStatement : Type 0 where
 
 -- the result of a step: a next state, a statement with a next state, the end, or an error
 pub data StepResult : Type 0 where
-  goes : State → StepResult
-  gives : ExpandedStatement → State → StepResult
+  continues : State → StepResult
+  yields : ExpandedStatement → State → StepResult
   ends : State → StepResult
-  stops : LocatedError → StepResult
+  raises : LocatedError → StepResult
 
 -- ---- Steps, by what they read.
 
@@ -61,27 +61,27 @@ pub data StepResult : Type 0 where
 -- condition, a line, the lines of a block up to the one that closes it, or the first of several files that
 -- exists.
 pub data ExpansionStep : Type 0 where
-  leads : StepResult → ExpansionStep
+  finishes : StepResult → ExpansionStep
   parses : List Lexeme → (Result (Tree × ℕ) ExprFault → ExpansionStep) → ExpansionStep
   decides : EnvironmentView → ConditionKind → List Lexeme → (Result Bool ExpandFault → ExpansionStep) → ExpansionStep
-  takes : RemainingInput → (LineAndRest → ExpansionStep) → ExpansionStep
-  takes_block : BlockKind → RemainingInput → (CompleteBlock → RemainingInput → StepResult) → ExpansionStep
+  reads_line : RemainingInput → (LineAndRest → ExpansionStep) → ExpansionStep
+  reads_block : BlockKind → RemainingInput → (CompleteBlock → RemainingInput → StepResult) → ExpansionStep
   searches : RemainingInput → List (List ℕ) → (Result (List ℕ × List ℕ) ExpandFault → ExpansionStep) → ExpansionStep
 
 -- continues with the value, or stops with the error at the current location
-abbrev pub unless_refused : {A : Type 0} → State → Result A ExpandFault → (A → ExpansionStep) → ExpansionStep
-unless_refused s (Err f) next = leads (stops (f, s.left.place))
-unless_refused s (Ok x) next = next x
+abbrev pub and_then_step : {A : Type 0} → State → Result A ExpandFault → (A → ExpansionStep) → ExpansionStep
+and_then_step s (Err f) next = finishes (raises (f, s.left.place))
+and_then_step s (Ok x) next = next x
 
 -- continues if nothing follows a directive in its line
 abbrev pub if_alone : State → List Lexeme → ExpansionStep → ExpansionStep
 if_alone s [] next = next
-if_alone s _ next = leads (stops (NotUnderstood, s.left.place))
+if_alone s _ next = finishes (raises (NotUnderstood, s.left.place))
 
 -- continues with the value, or stops with the located error
-abbrev pub unless_stopped : {A : Type 0} → Result A LocatedError → (A → StepResult) → StepResult
-unless_stopped (Err e) next = stops e
-unless_stopped (Ok x) next = next x
+abbrev pub and_then_result : {A : Type 0} → Result A LocatedError → (A → StepResult) → StepResult
+and_then_result (Err e) next = raises e
+and_then_result (Ok x) next = next x
 
 -- ---- The kinds of conditions.
 
@@ -107,7 +107,7 @@ defined_tree k _ = not_understood
 
 -- the name must not be in parentheses
 abbrev pub defined_in : EnvironmentView → List Lexeme → Result (Tree × ℕ) ExprFault → Result Bool ExpandFault
-defined_in k ts q = if begins opens_parenthesis ts then not_understood else complete_expression (length ts) q >>= defined_tree k
+defined_in k ts q = if first_satisfies opens_parenthesis ts then not_understood else complete_expression (length ts) q >>= defined_tree k
 
 -- the result of a condition
 abbrev pub IsCondition : EnvironmentView → ConditionKind → List Lexeme → Result Bool ExpandFault → Type 0
@@ -121,16 +121,16 @@ IsCondition k NotBlank ts r = r ≡ Ok (not (length ts == 0))
 
 -- the state after a false condition
 abbrev pub after_false_condition : State → Branch → RemainingInput → StepResult
-after_false_condition s at_end l = goes (with_remaining s l)
-after_false_condition s at_else l = goes (with_conditions s (true ∷ s.conditions) l)
-after_false_condition s (at_elseif ts) l = goes (with_remaining s (remaining_input (branch ts ∷ l.items) l.room l.place))
+after_false_condition s at_end l = continues (with_remaining s l)
+after_false_condition s at_else l = continues (with_conditions s (true ∷ s.conditions) l)
+after_false_condition s (at_elseif ts) l = continues (with_remaining s (remaining_input (elseif_rest ts ∷ l.items) l.room l.place))
 
 abbrev pub condition_step : State → Bool → ExpansionStep
-condition_step s true = leads (goes (with_conditions s (false ∷ s.conditions) s.left))
-condition_step s false = takes_block Skipped s.left (λ b l. after_false_condition s b.1 l)
+condition_step s true = finishes (continues (with_conditions s (false ∷ s.conditions) s.left))
+condition_step s false = reads_block Skipped s.left (λ b l. after_false_condition s b.1 l)
 
 abbrev pub if_line : EnvironmentView → State → ConditionKind → List Lexeme → ExpansionStep
-if_line k s test ts = decides k test ts (λ c. unless_refused s c (condition_step s))
+if_line k s test ts = decides k test ts (λ c. and_then_step s c (condition_step s))
 
 -- ---- Any other `.elseif`, `.else` and `.endif`.
 
@@ -139,10 +139,10 @@ abbrev pub without_last_condition : List Bool → ℕ → Option (Bool × List B
 without_last_condition [] n = None
 without_last_condition (b ∷ bs) n = if nat_lt n (length bs + 1) then Some (b, bs) else None
 
-abbrev pub ended_if : State → Option (Bool × List Bool) → StepResult
-ended_if s None = stops (NotOpened, s.left.place)
-ended_if s (Some (b, bs)) = goes (with_conditions s bs s.left)
+abbrev pub endif_result : State → Option (Bool × List Bool) → StepResult
+endif_result s None = raises (NotOpened, s.left.place)
+endif_result s (Some (b, bs)) = continues (with_conditions s bs s.left)
 
 abbrev pub else_line : State → Option (Bool × List Bool) → ExpansionStep
-else_line s (Some (false, bs)) = takes_block RemainingBranches s.left (λ b l. goes (with_conditions s bs l))
-else_line s _ = leads (stops (NotOpened, s.left.place))
+else_line s (Some (false, bs)) = reads_block RemainingBranches s.left (λ b l. continues (with_conditions s bs l))
+else_line s _ = finishes (raises (NotOpened, s.left.place))

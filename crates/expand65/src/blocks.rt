@@ -4,14 +4,14 @@ ghost use Rattle.std.specs.Prelude.{◌≡◌, ◌==◌, if◌then◌else◌, le
 ghost use Rattle.base65.specs.Store.{Files};
 ghost use Rattle.syntax65.specs.Tokens.{Lexeme, lexemes};
 ghost use Rattle.syntax65.specs.Faults.{is_failure};
-ghost use Rattle.expand65.specs.Blocks.{Block, is_kept, judge, block_verdict, with_line};
-ghost use Rattle.expand65.specs.Representation.{KeepsInnermost, RefinesLocated, branch_of, remaining_of, IsPassedOver, RefinesVerdict, FailsInBlock, IsInPlace, StandsIn, StopsAt};
+ghost use Rattle.expand65.specs.Blocks.{Block, is_collected, line_verdict, block_verdict, with_line};
+ghost use Rattle.expand65.specs.Representation.{PreservesInnermost, RefinesLocated, branch_of, remaining_of, SkipsUncollectedLines, RefinesVerdict, FailsInBlock, IsStackPositioned, IsStackPositionedIfKnown, HasFailureLocation};
 ghost use Rattle.expand65.specs.Replay.{tokens_in};
 ghost use Rattle.expand65.specs.Lines.{ReadFrame};
 
-use crate::fronts::{Directive, after_first, is_mislabelled, line_directive};
 use crate::input_stack::InputStack;
 use crate::line::StoredLine;
+use crate::line_start::{Directive, after_first, is_mislabelled, line_directive};
 use base65::{ListVec, Store};
 use std::alloc::{AllocError, Global};
 use syntax65::{ExpandFault, Token};
@@ -66,9 +66,9 @@ fn closed_alone(tokens: &[Token<'_>], end: BlockEnd) -> Result<BlockStep, Expand
 }
 
 /// Opens a nested block, unless there are too many to count.
-fn deeper(depth: u32) -> Result<BlockStep, ExpandFault>
+fn nested_block_step(depth: u32) -> Result<BlockStep, ExpandFault>
     ensures step { IfOk result (λ s. s ≡ BlockStep.Open (suc depth)) }
-    ensures outside { IfErr result (λ f. f ≡ ExpandFault.OutOfMemory) }
+    ensures system_errors { IfErr result (λ f. f ≡ ExpandFault.OutOfMemory) }
 {
     match depth.checked_add(1) {
         Some(depth) => Ok(BlockStep::Open(depth)),
@@ -104,7 +104,7 @@ fn repeat_step(
     ensures inside { IfErr result (λ e. is_failure e ≡ false) }
 {
     match directive {
-        Directive::Repeat => deeper(depth),
+        Directive::Repeat => nested_block_step(depth),
         Directive::EndRepeat if depth > 0 => Ok(BlockStep::Open(depth - 1)),
         Directive::EndRepeat => closed_alone(tokens, BlockEnd::End),
         _ => Ok(BlockStep::Open(depth)),
@@ -113,13 +113,13 @@ fn repeat_step(
 
 /// Returns the effect of a directive on lines skipped through an `.endif`, with `depth` nested
 /// conditions open.
-fn passed_step(directive: Directive, depth: u32) -> Result<BlockStep, ExpandFault>
+fn remaining_branches_step(directive: Directive, depth: u32) -> Result<BlockStep, ExpandFault>
     ensures step { (ts : List Lexeme) →
         RefinesVerdict result (block_verdict BlockKind.RemainingBranches depth ts (Some directive)) }
     ensures inside { IfErr result (λ e. is_failure e ≡ false) }
 {
     match directive {
-        Directive::If(_) => deeper(depth),
+        Directive::If(_) => nested_block_step(depth),
         Directive::EndIf if depth > 0 => Ok(BlockStep::Open(depth - 1)),
         Directive::EndIf => Ok(BlockStep::Closed(BlockEnd::End)),
         _ => Ok(BlockStep::Open(depth)),
@@ -163,7 +163,7 @@ fn skipped_step(
         return branch_step(alloc, directive, tokens);
     }
     match directive {
-        Directive::If(_) => deeper(depth),
+        Directive::If(_) => nested_block_step(depth),
         Directive::EndIf => Ok(BlockStep::Open(depth - 1)),
         _ => Ok(BlockStep::Open(depth)),
     }
@@ -171,8 +171,8 @@ fn skipped_step(
 
 impl BlockKind {
     /// Returns whether the lines are kept.
-    fn is_kept(self) -> bool
-        ensures { result ≡ is_kept self }
+    fn is_collected(self) -> bool
+        ensures { result ≡ is_collected self }
     {
         matches!(self, BlockKind::Macro | BlockKind::Repeat)
     }
@@ -184,7 +184,7 @@ impl BlockKind {
         tokens: &[Token<'_>],
         depth: u32,
     ) -> Result<BlockStep, ExpandFault>
-        ensures step { RefinesVerdict result (judge self depth (lexemes tokens.now)) }
+        ensures step { RefinesVerdict result (line_verdict self depth (lexemes tokens.now)) }
         ensures inside { IfErr result (λ e. is_failure e ≡ false) }
     {
         if is_mislabelled(tokens) {
@@ -197,13 +197,13 @@ impl BlockKind {
             BlockKind::Macro => macro_step(directive, tokens, depth),
             BlockKind::Repeat => repeat_step(directive, tokens, depth),
             BlockKind::Skipped => skipped_step(alloc, directive, tokens, depth),
-            BlockKind::RemainingBranches => passed_step(directive, depth),
+            BlockKind::RemainingBranches => remaining_branches_step(directive, depth),
         }
     }
 
     /// Returns the effect of a line on the block with `depth` nested blocks open.
     fn step(self, alloc: Global, line: &StoredLine, depth: u32) -> Result<BlockStep, ExpandFault>
-        ensures step { RefinesVerdict result (judge self depth (tokens_in line.now)) }
+        ensures step { RefinesVerdict result (line_verdict self depth (tokens_in line.now)) }
         ensures inside { IfErr result (λ e. is_failure e ≡ false) }
     {
         if line.is_plain() {
@@ -214,11 +214,15 @@ impl BlockKind {
     }
 
     /// Appends a line, if lines of this kind are kept.
-    fn keep(self, lines: &mut ListVec<StoredLine>, line: StoredLine) -> Result<(), AllocError>
+    fn append_if_collected(
+        self,
+        lines: &mut ListVec<StoredLine>,
+        line: StoredLine,
+    ) -> Result<(), AllocError>
         ensures { OnOk result (map tokens_in lines.new ≡
             with_line self (map tokens_in lines.old) (tokens_in line)) }
     {
-        if self.is_kept() {
+        if self.is_collected() {
             lines.push(line)?;
         }
         Ok(())
@@ -227,19 +231,19 @@ impl BlockKind {
 
 impl InputStack {
     /// Skips plain lines, if lines of this kind aren't kept.
-    fn pass_unkept(&mut self, kind: BlockKind)
-        ensures passed { (m : Files) → IsPassedOver (is_kept kind) (remaining_of m self.old) (remaining_of m self.new) }
-        ensures room { self.new.room ≤ self.old.room }
-        ensures stays { KeepsInnermost self.old self.new }
-        ensures stands { (m : Files) → IsInPlace m self.old → IsInPlace m self.new }
+    fn skip_uncollected_lines(&mut self, kind: BlockKind)
+        ensures skipped { (m : Files) → SkipsUncollectedLines (is_collected kind) (remaining_of m self.old) (remaining_of m self.new) }
+        ensures budget { self.new.budget ≤ self.old.budget }
+        ensures innermost { PreservesInnermost self.old self.new }
+        ensures stands { (m : Files) → IsStackPositioned m self.old → IsStackPositioned m self.new }
     {
-        if !kind.is_kept() {
-            self.pass_plain_lines();
+        if !kind.is_collected() {
+            self.skip_plain_lines();
         }
     }
 
     /// Reads the lines of a block, up to the directive that closes it.
-    pub fn block<S: Store>(
+    pub fn read_block<S: Store>(
         &mut self,
         alloc: Global,
         store: &mut S,
@@ -247,26 +251,26 @@ impl InputStack {
     ) -> Result<WholeBlock, ExpandFault>
         ensures read { IfSome (S.files store.old) (λ m.
             RefinesLocated (λ b. ((map tokens_in b.lines, branch_of b.end), remaining_of m self.new))
-            self.new.place result (Block kind 0 [] (remaining_of m self.old))) }
-        ensures room { OnOk result (self.new.room < self.old.room) }
-        ensures stays { KeepsInnermost self.old self.new }
-        ensures stands { StandsIn (S.files store.old) self.old →
-            OnOk result (StandsIn (S.files store.old) self.new) }
+            self.new.location result (Block kind 0 [] (remaining_of m self.old))) }
+        ensures room { OnOk result (self.new.budget < self.old.budget) }
+        ensures innermost { PreservesInnermost self.old self.new }
+        ensures stands { IsStackPositionedIfKnown (S.files store.old) self.old →
+            OnOk result (IsStackPositionedIfKnown (S.files store.old) self.new) }
         ensures frame { ReadFrame S.files S.failures store.old store.new result }
-        ensures stopped { StandsIn (S.files store.old) self.old → IfSome (S.files store.old) (λ m.
-            StopsAt (FailsInBlock m (S.last_failure store.new) kind 0 (remaining_of m self.old))
+        ensures stopped { IsStackPositionedIfKnown (S.files store.old) self.old → IfSome (S.files store.old) (λ m.
+            HasFailureLocation (FailsInBlock m (S.last_failure store.new) kind 0 (remaining_of m self.old))
             self.old self.new result) }
     {
         let mut lines = ListVec::new(alloc);
         let mut depth = 0;
         'lines: loop {
-            self.pass_unkept(kind);
-            let line = self.block_line(alloc, store)?;
+            self.skip_uncollected_lines(kind);
+            let line = self.read_block_line(alloc, store)?;
             match kind.step(alloc, &line, depth)? {
                 BlockStep::Closed(end) => return Ok(WholeBlock { lines, end }),
                 BlockStep::Open(deeper) => {
                     depth = deeper;
-                    kind.keep(&mut lines, line)?;
+                    kind.append_if_collected(&mut lines, line)?;
                 }
             }
         }

@@ -6,20 +6,20 @@ ghost use Rattle.base65.specs.Outcome.{Refines};
 ghost use Rattle.base65.specs.Relations.{RefinesRel};
 ghost use Rattle.syntax65.specs.Tokens.{lexemes};
 ghost use Rattle.syntax65.specs.Trees.{Tree};
-ghost use Rattle.syntax65.specs.declared.expressions.words.ExprFault.{ExprFault};
-ghost use Rattle.expand65.specs.Fronts.{begins, opens_parenthesis};
+ghost use Rattle.syntax65.specs.declared.expressions.operators.ExprFault.{ExprFault};
+ghost use Rattle.expand65.specs.LineStart.{first_satisfies, opens_parenthesis};
 ghost use Rattle.expand65.specs.State.{IsCondition, defined_tree, without_last_condition, complete_expression};
 ghost use Rattle.syntax65.specs.Faults.{is_failure, is_system_error};
 ghost use Rattle.expand65.specs.Macros.{outermost};
 
-use crate::fronts::{ConditionKind, opens_parenthesis};
 use crate::knows::Knows;
+use crate::line_start::{ConditionKind, opens_parenthesis};
 use std::alloc::{AllocError, Global};
 use std::marker::Model;
 use syntax65::{ExpandFault, Expr, ExprKind, Name, Token, read_expr};
 
 /// Parses tokens that are one expression.
-pub fn expression(alloc: Global, tokens: &[Token<'_>]) -> Result<Expr, ExpandFault>
+pub fn parse_expression(alloc: Global, tokens: &[Token<'_>]) -> Result<Expr, ExpandFault>
     ensures value { RefinesRel is_system_error (λ x. x) result
         (λ r. (q : Result (Tree × ℕ) ExprFault) × IsParsed (lexemes tokens.now) q ×
         (r ≡ complete_expression (length (lexemes tokens.now)) q)) }
@@ -33,12 +33,12 @@ pub fn expression(alloc: Global, tokens: &[Token<'_>]) -> Result<Expr, ExpandFau
 }
 
 /// Returns whether the value of an expression isn't 0. The tokens must be one expression.
-fn holds<K: Knows>(alloc: Global, knows: &K, tokens: &[Token<'_>]) -> Result<bool, ExpandFault>
+fn is_nonzero<K: Knows>(alloc: Global, knows: &K, tokens: &[Token<'_>]) -> Result<bool, ExpandFault>
     ensures value { RefinesRel is_system_error (λ b. b) result
         (IsCondition (K.meaning knows.now) ConditionKind.True (lexemes tokens.now)) }
     ensures inside { IfErr result (λ e. is_failure e ≡ false) }
 {
-    let value = expression(alloc, tokens)?;
+    let value = parse_expression(alloc, tokens)?;
     match knows.value(alloc, &value)? {
         None => Err(ExpandFault::NotConstant),
         Some(value) => Ok(value != 0),
@@ -47,7 +47,7 @@ fn holds<K: Knows>(alloc: Global, knows: &K, tokens: &[Token<'_>]) -> Result<boo
 
 /// Returns whether the first token is an opening parenthesis.
 fn begins_parenthesis(tokens: &[Token<'_>]) -> bool
-    ensures { result ≡ begins opens_parenthesis (lexemes tokens.now) }
+    ensures { result ≡ first_satisfies opens_parenthesis (lexemes tokens.now) }
 {
     matches!(tokens, [first, ..] if opens_parenthesis(first))
 }
@@ -70,7 +70,7 @@ fn is_defined<K: Knows>(alloc: Global, knows: &K, tokens: &[Token<'_>]) -> Resul
         (IsCondition (K.meaning knows.now) ConditionKind.Defined (lexemes tokens.now)) }
     ensures inside { IfErr result (λ e. is_failure e ≡ false) }
 {
-    let name = expression(alloc, tokens)?;
+    let name = parse_expression(alloc, tokens)?;
     if begins_parenthesis(tokens) {
         return Err(ExpandFault::NotUnderstood);
     }
@@ -78,7 +78,7 @@ fn is_defined<K: Knows>(alloc: Global, knows: &K, tokens: &[Token<'_>]) -> Resul
 }
 
 /// Evaluates a condition.
-pub fn condition<K: Knows>(
+pub fn evaluate_condition<K: Knows>(
     alloc: Global,
     knows: &K,
     test: ConditionKind,
@@ -89,7 +89,7 @@ pub fn condition<K: Knows>(
     ensures inside { IfErr result (λ e. is_failure e ≡ false) }
 {
     match test {
-        ConditionKind::True => holds(alloc, knows, tokens),
+        ConditionKind::True => is_nonzero(alloc, knows, tokens),
         ConditionKind::Defined => is_defined(alloc, knows, tokens),
         ConditionKind::NotDefined => Ok(!is_defined(alloc, knows, tokens)?),
         ConditionKind::Blank => Ok(tokens.is_empty()),

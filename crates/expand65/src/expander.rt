@@ -1,23 +1,23 @@
 //! Returns the statements of a source one by one.
 
 ghost use Rattle.std.specs.Prelude.{◌≡◌, ◌≤◌, IfSome, length, ◌<◌, ◌+◌, ◌*◌, true, false, take, drop, Err, IfOk, IsErrOf, List, OnErr, OnOk, ℕ};
-ghost use Rattle.syntax65.specs.Tokens.{lexemes, Lexeme, HoldsNothing, stored_lexemes};
-ghost use Rattle.expand65.specs.Failing.{IsGivenAs, YieldsStatements, IsAhead, given_parts, StopsBetweenStatements, StopsReading};
-ghost use Rattle.expand65.specs.Representation.{RefinesNext, FollowsFrom, IsPositioned, RepresentsFirstState, RepresentsState, is_end, step_of, measure_of, place_of, state_in, RefinesLineOutcome, size_of, state_of, outcome_of_line, weight_of, IsInPlace, StandsIn, remaining_of, mark_of};
+ghost use Rattle.syntax65.specs.Tokens.{lexemes, Lexeme, HasNoTokens, stored_lexemes};
+ghost use Rattle.expand65.specs.Failures.{NeedsNoExpansion, YieldsStatements, IsPeekedLine, line_statements, HasFailureBetweenStatements, HasFailureWhileReading};
+ghost use Rattle.expand65.specs.Representation.{RefinesNext, RefinesNextStatement, IsPositioned, RepresentsFirstState, RepresentsState, is_end, step_of, measure_of, location_of, state_in, RefinesLineOutcome, size_of, state_of, outcome_of_line, weight_of, IsStackPositioned, IsStackPositionedIfKnown, remaining_of, end_mark_of};
 ghost use Rattle.base65.specs.Store.{FailsAtLastCount, Files, FailedAt, PropagatesIoError};
 ghost use Rattle.syntax65.specs.Faults.{is_system_error};
-ghost use Rattle.expand65.specs.Expansion.{first_left, opened_in, IsStep};
+ghost use Rattle.expand65.specs.Expansion.{initial_input, first_state_in, IsStep};
 ghost use Rattle.expand65.specs.State.{State};
 ghost use Rattle.expand65.specs.Lines.{ReadFrame, location_at, bytes_of};
 
 use crate::conditions::Conditions;
 use crate::file::OpenFile;
-use crate::fronts::{ConditionKind, front_directive, label_len};
-use crate::includes::is_there;
+use crate::includes::file_exists;
 use crate::input::LineSource;
 use crate::input_stack::{Input, InputStack};
 use crate::knows::Knows;
 use crate::line::StoredLine;
+use crate::line_start::{ConditionKind, first_directive, label_len};
 use crate::preprocessor::{LineOutcome, Preprocessor};
 use crate::skipping::Peeked;
 use base65::{ListVec, PathString, Store};
@@ -68,7 +68,7 @@ impl PendingLine {
 /// The state of the expansion of a source.
 #[derive(Drop)]
 pub struct Expander {
-    pub rewriter: Preprocessor,
+    pub processor: Preprocessor,
     pub pending: PendingLine,
     pub failed: bool,
 }
@@ -87,24 +87,24 @@ impl Expander {
         options: &Options,
     ) -> Result<Expander, ExpandFault>
         ensures opened { IfSome (S.files store.old) (λ m.
-            RepresentsFirstState m result (opened_in m file.now options.now.include)) }
+            RepresentsFirstState m result (first_state_in m file.now options.now.include)) }
         ensures files { S.files store.new ≡ S.files store.old }
         ensures size { IfOk result (λ e. measure_of e ≤ 3145729) }
         ensures count { PropagatesIoError ExpandFault.FileError (S.failures store.old) (S.failures store.new) result }
         ensures last_failure { IsErrOf result ExpandFault.FileError →
             FailedAt (S.last_failure store.new) file.now 16777216 }
         ensures at_last_count { FailsAtLastCount is_system_error (S.failures store.old) result }
-        ensures placed { IfSome (S.files store.old) (λ m. IfOk result (IsPositioned m)) }
+        ensures positioned { IfSome (S.files store.old) (λ m. IfOk result (IsPositioned m)) }
     {
-        if !is_there(store, file)? {
+        if !file_exists(store, file)? {
             return Err(ExpandFault::FileNotFound);
         }
         let folders = copy_of(alloc, options.include.as_slice())?;
-        let reader = reader_of(alloc, file)?;
+        let stack = initial_input_stack(alloc, file)?;
         Ok(Expander {
-            rewriter: Preprocessor {
+            processor: Preprocessor {
                 alloc,
-                reader,
+                stack,
                 macros: IndexMap::with_hasher(alloc, store.seed()),
                 conditions: Conditions::new(alloc),
                 expansions: 0,
@@ -127,12 +127,12 @@ impl Expander {
         knows: &K,
     ) -> Result<Option<Statement>, ExpandFault>
         ensures next { IfSome (S.files store.old) (λ m.
-            FollowsFrom m (K.meaning knows.now) self.old result self.new) }
-        ensures placed { IfSome (S.files store.old) (λ m.
+            RefinesNextStatement m (K.meaning knows.now) self.old result self.new) }
+        ensures positioned { IfSome (S.files store.old) (λ m.
             IsPositioned m self.old → OnOk result (IsPositioned m self.new)) }
         // If the store fails, the location is that of the line read last.
         ensures stopped { IfSome (S.files store.old) (λ m.
-            StopsBetweenStatements m (S.last_failure store.new) (K.meaning knows.now) self.old result self.new) }
+            HasFailureBetweenStatements m (S.last_failure store.new) (K.meaning knows.now) self.old result self.new) }
         ensures failed { OnErr result (self.new.failed ≡ true) }
         ensures before { self.old.failed ≡ true → result ≡ Err ExpandFault.FailedBefore }
         // Expansion terminates.
@@ -146,7 +146,7 @@ impl Expander {
         let result = self.advance(store, knows);
         self.failed = result.is_err();
         if matches!(result, Err(ExpandFault::FileError)) {
-            self.rewriter.reader.go_back_unread();
+            self.processor.stack.restore_location_if_unread();
         }
         result
     }
@@ -154,70 +154,70 @@ impl Expander {
     /// Returns the next line and its tokens, if it comes from a file and is buffered whole.
     #[inline(always)]
     pub fn peek<'a>(&'a self, tokens: &mut LineTokens<'a>) -> Option<Peeked>
-        requires { HoldsNothing tokens.old }
-        ensures ahead { IfSome result (λ p. IsAhead self.now p (stored_lexemes tokens.new)) }
+        requires { HasNoTokens tokens.old }
+        ensures lookahead { IfSome result (λ p. IsPeekedLine self.now p (stored_lexemes tokens.new)) }
         ensures within { tokens.new.few.count ≤ 8 }
     {
         if self.failed || !matches!(self.pending, PendingLine::Nothing) {
             return None;
         }
-        self.rewriter.reader.peek(self.rewriter.alloc, tokens)
+        self.processor.stack.peek(self.processor.alloc, tokens)
     }
 
     /// Returns the number of tokens of the label of a line that needs no expansion (0 if it has
     /// none). The rest is then empty or a statement. Returns `None` if the rest begins with a
     /// preprocessor directive or calls a macro.
     #[inline(always)]
-    pub fn label_of_given(&self, tokens: &[Token<'_>]) -> Option<usize>
-        ensures given { IfSome result (λ n. IsGivenAs n self.now.rewriter (lexemes tokens.now)) }
+    pub fn unexpanded_label_len(&self, tokens: &[Token<'_>]) -> Option<usize>
+        ensures given { IfSome result (λ n. NeedsNoExpansion n self.now.processor (lexemes tokens.now)) }
         ensures within { IfSome result (λ n. n ≤ length tokens.now) }
     {
         let len = label_len(tokens);
         let (_, rest) = tokens.split_at(len);
-        if front_directive(rest).is_some() {
+        if first_directive(rest).is_some() {
             return None;
         }
         match rest.split_first() {
-            Some((first, _)) if self.rewriter.is_macro(first) => None,
+            Some((first, _)) if self.processor.is_macro(first) => None,
             _ => Some(len),
         }
     }
 
     /// Reads the line that `peek` returned.
     #[inline(always)]
-    pub fn take_peeked(&mut self, line: Peeked)
-        ensures given { (n : ℕ) (ts : List Lexeme) → IsAhead self.old line ts →
-            IsGivenAs n self.old.rewriter ts →
-            YieldsStatements self.old (given_parts (take n ts) (drop n ts)) self.new }
-        ensures place { place_of self.new ≡ location_at (place_of self.old) line.number }
-        ensures less { (ts : List Lexeme) → IsAhead self.old line ts →
+    pub fn consume_peeked(&mut self, line: Peeked)
+        ensures given { (n : ℕ) (ts : List Lexeme) → IsPeekedLine self.old line ts →
+            NeedsNoExpansion n self.old.processor ts →
+            YieldsStatements self.old (line_statements (take n ts) (drop n ts)) self.new }
+        ensures current_location { location_of self.new ≡ location_at (location_of self.old) line.number }
+        ensures less { (ts : List Lexeme) → IsPeekedLine self.old line ts →
             measure_of self.new < measure_of self.old }
-        ensures placed { (m : Files) (ts : List Lexeme) → IsAhead self.old line ts →
+        ensures positioned { (m : Files) (ts : List Lexeme) → IsPeekedLine self.old line ts →
             IsPositioned m self.old → IsPositioned m self.new }
     {
-        self.rewriter.reader.take_peeked(line);
+        self.processor.stack.consume_peeked(line);
     }
 
     /// Returns the innermost open file and the number of its line read last, 0 before the first.
     /// After a statement this is the location of the statement, and after an error that of the
     /// error.
     pub fn place(&self) -> (&str, u32)
-        ensures place { (result.0.now ≡ (place_of self.now).file) × (result.1 ≡ (place_of self.now).line) }
+        ensures current_location { (result.0.now ≡ (location_of self.now).file) × (result.1 ≡ (location_of self.now).line) }
         ensures stands { (m : Files) (s : State) →
             RepresentsState m self.now s → (result.0.now ≡ s.left.place.file) ×
             (result.1 ≡ s.left.place.line) }
     {
-        let place = &self.rewriter.reader.place;
-        (place.file.as_str(), place.line)
+        let location = &self.processor.stack.location;
+        (location.file.as_str(), location.line)
     }
 
     /// Returns the same location, with the file's name as it is and no copy of it.
     pub fn into_place(self) -> SourceLocation
-        ensures { result ≡ place_of self }
+        ensures { result ≡ location_of self }
     {
-        let rewriter = self.rewriter;
-        let reader = rewriter.reader;
-        reader.place
+        let processor = self.processor;
+        let stack = processor.stack;
+        stack.location
     }
 
     /// Expands up to the next statement or the end.
@@ -227,13 +227,13 @@ impl Expander {
         store: &mut S,
         knows: &K,
     ) -> Result<Option<Statement>, ExpandFault>
-        ensures comes { IfSome (S.files store.old) (λ m.
+        ensures next_item { IfSome (S.files store.old) (λ m.
             RefinesNext m (K.meaning knows.now) (state_in m self.old) result (state_in m self.new)) }
-        ensures stands { StandsIn (S.files store.old) self.old.rewriter.reader →
-            OnOk result (StandsIn (S.files store.old) self.new.rewriter.reader) }
-        ensures stopped { StandsIn (S.files store.old) self.old.rewriter.reader → IfSome (S.files store.old) (λ m.
-            StopsReading m (S.last_failure store.new) (K.meaning knows.now) (state_in m self.old) result
-            (mark_of self.new.rewriter.reader.top) (place_of self.new)) }
+        ensures stands { IsStackPositionedIfKnown (S.files store.old) self.old.processor.stack →
+            OnOk result (IsStackPositionedIfKnown (S.files store.old) self.new.processor.stack) }
+        ensures stopped { IsStackPositionedIfKnown (S.files store.old) self.old.processor.stack → IfSome (S.files store.old) (λ m.
+            HasFailureWhileReading m (S.last_failure store.new) (K.meaning knows.now) (state_in m self.old) result
+            (end_mark_of self.new.processor.stack.top) (location_of self.new)) }
         ensures size { IfOk result (λ o. IfSome o (λ _. measure_of self.new < measure_of self.old)) }
         ensures frame { ReadFrame S.files S.failures store.old store.new result }
     {
@@ -241,8 +241,8 @@ impl Expander {
             if self.pending.is_end() {
                 return Ok(None);
             }
-            let turn = self.turn(store, knows)?;
-            if let Some(statement) = self.follow(turn) {
+            let line_outcome = self.line_outcome(store, knows)?;
+            if let Some(statement) = self.apply_outcome(line_outcome) {
                 return Ok(Some(statement));
             }
         }
@@ -250,30 +250,30 @@ impl Expander {
 
     /// Processes the pending line or the next one.
     #[inline(always)]
-    fn turn<S: Store, K: Knows>(
+    fn line_outcome<S: Store, K: Knows>(
         &mut self,
         store: &mut S,
         knows: &K,
     ) -> Result<LineOutcome, ExpandFault>
         requires { is_end self.old.pending ≡ false }
         ensures turns { IfSome (S.files store.old) (λ m.
-            RefinesLineOutcome result (state_of m self.new.rewriter)
+            RefinesLineOutcome result (state_of m self.new.processor)
             (IsStep m (K.meaning knows.now) (state_in m self.old))) }
-        ensures stands { StandsIn (S.files store.old) self.old.rewriter.reader →
-            OnOk result (StandsIn (S.files store.old) self.new.rewriter.reader) }
-        ensures stopped { StandsIn (S.files store.old) self.old.rewriter.reader → IfSome (S.files store.old) (λ m.
-            StopsReading m (S.last_failure store.new) (K.meaning knows.now) (state_in m self.old) result
-            (mark_of self.new.rewriter.reader.top) (place_of self.new)) }
-        ensures size { IfOk result (λ t. size_of self.new.rewriter + weight_of t < measure_of self.old) }
+        ensures stands { IsStackPositionedIfKnown (S.files store.old) self.old.processor.stack →
+            OnOk result (IsStackPositionedIfKnown (S.files store.old) self.new.processor.stack) }
+        ensures stopped { IsStackPositionedIfKnown (S.files store.old) self.old.processor.stack → IfSome (S.files store.old) (λ m.
+            HasFailureWhileReading m (S.last_failure store.new) (K.meaning knows.now) (state_in m self.old) result
+            (end_mark_of self.new.processor.stack.top) (location_of self.new)) }
+        ensures size { IfOk result (λ t. size_of self.new.processor + weight_of t < measure_of self.old) }
         ensures front { OnErr result (self.new.pending ≡ PendingLine.Nothing) }
         ensures frame { ReadFrame S.files S.failures store.old store.new result }
     {
         match mem::replace(&mut self.pending, PendingLine::Nothing) {
-            PendingLine::Nothing => self.rewriter.take(store, knows),
-            PendingLine::Rest(line) => self.rewriter.execute_line(store, knows, line),
+            PendingLine::Nothing => self.processor.execute_next(store, knows),
+            PendingLine::Rest(line) => self.processor.execute_line(store, knows, line),
             PendingLine::Branch(line) => {
-                let tokens = line.tokens(self.rewriter.alloc)?;
-                self.rewriter
+                let tokens = line.tokens(self.processor.alloc)?;
+                self.processor
                     .begin_if(store, knows, ConditionKind::True, tokens.as_slice())
             }
             PendingLine::End => unreachable!(),
@@ -282,13 +282,13 @@ impl Expander {
 
     /// Stores the pending line of an outcome. Returns its statement, if any.
     #[inline(always)]
-    fn follow(&mut self, turn: LineOutcome) -> Option<Statement>
+    fn apply_outcome(&mut self, line_outcome: LineOutcome) -> Option<Statement>
         ensures led { (m : Files) →
-            outcome_of_line (state_of m self.old.rewriter) turn ≡ step_of (state_in m self.new) result }
-        ensures stands { self.new.rewriter ≡ self.old.rewriter }
-        ensures size { measure_of self.new ≡ size_of self.old.rewriter + weight_of turn }
+            outcome_of_line (state_of m self.old.processor) line_outcome ≡ step_of (state_in m self.new) result }
+        ensures stands { self.new.processor ≡ self.old.processor }
+        ensures size { measure_of self.new ≡ size_of self.old.processor + weight_of line_outcome }
     {
-        let (pending, statement) = match turn {
+        let (pending, statement) = match line_outcome {
             LineOutcome::Continue => (PendingLine::Nothing, None),
             LineOutcome::Yield(line) => (PendingLine::Nothing, Some(Statement::Plain(line))),
             LineOutcome::LabelAndRest(label, rest) => (
@@ -304,27 +304,27 @@ impl Expander {
 }
 
 /// Returns the input stack before the first line of a source.
-fn reader_of(alloc: Global, file: &str) -> Result<InputStack, AllocError>
+fn initial_input_stack(alloc: Global, file: &str) -> Result<InputStack, AllocError>
     ensures lines { IfOk result (λ r. (m : Files) →
-        length (bytes_of m file.now) ≤ 16777216 → remaining_of m r ≡ first_left file.now
+        length (bytes_of m file.now) ≤ 16777216 → remaining_of m r ≡ initial_input file.now
         (bytes_of m file.now)) }
-    ensures stands { (m : Files) → IfOk result (IsInPlace m) }
-    ensures size { IfOk result (λ r. 3 * r.room + length r.outer.items ≤ 3145728) }
+    ensures stands { (m : Files) → IfOk result (IsStackPositioned m) }
+    ensures size { IfOk result (λ r. 3 * r.budget + length r.outer.items ≤ 3145728) }
 {
     let top = Input {
         source: LineSource::File(OpenFile::new(alloc, PathString::copy_of(alloc, file)?)),
         conditions: 0,
-        back: None,
+        return_location: None,
     };
-    let place = SourceLocation {
+    let location = SourceLocation {
         file: PathString::copy_of(alloc, file)?,
         line: 0,
     };
     Ok(InputStack {
         top,
         outer: Vec::new(alloc),
-        room: MAX_LINES,
-        place,
+        budget: MAX_LINES,
+        location,
     })
 }
 

@@ -4,7 +4,7 @@ ghost use Rattle.std.specs.Prelude.{◌≡◌, ◌<◌, ◌≤◌, ◌+◌, ◌-
 ghost use Rattle.std.specs.List.{prefix_len};
 ghost use Rattle.base65.specs.Store.{Files, FailedAt};
 ghost use Rattle.syntax65.specs.Faults.{is_failure, is_system_error};
-ghost use Rattle.expand65.specs.Lines.{IsEndedLine, IsFileAfter, IsReadOn, IsReadingAt, FailedReadFrame, ReadFrame, in_line, file_lines_after, lines_of, IsPiece, ReadsLine, TakesPiece, bytes_of, is_inside, left_in_file, rest_of, without_return};
+ghost use Rattle.expand65.specs.Lines.{IsTerminatedLine, IsFileAfterLines, FailedAtRefill, IsReadingAt, FailedReadFrame, ReadFrame, line_location, file_lines_after, lines_of, IsPiece, ReadsLine, AppendsPiece, bytes_of, is_within_line, remaining_file_lines, rest_of, without_return};
 
 use base65::{ListVec, PathString, Store, StoreFault};
 use memchr::memchr;
@@ -38,19 +38,19 @@ fn read_piece<S: Store>(
     store: &mut S,
     name: &str,
     at: u64,
-    want: usize,
+    max_len: usize,
     bytes: &mut Vec<u8>,
 ) -> Result<usize, ExpandFault>
-    requires { want ≤ 4096 }
+    requires { max_len ≤ 4096 }
     ensures read { IfSome (S.files store.old) (λ m.
-        IfOk result (λ n. IsPiece (drop at (bytes_of m name.now)) want n bytes.new.items)) }
-    ensures few { IfOk result (λ n. (n ≤ want) × (length bytes.new.items ≡ n)) }
-    ensures outside { IfErr result (λ e. is_system_error e ≡ true) }
+        IfOk result (λ n. IsPiece (drop at (bytes_of m name.now)) max_len n bytes.new.items)) }
+    ensures few { IfOk result (λ n. (n ≤ max_len) × (length bytes.new.items ≡ n)) }
+    ensures system_errors { IfErr result (λ e. is_system_error e ≡ true) }
     ensures frame { FailedReadFrame S.files S.failures S.last_failure (λ b. FailedAt b name.now at)
         store.old store.new result }
 {
     // If as many bytes were read before, there is nothing to fill.
-    bytes.resize(want, 0)?;
+    bytes.resize(max_len, 0)?;
     let n = match store.read_at(name, at, bytes.as_mut_slice()) {
         Ok(n) => n,
         Err(StoreFault::FileNotFound) => 0,
@@ -63,7 +63,7 @@ fn read_piece<S: Store>(
 /// Returns how many bytes to read from offset `at`, after a piece of length `last`. A short piece
 /// is mostly the end of a file, so after it only twice as many bytes are allocated, not a whole
 /// buffer.
-fn wanted(at: u64, last: usize) -> usize
+fn piece_size(at: u64, last: usize) -> usize
     ensures few { result ≤ min 4096 (16777216 - at) }
     ensures some { at < 16777216 → 0 < result }
 {
@@ -79,10 +79,10 @@ impl OpenFile {
     pub fn new(alloc: Global, name: PathString) -> Self
         ensures name { result.name ≡ name }
         ensures lines { (m : Files) →
-            length (bytes_of m name) ≤ 16777216 → left_in_file m result ≡ file_lines_after 0
+            length (bytes_of m name) ≤ 16777216 → remaining_file_lines m result ≡ file_lines_after 0
             (lines_of (bytes_of m name)) }
         ensures line { result.line ≡ 0 }
-        ensures following { (m : Files) → IsFileAfter m result 0 }
+        ensures following { (m : Files) → IsFileAfterLines m result 0 }
     {
         OpenFile {
             name,
@@ -95,21 +95,27 @@ impl OpenFile {
     }
 
     /// Refills the buffer if it is empty.
-    fn read_on<S: Store>(&mut self, store: &mut S) -> Result<(), ExpandFault>
+    fn refill_buffer<S: Store>(&mut self, store: &mut S) -> Result<(), ExpandFault>
         requires all { length self.old.buffer.items ≤ self.old.at }
         requires more { self.old.next < 16777216 }
         ensures kept { IfSome (S.files store.old) (λ m. OnOk result (rest_of m self.new ≡ rest_of m self.old)) }
         ensures front { OnOk result (self.new.at ≡ 0) }
         ensures none { IfSome (S.files store.old) (λ m.
             OnOk result (self.new.buffer.items ≡ [] → rest_of m self.new ≡ [])) }
-        ensures outside { IfErr result (λ e. is_system_error e ≡ true) }
+        ensures system_errors { IfErr result (λ e. is_system_error e ≡ true) }
         ensures line { self.new.line ≡ self.old.line }
         ensures name { self.new.name ≡ self.old.name }
-        ensures frame { FailedReadFrame S.files S.failures S.last_failure (IsReadOn self.old)
+        ensures frame { FailedReadFrame S.files S.failures S.last_failure (FailedAtRefill self.old)
             store.old store.new result }
     {
-        let want = wanted(self.next, self.buffer.len());
-        let n = read_piece(store, self.name.as_str(), self.next, want, &mut self.buffer)?;
+        let max_len = piece_size(self.next, self.buffer.len());
+        let n = read_piece(
+            store,
+            self.name.as_str(),
+            self.next,
+            max_len,
+            &mut self.buffer,
+        )?;
         self.at = 0;
         self.next += n as u64;
         Ok(())
@@ -122,10 +128,10 @@ impl OpenFile {
         ensures more { IfOk result (λ b. IsTrue b → self.new.at < length self.new.buffer.items) }
         ensures none { IfSome (S.files store.old) (λ m.
             IfOk result (λ b. b ≡ false → rest_of m self.new ≡ [])) }
-        ensures outside { IfErr result (λ e. is_system_error e ≡ true) }
+        ensures system_errors { IfErr result (λ e. is_system_error e ≡ true) }
         ensures line { self.new.line ≡ self.old.line }
         ensures name { self.new.name ≡ self.old.name }
-        ensures frame { FailedReadFrame S.files S.failures S.last_failure (IsReadOn self.old)
+        ensures frame { FailedReadFrame S.files S.failures S.last_failure (FailedAtRefill self.old)
             store.old store.new result }
     {
         if self.at < self.buffer.len() {
@@ -135,24 +141,24 @@ impl OpenFile {
         if self.next >= MAX_FILE {
             return Ok(false);
         }
-        self.read_on(store)?;
+        self.refill_buffer(store)?;
         Ok(!self.buffer.is_empty())
     }
 
     /// Appends the buffered bytes of a line. Returns whether the line is complete.
-    fn take_piece(&mut self, line: &mut Vec<u8>) -> Result<bool, ExpandFault>
+    fn append_piece(&mut self, line: &mut Vec<u8>) -> Result<bool, ExpandFault>
         requires more { self.old.at < length self.old.buffer.items }
-        requires part { prefix_len is_inside line.old.items ≡ length line.old.items }
+        requires part { prefix_len is_within_line line.old.items ≡ length line.old.items }
         requires few { length line.old.items ≤ 4097 }
         ensures read { (following : List ℕ) →
-            TakesPiece line.old.items (drop self.old.at self.old.buffer.items) following result
+            AppendsPiece line.old.items (drop self.old.at self.old.buffer.items) following result
             line.new.items (drop self.new.at self.new.buffer.items) }
-        ensures part { OnOk result (prefix_len is_inside line.new.items ≡ length line.new.items) }
+        ensures part { OnOk result (prefix_len is_within_line line.new.items ≡ length line.new.items) }
         ensures few { OnOk result (length line.new.items ≤ 4097) }
         ensures inside { IfErr result (λ e. is_failure e ≡ false) }
         ensures more { IfOk result (λ ended. ended ≡ false → length line.old.items < length line.new.items) }
         ensures ended { IfOk result (λ ended. ended ≡ true →
-            IsEndedLine (line.old.items ++ drop self.old.at self.old.buffer.items) line.new.items
+            IsTerminatedLine (line.old.items ++ drop self.old.at self.old.buffer.items) line.new.items
             (drop self.new.at self.new.buffer.items)) }
         ensures same { (self.new.name ≡ self.old.name) × (self.new.next ≡ self.old.next) ×
             (self.new.line ≡ self.old.line) }
@@ -182,11 +188,11 @@ impl OpenFile {
         requires { self.old.at < length self.old.buffer.items }
         ensures read { IfSome (S.files store.old) (λ m.
             ReadsLine (lines_of (rest_of m self.old)) result (lines_of (rest_of m self.new))) }
-        ensures following { IfSome (S.files store.old) (λ m. IsFileAfter m self.old self.old.line →
-            OnOk result (IsFileAfter m self.new (self.old.line + 1))) }
-        ensures last_failure { IfSome (S.files store.old) (λ m. IsFileAfter m self.old self.old.line →
+        ensures following { IfSome (S.files store.old) (λ m. IsFileAfterLines m self.old self.old.line →
+            OnOk result (IsFileAfterLines m self.new (self.old.line + 1))) }
+        ensures last_failure { IfSome (S.files store.old) (λ m. IsFileAfterLines m self.old self.old.line →
             IfErr result (λ e. is_failure e ≡ true → IsReadingAt m (S.last_failure store.new)
-            (in_line self.old.name (self.old.line + 1)))) }
+            (line_location self.old.name (self.old.line + 1)))) }
         ensures line { self.new.line ≡ self.old.line }
         ensures name { self.new.name ≡ self.old.name }
         ensures frame { ReadFrame S.files S.failures store.old store.new result }
@@ -194,7 +200,7 @@ impl OpenFile {
         let mut line = mem::replace(&mut self.spare, Vec::new(alloc));
         line.clear();
         'pieces: loop {
-            if self.take_piece(&mut line)? {
+            if self.append_piece(&mut line)? {
                 drop_return(&mut line);
                 return Ok(ListVec::from_vec(line));
             }
@@ -216,7 +222,7 @@ fn drop_return(line: &mut Vec<u8>)
 
 /// Returns the number of bytes before the first LF.
 pub fn line_len(bytes: &[u8]) -> usize
-    ensures count { result ≡ prefix_len is_inside bytes.now }
+    ensures count { result ≡ prefix_len is_within_line bytes.now }
     ensures within { result ≤ length bytes.now }
 {
     memchr(b'\n', bytes).unwrap_or(bytes.len())

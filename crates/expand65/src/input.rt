@@ -4,10 +4,10 @@ ghost use Rattle.std.specs.Prelude.{◌≡◌, ◌↔◌, ◌<◌, ◌+◌, drop
 ghost use Rattle.std.specs.List.{prefix_len};
 ghost use Rattle.base65.specs.Store.{Files};
 ghost use Rattle.syntax65.specs.Faults.{is_failure, is_system_error};
-ghost use Rattle.expand65.specs.Representation.{ComesNext, IsFile, IsReady, TakesLine, is_call, is_file, remaining_in, moved_by, next_location, iterations_left, IsAt, IsLineOf};
-ghost use Rattle.expand65.specs.Replay.{tokens_in, left_to_play, replacing_of};
+ghost use Rattle.expand65.specs.Representation.{HasNextLine, IsFile, IsReady, ReadsStoredLine, is_call, is_file, remaining_in, location_after_next, next_location, remaining_iterations, IsSourceAt, IsLineOf};
+ghost use Rattle.expand65.specs.Replay.{tokens_in, remaining_replay, substitution_of};
 ghost use Rattle.syntax65.specs.declared.source_location.SourceLocation.{SourceLocation};
-ghost use Rattle.expand65.specs.Lines.{is_inside, left_in_file, location_at, IsFileAt, IsReadingAt, ReadFrame, number_token};
+ghost use Rattle.expand65.specs.Lines.{is_within_line, remaining_file_lines, location_at, IsFileAt, IsReadingAt, ReadFrame, number_token};
 
 use crate::file::{OpenFile, line_len};
 use crate::line::StoredLine;
@@ -60,15 +60,15 @@ pub fn number_line(alloc: Global, number: u32) -> Result<StoredLine, AllocError>
 impl OpenFile {
     /// Returns the number of the file's next line, if it has one.
     fn begin_line<S: Store>(&mut self, store: &mut S) -> Result<NextLine, ExpandFault>
-        ensures comes { IfSome (S.files store.old) (λ m.
-            IfOk result (λ n. ComesNext (left_in_file m self.new) n)) }
+        ensures next_item { IfSome (S.files store.old) (λ m.
+            IfOk result (λ n. HasNextLine (remaining_file_lines m self.new) n)) }
         ensures same { IfSome (S.files store.old) (λ m.
-            OnOk result (left_in_file m self.new ≡ left_in_file m self.old)) }
+            OnOk result (remaining_file_lines m self.new ≡ remaining_file_lines m self.old)) }
         ensures more { IfOk result (λ n. (n ≡ NextLine.AtEnd →
             ⊥) → self.new.at < length self.new.buffer.items) }
-        ensures outside { IfErr result (λ e. is_system_error e ≡ true) }
+        ensures system_errors { IfErr result (λ e. is_system_error e ≡ true) }
         ensures onward { (p : SourceLocation) → p.line ≡ self.old.line → IfOk result (λ n.
-            (n ≡ NextLine.AtEnd → ⊥) → moved_by n p ≡ location_at p (p.line + 1)) }
+            (n ≡ NextLine.AtEnd → ⊥) → location_after_next n p ≡ location_at p (p.line + 1)) }
         ensures line { self.new.line ≡ self.old.line }
         ensures at { IfSome (S.files store.old) (λ m. (p : SourceLocation) → IsFileAt m self.old p →
             OnOk result (IsFileAt m self.new p)) }
@@ -87,10 +87,10 @@ impl OpenFile {
 
     /// Reads the next line, which is the first `len` buffered bytes.
     #[inline(always)]
-    fn take_at_hand(&mut self, alloc: Global, len: usize) -> Result<StoredLine, ExpandFault>
-        requires end { len ≡ prefix_len is_inside (drop self.old.at self.old.buffer.items) }
+    fn read_buffered_line(&mut self, alloc: Global, len: usize) -> Result<StoredLine, ExpandFault>
+        requires end { len ≡ prefix_len is_within_line (drop self.old.at self.old.buffer.items) }
         requires within { len < length (drop self.old.at self.old.buffer.items) }
-        ensures taken { (m : Files) → TakesLine (left_in_file m self.old) result (left_in_file m self.new) }
+        ensures taken { (m : Files) → ReadsStoredLine (remaining_file_lines m self.old) result (remaining_file_lines m self.new) }
         ensures at { (m : Files) (p : SourceLocation) → IsFileAt m self.old p →
             OnOk result (IsFileAt m self.new (location_at p (p.line + 1))) }
         ensures inside { IfErr result (λ e. is_failure e ≡ false) }
@@ -107,14 +107,14 @@ impl OpenFile {
     }
 
     /// Reads the next line, whose start is buffered.
-    fn take_line<S: Store>(
+    fn read_stored_line<S: Store>(
         &mut self,
         alloc: Global,
         store: &mut S,
     ) -> Result<StoredLine, ExpandFault>
         requires { self.old.at < length self.old.buffer.items }
         ensures taken { IfSome (S.files store.old) (λ m.
-            TakesLine (left_in_file m self.old) result (left_in_file m self.new)) }
+            ReadsStoredLine (remaining_file_lines m self.old) result (remaining_file_lines m self.new)) }
         ensures at { IfSome (S.files store.old) (λ m. (p : SourceLocation) → IsFileAt m self.old p →
             OnOk result (IsFileAt m self.new (location_at p (p.line + 1)))) }
         ensures last_failure { IfSome (S.files store.old) (λ m. (p : SourceLocation) → IsFileAt m self.old p →
@@ -125,7 +125,7 @@ impl OpenFile {
         let (_, rest) = self.buffer.split_at(self.at);
         let len = line_len(rest);
         if len < rest.len() {
-            return self.take_at_hand(alloc, len);
+            return self.read_buffered_line(alloc, len);
         }
         let bytes = self.next_line(alloc, store)?;
         let line = StoredLine::read(alloc, bytes.as_slice())?;
@@ -142,14 +142,14 @@ impl Replay {
     /// Returns whether the body has another line.
     fn has_line(&self) -> bool
         ensures more { IsTrue result → self.now.at < length self.now.body.value.lines }
-        ensures none { result ≡ false → left_to_play self.now ≡ [] }
+        ensures none { result ≡ false → remaining_replay self.now ≡ [] }
     {
         self.at < self.body.lines.len()
     }
 
     /// Returns the kind of the body's next line.
     fn next_line(&self) -> NextLine
-        ensures comes { ComesNext (left_to_play self.now) result }
+        ensures next_item { HasNextLine (remaining_replay self.now) result }
         ensures ready { (result ≡ NextLine.AtEnd → ⊥) → self.now.at < length self.now.body.value.lines }
         ensures played { (result ≡ NextLine.AtEnd → ⊥) → result ≡ NextLine.Replayed }
     {
@@ -161,14 +161,14 @@ impl Replay {
     }
 
     /// Reads the next line.
-    fn take_line(&mut self, alloc: Global) -> Result<StoredLine, ExpandFault>
+    fn read_stored_line(&mut self, alloc: Global) -> Result<StoredLine, ExpandFault>
         requires { self.old.at < length self.old.body.value.lines }
-        ensures taken { TakesLine (left_to_play self.old) result (left_to_play self.new) }
+        ensures taken { ReadsStoredLine (remaining_replay self.old) result (remaining_replay self.new) }
         ensures body { self.new.body ≡ self.old.body }
-        ensures same { replacing_of self.new ≡ replacing_of self.old }
+        ensures same { substitution_of self.new ≡ substitution_of self.old }
         ensures inside { IfErr result (λ e. is_failure e ≡ false) }
     {
-        let line = self.replaced(alloc, &self.body.lines.as_slice()[self.at])?;
+        let line = self.substitute_tokens(alloc, &self.body.lines.as_slice()[self.at])?;
         self.at += 1;
         Ok(line)
     }
@@ -182,13 +182,13 @@ fn begin_iteration(
     next: &mut u32,
     count: u32,
 ) -> Result<NextLine, ExpandFault>
-    ensures same { OnOk result (iterations_left replay.new next.new count ≡ iterations_left replay.old next.old count) }
-    ensures comes { IfOk result (λ n. ComesNext (iterations_left replay.new next.new count) n) }
+    ensures same { OnOk result (remaining_iterations replay.new next.new count ≡ remaining_iterations replay.old next.old count) }
+    ensures next_item { IfOk result (λ n. HasNextLine (remaining_iterations replay.new next.new count) n) }
     ensures ready { IfOk result (λ n. (n ≡ NextLine.AtEnd →
         ⊥) → replay.new.at < length replay.new.body.value.lines) }
     ensures played { IfOk result (λ n. (n ≡ NextLine.AtEnd → ⊥) → n ≡ NextLine.Replayed) }
     ensures inside { IfErr result (λ e. is_failure e ≡ false) }
-    ensures outside { IfErr result (λ e. is_system_error e ≡ true) }
+    ensures system_errors { IfErr result (λ e. is_system_error e ≡ true) }
 {
     if replay.has_line() {
         return Ok(NextLine::Replayed);
@@ -222,18 +222,18 @@ impl LineSource {
         alloc: Global,
         store: &mut S,
     ) -> Result<NextLine, ExpandFault>
-        ensures comes { IfSome (S.files store.old) (λ m. IfOk result (λ n. ComesNext (remaining_in m self.new) n)) }
+        ensures next_item { IfSome (S.files store.old) (λ m. IfOk result (λ n. HasNextLine (remaining_in m self.new) n)) }
         ensures same { IfSome (S.files store.old) (λ m. OnOk result (remaining_in m self.new ≡ remaining_in m self.old)) }
         ensures ready { IfOk result (λ n. (n ≡ NextLine.AtEnd → ⊥) → IsReady self.new) }
         ensures call { is_call self.new ≡ is_call self.old }
         ensures file { IfErr result (λ e. is_failure e ≡ true → IsFile self.old) }
-        ensures outside { IfErr result (λ e. is_system_error e ≡ true) }
+        ensures system_errors { IfErr result (λ e. is_system_error e ≡ true) }
         ensures kind { is_file self.new ≡ is_file self.old }
         ensures onward { (p : SourceLocation) → IsLineOf self.old p → IfOk result (λ n.
-            (n ≡ NextLine.AtEnd → ⊥) → moved_by n p ≡ next_location self.new p) }
-        ensures at { IfSome (S.files store.old) (λ m. (p : SourceLocation) → IsAt m self.old p →
-            OnOk result (IsAt m self.new p)) }
-        ensures last_failure { IfSome (S.files store.old) (λ m. (p : SourceLocation) → IsAt m self.old p →
+            (n ≡ NextLine.AtEnd → ⊥) → location_after_next n p ≡ next_location self.new p) }
+        ensures at { IfSome (S.files store.old) (λ m. (p : SourceLocation) → IsSourceAt m self.old p →
+            OnOk result (IsSourceAt m self.new p)) }
+        ensures last_failure { IfSome (S.files store.old) (λ m. (p : SourceLocation) → IsSourceAt m self.old p →
             IfErr result (λ e. is_failure e ≡ true → IsReadingAt m (S.last_failure store.new) p)) }
         ensures frame { ReadFrame S.files S.failures store.old store.new result }
     {
@@ -245,28 +245,28 @@ impl LineSource {
     }
 
     /// Reads the next line.
-    pub fn take_line<S: Store>(
+    pub fn read_stored_line<S: Store>(
         &mut self,
         alloc: Global,
         store: &mut S,
     ) -> Result<StoredLine, ExpandFault>
         requires { IsReady self.old }
         ensures taken { IfSome (S.files store.old) (λ m.
-            TakesLine (remaining_in m self.old) result (remaining_in m self.new)) }
+            ReadsStoredLine (remaining_in m self.old) result (remaining_in m self.new)) }
         ensures call { is_call self.new ≡ is_call self.old }
         ensures file { IfErr result (λ e. is_failure e ≡ true → IsFile self.old) }
         ensures kind { is_file self.new ≡ is_file self.old }
-        ensures at { IfSome (S.files store.old) (λ m. (p : SourceLocation) → IsAt m self.old p →
-            OnOk result (IsAt m self.new (next_location self.old p))) }
-        ensures last_failure { IfSome (S.files store.old) (λ m. (p : SourceLocation) → IsAt m self.old p →
+        ensures at { IfSome (S.files store.old) (λ m. (p : SourceLocation) → IsSourceAt m self.old p →
+            OnOk result (IsSourceAt m self.new (next_location self.old p))) }
+        ensures last_failure { IfSome (S.files store.old) (λ m. (p : SourceLocation) → IsSourceAt m self.old p →
             IfErr result (λ e. is_failure e ≡ true → IsReadingAt m (S.last_failure store.new)
             (next_location self.old p))) }
         ensures frame { ReadFrame S.files S.failures store.old store.new result }
     {
         match self {
-            LineSource::File(file) => file.take_line(alloc, store),
-            LineSource::Call(replay) => replay.take_line(alloc),
-            LineSource::Repeat(replay, _, _) => replay.take_line(alloc),
+            LineSource::File(file) => file.read_stored_line(alloc, store),
+            LineSource::Call(replay) => replay.read_stored_line(alloc),
+            LineSource::Repeat(replay, _, _) => replay.read_stored_line(alloc),
         }
     }
 }

@@ -3,10 +3,10 @@
 ghost use Rattle.std.specs.Prelude.{◌≡◌, ◌<◌, ◌≤◌, ◌+◌, if◌then◌else◌, length, IfErr, IfNone, IfOk, IfSome, IsTrue, OnOk, [], false, option_map};
 ghost use Rattle.base65.specs.Store.{Files};
 ghost use Rattle.syntax65.specs.Faults.{is_failure, is_system_error};
-ghost use Rattle.expand65.specs.Representation.{KeepsInnermost, FailsAtLine, StopsAt, last_read, AreAt, HasBack, IsAt, IsInPlace, StandsIn, open_in, RefinesLocated, remaining_in, remaining_of, mark_of, moved_by, outer_items};
+ghost use Rattle.expand65.specs.Representation.{PreservesInnermost, FailsAtLine, HasFailureLocation, last_read_location, AreInputsAt, HasReturnLocation, IsSourceAt, IsStackPositioned, IsStackPositionedIfKnown, open_inputs, RefinesLocated, remaining_in, remaining_of, end_mark_of, location_after_next, outer_items};
 ghost use Rattle.expand65.specs.Replay.{tokens_in};
-ghost use Rattle.expand65.specs.Lines.{without_end_mark, with_lines, TakesNextLine, ReadFrame, outside_macro, come_back};
-ghost use Rattle.expand65.specs.Blocks.{TakesInBlock};
+ghost use Rattle.expand65.specs.Lines.{without_end_mark, with_lines, ReadsNextLine, ReadFrame, after_innermost_macro, restored_location};
+ghost use Rattle.expand65.specs.Blocks.{ReadsBlockLine};
 
 use crate::input::{LineSource, NextLine};
 use crate::line::StoredLine;
@@ -24,7 +24,7 @@ const MAX_NESTING: usize = 256;
 pub struct Input {
     pub source: LineSource,
     pub conditions: usize,
-    pub back: Option<SourceLocation>,
+    pub return_location: Option<SourceLocation>,
 }
 
 /// The open inputs (the innermost separately), the line budget, and the location of the line read
@@ -33,8 +33,8 @@ pub struct Input {
 pub struct InputStack {
     pub top: Input,
     pub outer: Vec<Input>,
-    pub room: u32,
-    pub place: SourceLocation,
+    pub budget: u32,
+    pub location: SourceLocation,
 }
 
 /// The end of a macro call: how many conditions stay open, and whether any input remains.
@@ -45,11 +45,11 @@ pub struct MacroEnd {
 }
 
 /// Moves the location to a line of its file.
-fn move_by(place: &mut SourceLocation, next: NextLine)
-    ensures { place.new ≡ moved_by next place.old }
+fn update_location(location: &mut SourceLocation, next: NextLine)
+    ensures { location.new ≡ location_after_next next location.old }
 {
     if let NextLine::Numbered(line) = next {
-        place.line = line;
+        location.line = line;
     }
 }
 
@@ -62,49 +62,49 @@ impl InputStack {
         store: &mut S,
     ) -> Result<Option<StoredLine>, ExpandFault>
         ensures read { IfSome (S.files store.old) (λ m.
-            RefinesLocated (λ l. (option_map tokens_in l, remaining_of m self.new)) self.new.place result
-            (TakesNextLine (remaining_of m self.old))) }
-        ensures spent { IfSome (S.files store.old) (λ m.
+            RefinesLocated (λ l. (option_map tokens_in l, remaining_of m self.new)) self.new.location result
+            (ReadsNextLine (remaining_of m self.old))) }
+        ensures at_end { IfSome (S.files store.old) (λ m.
             IfOk result (λ l. IfNone l (remaining_in m self.new.top.source ≡ []))) }
-        ensures room { IfOk result (λ l. IfSome l (λ _. self.new.room < self.old.room)) }
-        ensures less { OnOk result (self.new.room ≤ self.old.room) }
-        ensures stays { KeepsInnermost self.old self.new }
-        ensures stands { StandsIn (S.files store.old) self.old →
-            OnOk result (StandsIn (S.files store.old) self.new) }
+        ensures room { IfOk result (λ l. IfSome l (λ _. self.new.budget < self.old.budget)) }
+        ensures less { OnOk result (self.new.budget ≤ self.old.budget) }
+        ensures innermost { PreservesInnermost self.old self.new }
+        ensures stands { IsStackPositionedIfKnown (S.files store.old) self.old →
+            OnOk result (IsStackPositionedIfKnown (S.files store.old) self.new) }
         ensures frame { ReadFrame S.files S.failures store.old store.new result }
-        ensures stopped { StandsIn (S.files store.old) self.old → IfSome (S.files store.old) (λ m.
-            StopsAt (FailsAtLine m (S.last_failure store.new) (remaining_of m self.old))
+        ensures stopped { IsStackPositionedIfKnown (S.files store.old) self.old → IfSome (S.files store.old) (λ m.
+            HasFailureLocation (FailsAtLine m (S.last_failure store.new) (remaining_of m self.old))
             self.old self.new result) }
     {
         let next = self.top.source.begin_line(alloc, store)?;
         if next.is_end() {
             return Ok(None);
         }
-        move_by(&mut self.place, next);
-        if self.room == 0 {
+        update_location(&mut self.location, next);
+        if self.budget == 0 {
             return Err(ExpandFault::TooManyLines);
         }
-        self.room -= 1;
-        let line = self.top.source.take_line(alloc, store)?;
+        self.budget -= 1;
+        let line = self.top.source.read_stored_line(alloc, store)?;
         Ok(Some(line))
     }
 
     /// Reads the next line of a block, which must be closed in the input that opened it.
-    pub fn block_line<S: Store>(
+    pub fn read_block_line<S: Store>(
         &mut self,
         alloc: Global,
         store: &mut S,
     ) -> Result<StoredLine, ExpandFault>
         ensures read { IfSome (S.files store.old) (λ m.
-            RefinesLocated (λ l. (tokens_in l, remaining_of m self.new)) self.new.place result
-            (TakesInBlock (remaining_of m self.old))) }
-        ensures room { OnOk result (self.new.room < self.old.room) }
-        ensures stays { KeepsInnermost self.old self.new }
-        ensures stands { StandsIn (S.files store.old) self.old →
-            OnOk result (StandsIn (S.files store.old) self.new) }
+            RefinesLocated (λ l. (tokens_in l, remaining_of m self.new)) self.new.location result
+            (ReadsBlockLine (remaining_of m self.old))) }
+        ensures room { OnOk result (self.new.budget < self.old.budget) }
+        ensures innermost { PreservesInnermost self.old self.new }
+        ensures stands { IsStackPositionedIfKnown (S.files store.old) self.old →
+            OnOk result (IsStackPositionedIfKnown (S.files store.old) self.new) }
         ensures frame { ReadFrame S.files S.failures store.old store.new result }
-        ensures stopped { StandsIn (S.files store.old) self.old → IfSome (S.files store.old) (λ m.
-            StopsAt (FailsAtLine m (S.last_failure store.new) (remaining_of m self.old))
+        ensures stopped { IsStackPositionedIfKnown (S.files store.old) self.old → IfSome (S.files store.old) (λ m.
+            HasFailureLocation (FailsAtLine m (S.last_failure store.new) (remaining_of m self.old))
             self.old self.new result) }
     {
         match self.next_line(alloc, store)? {
@@ -114,16 +114,16 @@ impl InputStack {
     }
 
     /// Pushes an input.
-    pub fn enter(&mut self, input: Input) -> Result<(), ExpandFault>
+    pub fn push_input(&mut self, input: Input) -> Result<(), ExpandFault>
         ensures entered { (m : Files) →
-            RefinesLocated (λ _. remaining_of m self.new) self.new.place result
-            (λ r. r ≡ with_lines (remaining_in m input.source) (mark_of input) (remaining_of m self.old)) }
-        ensures room { self.new.room ≡ self.old.room }
+            RefinesLocated (λ _. remaining_of m self.new) self.new.location result
+            (λ r. r ≡ with_lines (remaining_in m input.source) (end_mark_of input) (remaining_of m self.old)) }
+        ensures room { self.new.budget ≡ self.old.budget }
         ensures outer { OnOk result (length self.new.outer.items ≡ length self.old.outer.items + 1) }
-        ensures place { self.new.place ≡ self.old.place }
-        ensures stands { (m : Files) (p : SourceLocation) → IsAt m input.source p →
-            HasBack input.source input.back → come_back p input.back ≡ self.old.place →
-            IsInPlace m self.old → OnOk result (AreAt m (open_in self.new) p) }
+        ensures current_location { self.new.location ≡ self.old.location }
+        ensures stands { (m : Files) (p : SourceLocation) → IsSourceAt m input.source p →
+            HasReturnLocation input.source input.return_location → restored_location p input.return_location ≡ self.old.location →
+            IsStackPositioned m self.old → OnOk result (AreInputsAt m (open_inputs self.new) p) }
         ensures inside { IfErr result (λ e. is_failure e ≡ false) }
     {
         if self.outer.len() >= MAX_NESTING {
@@ -136,25 +136,25 @@ impl InputStack {
 
     /// Pops the innermost input, unless it is the source, and keeps the location to restore.
     /// Returns whether any input remains.
-    fn drop_top(&mut self, back: &mut Option<SourceLocation>) -> bool
+    fn pop_input(&mut self, return_location: &mut Option<SourceLocation>) -> bool
         ensures left { (m : Files) →
             (if result then (remaining_of m self.new).items else []) ≡ outer_items m self.old.outer.items }
-        ensures back { (p : SourceLocation) → come_back p back.new ≡ come_back (come_back p back.old) self.old.top.back }
-        ensures place { self.new.place ≡ self.old.place }
-        ensures stands { (m : Files) (p : SourceLocation) → AreAt m (open_in self.old) (come_back p back.old) →
-            AreAt m (open_in self.new) (come_back p back.new) }
-        ensures room { self.new.room ≡ self.old.room }
+        ensures back { (p : SourceLocation) → restored_location p return_location.new ≡ restored_location (restored_location p return_location.old) self.old.top.return_location }
+        ensures location { self.new.location ≡ self.old.location }
+        ensures stands { (m : Files) (p : SourceLocation) → AreInputsAt m (open_inputs self.old) (restored_location p return_location.old) →
+            AreInputsAt m (open_inputs self.new) (restored_location p return_location.new) }
+        ensures budget { self.new.budget ≡ self.old.budget }
         ensures outer { IsTrue result → length self.new.outer.items < length self.old.outer.items }
         ensures fewer { length self.new.outer.items ≤ length self.old.outer.items }
     {
         match self.outer.pop() {
             None => {
-                keep_last(back, self.top.back.take());
+                replace_if_some(return_location, self.top.return_location.take());
                 false
             }
             Some(outer) => {
                 let inner = mem::replace(&mut self.top, outer);
-                keep_last(back, inner.back);
+                replace_if_some(return_location, inner.return_location);
                 true
             }
         }
@@ -162,13 +162,13 @@ impl InputStack {
 
     /// Closes the innermost input, at whose end `conditions` conditions must be open. Returns
     /// whether any input remains.
-    pub fn leave(&mut self, conditions: usize) -> Result<bool, ExpandFault>
+    pub fn close_input(&mut self, conditions: usize) -> Result<bool, ExpandFault>
         ensures left { (m : Files) →
             remaining_in m self.old.top.source ≡ [] → RefinesLocated
-            (λ more. ((if more then (remaining_of m self.new).items else []), self.new.place))
-            self.new.place result (λ r. r ≡ without_end_mark conditions self.old.place (remaining_of m self.old).items) }
-        ensures stands { (m : Files) → IsInPlace m self.old → OnOk result (IsInPlace m self.new) }
-        ensures room { self.new.room ≡ self.old.room }
+            (λ more. ((if more then (remaining_of m self.new).items else []), self.new.location))
+            self.new.location result (λ r. r ≡ without_end_mark conditions self.old.location (remaining_of m self.old).items) }
+        ensures stands { (m : Files) → IsStackPositioned m self.old → OnOk result (IsStackPositioned m self.new) }
+        ensures room { self.new.budget ≡ self.old.budget }
         ensures outer { IfOk result (λ more. IsTrue more →
             length self.new.outer.items < length self.old.outer.items) }
         ensures fewer { OnOk result (length self.new.outer.items ≤ length self.old.outer.items) }
@@ -177,33 +177,33 @@ impl InputStack {
         if self.top.conditions != conditions {
             return Err(ExpandFault::NotClosed);
         }
-        let mut back = None;
-        let more = self.drop_top(&mut back);
-        self.go_back(back);
+        let mut return_location = None;
+        let more = self.pop_input(&mut return_location);
+        self.restore_location(return_location);
         Ok(more)
     }
 
     /// Closes the innermost macro call and all inputs opened in it.
-    pub fn leave_macro(&mut self) -> Option<MacroEnd>
+    pub fn close_macro_call(&mut self) -> Option<MacroEnd>
         ensures left { (m : Files) →
-            outside_macro (remaining_of m self.old).items self.old.place ≡ option_map
+            after_innermost_macro (remaining_of m self.old).items self.old.location ≡ option_map
             (λ e. (
               e.conditions,
               (if e.more then (remaining_of m self.new).items else []),
-              self.new.place,
+              self.new.location,
             )) result }
-        ensures none { IfNone result (self.new.place ≡ self.old.place) }
-        ensures stands { (m : Files) → IsInPlace m self.old → IfSome result (λ _. IsInPlace m self.new) }
-        ensures room { self.new.room ≡ self.old.room }
+        ensures none { IfNone result (self.new.location ≡ self.old.location) }
+        ensures stands { (m : Files) → IsStackPositioned m self.old → IfSome result (λ _. IsStackPositioned m self.new) }
+        ensures room { self.new.budget ≡ self.old.budget }
         ensures fewer { length self.new.outer.items ≤ length self.old.outer.items }
     {
-        let mut back = None;
+        let mut return_location = None;
         'inputs: loop {
             let is_call = self.top.source.is_call();
             let conditions = self.top.conditions;
-            let more = self.drop_top(&mut back);
+            let more = self.pop_input(&mut return_location);
             if is_call {
-                self.go_back(back);
+                self.restore_location(return_location);
                 return Some(MacroEnd { conditions, more });
             }
             if !more {
@@ -213,35 +213,35 @@ impl InputStack {
     }
 
     /// Restores the location of the line that included the file.
-    fn go_back(&mut self, back: Option<SourceLocation>)
-        ensures place { self.new.place ≡ come_back self.old.place back }
+    fn restore_location(&mut self, return_location: Option<SourceLocation>)
+        ensures location { self.new.location ≡ restored_location self.old.location return_location }
         ensures top { self.new.top ≡ self.old.top }
         ensures outer { self.new.outer ≡ self.old.outer }
-        ensures room { self.new.room ≡ self.old.room }
+        ensures budget { self.new.budget ≡ self.old.budget }
     {
-        if let Some(place) = back {
-            self.place = place;
+        if let Some(location) = return_location {
+            self.location = location;
         }
     }
 }
 
 impl InputStack {
     /// Restores the location of the including line if no line of the included file was read.
-    pub fn go_back_unread(&mut self)
-        ensures place { self.new.place ≡ last_read self.old.place self.old.top.back }
+    pub fn restore_location_if_unread(&mut self)
+        ensures current_location { self.new.location ≡ last_read_location self.old.location self.old.top.return_location }
     {
-        if self.place.line == 0 {
-            let back = self.top.back.take();
-            self.go_back(back);
+        if self.location.line == 0 {
+            let return_location = self.top.return_location.take();
+            self.restore_location(return_location);
         }
     }
 }
 
 /// Keeps the later of two locations to restore.
-fn keep_last(back: &mut Option<SourceLocation>, next: Option<SourceLocation>)
-    ensures { (p : SourceLocation) → come_back p back.new ≡ come_back (come_back p back.old) next }
+fn replace_if_some(return_location: &mut Option<SourceLocation>, next: Option<SourceLocation>)
+    ensures { (p : SourceLocation) → restored_location p return_location.new ≡ restored_location (restored_location p return_location.old) next }
 {
     if next.is_some() {
-        *back = next;
+        *return_location = next;
     }
 }

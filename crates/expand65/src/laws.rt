@@ -13,7 +13,7 @@ pub fn next_is_unique()
 /// Expansion is total and terminates: from the first state of a source something comes next, for
 /// all files and environments. Its error is never a system error, and after each statement less
 /// input remains.
-#[tactic(auto, using(crate::proofs::SomeNext::some_next))]
+#[tactic(auto, using(crate::proofs::NextTotality::some_next))]
 pub fn next_exists()
     ensures { NextExists }
 {}

@@ -5,11 +5,11 @@ ghost use Rattle.base65.specs.Relations.{RefinesRel};
 ghost use Rattle.syntax65.specs.Tokens.{IsRead, Lexeme, lexeme_of, lexemes};
 ghost use Rattle.syntax65.specs.declared.lexing.tokens.LexFault.{LexFault};
 ghost use Rattle.syntax65.specs.Faults.{is_failure, is_system_error};
-ghost use Rattle.expand65.specs.Fronts.{front_directive, label_len};
-ghost use Rattle.expand65.specs.Replay.{after_word, cut, text_of, tokens_in, IsParted, IsColonIn, IsPlain};
+ghost use Rattle.expand65.specs.LineStart.{first_directive, label_len};
+ghost use Rattle.expand65.specs.Replay.{rest_after_token, split_lexemes, text_of, tokens_in, SplitsLabel, IsColonIn, IsPlain};
 ghost use Rattle.expand65.specs.Lines.{file_line_tokens};
 
-use crate::fronts::{Directive, directive_in, is_mislabelled, label_len};
+use crate::line_start::{Directive, directive_in, is_mislabelled, label_len};
 use base65::ListVec;
 use std::alloc::{AllocError, Global};
 use syntax65::{ExpandFault, Lexer, Punctuation, Token, TokenKind};
@@ -45,7 +45,7 @@ impl StoredToken {
     #[inline(always)]
     fn token<'a>(&self, bytes: &'a [u8]) -> (Token<'a>, &'a [u8])
         ensures token { lexeme_of result.0 ≡ text_of self.now bytes.now }
-        ensures following { result.1.now ≡ after_word self.now bytes.now }
+        ensures following { result.1.now ≡ rest_after_token self.now bytes.now }
     {
         let (_, here) = bytes.split_at((self.blanks as usize).min(bytes.len()));
         let (text, following) = here.split_at((self.len as usize).min(here.len()));
@@ -60,15 +60,15 @@ impl StoredLine {
     pub fn copy_of(alloc: Global, tokens: &[Token<'_>]) -> Result<StoredLine, AllocError>
         ensures { IfOk result (λ line. tokens_in line ≡ lexemes tokens.now) }
     {
-        let mut words = Vec::with_capacity(alloc, tokens.len())?;
+        let mut spans = Vec::with_capacity(alloc, tokens.len())?;
         // A token has some four bytes.
         let mut bytes = Vec::with_capacity(alloc, tokens.len().saturating_mul(4))?;
         for token in tokens {
-            words.push(StoredToken::new(token.kind, 0, token.text.len())?)?;
+            spans.push(StoredToken::new(token.kind, 0, token.text.len())?)?;
             bytes.extend_from_slice(token.text)?;
         }
         Ok(StoredLine {
-            spans: ListVec::from_vec(words),
+            spans: ListVec::from_vec(spans),
             bytes: ListVec::from_vec(bytes),
         })
     }
@@ -81,43 +81,43 @@ impl StoredLine {
         ensures inside { IfErr result (λ e. is_failure e ≡ false) }
     {
         // This capacity suffices for most lines. Lines of macros are kept, so it isn't larger.
-        let mut words = Vec::with_capacity(alloc, (bytes.len() / 2 + 1).min(8))?;
-        let len = read_words(bytes, &mut words)?;
+        let mut spans = Vec::with_capacity(alloc, (bytes.len() / 2 + 1).min(8))?;
+        let len = read_spans(bytes, &mut spans)?;
         let (pending, _) = bytes.split_at(len);
         let kept = Vec::from_slice(alloc, pending)?;
         Ok(StoredLine {
-            spans: ListVec::from_vec(words),
+            spans: ListVec::from_vec(spans),
             bytes: ListVec::from_vec(kept),
         })
     }
 
     /// Appends the line's tokens.
-    pub fn add_to<'a>(&'a self, tokens: &mut Vec<Token<'a>>) -> Result<(), AllocError>
+    pub fn append_to<'a>(&'a self, tokens: &mut Vec<Token<'a>>) -> Result<(), AllocError>
         ensures { OnOk result (lexemes tokens.new.items ≡ lexemes tokens.old.items ++ tokens_in self.now) }
     {
         let mut rest = self.bytes.as_slice();
-        for word in self.spans.as_slice() {
-            let (token, following) = word.token(rest);
+        for span in self.spans.as_slice() {
+            let (token, following) = span.token(rest);
             tokens.push(token)?;
             rest = following;
         }
         Ok(())
     }
 
-    /// Stores the line's tokens at the start of `room`, if they fit. Returns their number.
+    /// Stores the line's tokens at the start of `buffer`, if they fit. Returns their number.
     #[inline(always)]
-    pub fn put_in<'a>(&'a self, room: &mut [Token<'a>]) -> Option<usize>
-        ensures within { IfSome result (λ n. n ≤ length room.new) }
-        ensures tokens { IfSome result (λ n. lexemes (take n room.new) ≡ tokens_in self.now) }
+    pub fn store_tokens<'a>(&'a self, buffer: &mut [Token<'a>]) -> Option<usize>
+        ensures within { IfSome result (λ n. n ≤ length buffer.new) }
+        ensures tokens { IfSome result (λ n. lexemes (take n buffer.new) ≡ tokens_in self.now) }
     {
-        if self.spans.len() > room.len() {
+        if self.spans.len() > buffer.len() {
             return None;
         }
         let mut count = 0;
         let mut left = self.bytes.as_slice();
-        for word in self.spans.as_slice() {
-            let (token, following) = word.token(left);
-            room[count] = token;
+        for span in self.spans.as_slice() {
+            let (token, following) = span.token(left);
+            buffer[count] = token;
             count += 1;
             left = following;
         }
@@ -128,21 +128,21 @@ impl StoredLine {
     pub fn first(&self) -> Option<Token<'_>>
         ensures { option_map lexeme_of result ≡ slice_get (tokens_in self.now) 0 }
     {
-        let word = self.spans.as_slice().first()?;
-        let (token, _) = word.token(self.bytes.as_slice());
+        let span = self.spans.as_slice().first()?;
+        let (token, _) = span.token(self.bytes.as_slice());
         Some(token)
     }
 
     /// Returns the preprocessor directive at the start.
     pub fn directive(&self) -> Option<Directive>
-        ensures { result ≡ front_directive (tokens_in self.now) }
+        ensures { result ≡ first_directive (tokens_in self.now) }
     {
-        let word = self.spans.as_slice().first()?;
+        let span = self.spans.as_slice().first()?;
         // Most lines begin with no directive, so their bytes aren't read.
-        if !matches!(word.kind, TokenKind::Directive) {
+        if !matches!(span.kind, TokenKind::Directive) {
             return None;
         }
-        let (token, _) = word.token(self.bytes.as_slice());
+        let (token, _) = span.token(self.bytes.as_slice());
         directive_in(&token)
     }
 
@@ -151,13 +151,13 @@ impl StoredLine {
         ensures { IsColonIn (slice_get self.now.spans at) result }
     {
         match self.spans.as_slice().get(at) {
-            Some(word) => matches!(word.kind, TokenKind::Symbol(Punctuation::Colon)),
+            Some(span) => matches!(span.kind, TokenKind::Symbol(Punctuation::Colon)),
             None => false,
         }
     }
 
     /// Returns whether neither of the first two tokens is a colon, so that the line has no label.
-    fn has_no_colon(&self) -> bool
+    fn is_unlabelled(&self) -> bool
         ensures { IsTrue result → label_len (tokens_in self.now) ≡ 0 }
     {
         let first = self.is_colon_at(0);
@@ -172,7 +172,7 @@ impl StoredLine {
     pub fn is_plain(&self) -> bool
         ensures { IsTrue result → IsPlain (tokens_in self.now) }
     {
-        self.has_no_colon() && self.directive().is_none()
+        self.is_unlabelled() && self.directive().is_none()
     }
 
     /// Splits the line into its label and the rest, if it has a label.
@@ -180,10 +180,10 @@ impl StoredLine {
         &self,
         alloc: Global,
     ) -> Result<Option<(StoredLine, StoredLine)>, ExpandFault>
-        ensures parts { IsParted (tokens_in self.now) result }
+        ensures parts { SplitsLabel (tokens_in self.now) result }
         ensures inside { IfErr result (λ e. is_failure e ≡ false) }
     {
-        if self.has_no_colon() {
+        if self.is_unlabelled() {
             return Ok(None);
         }
         let tokens = self.tokens(alloc)?;
@@ -206,16 +206,16 @@ impl StoredLine {
         ensures { IfOk result (λ tokens. lexemes tokens.items ≡ tokens_in self.now) }
     {
         let mut tokens = Vec::with_capacity(alloc, self.spans.len())?;
-        self.add_to(&mut tokens)?;
+        self.append_to(&mut tokens)?;
         Ok(tokens)
     }
 }
 
 /// Reads the tokens of a line of a file. Returns the offset of the last one's end.
 #[inline(always)]
-fn read_words(bytes: &[u8], words: &mut Vec<StoredToken>) -> Result<usize, ExpandFault>
-    requires { words.old.items ≡ [] }
-    ensures tokens { RefinesRel is_system_error (λ n. cut words.new.items (take n bytes.now)) result
+fn read_spans(bytes: &[u8], spans: &mut Vec<StoredToken>) -> Result<usize, ExpandFault>
+    requires { spans.old.items ≡ [] }
+    ensures tokens { RefinesRel is_system_error (λ n. split_lexemes spans.new.items (take n bytes.now)) result
         (λ r. (q : Result (List Lexeme) LexFault) × IsRead bytes.now q × (r ≡ file_line_tokens q)) }
     ensures within { IfOk result (λ n. n ≤ length bytes.now) }
     ensures inside { IfErr result (λ e. is_failure e ≡ false) }
@@ -228,7 +228,7 @@ fn read_words(bytes: &[u8], words: &mut Vec<StoredToken>) -> Result<usize, Expan
                 let len = token.text.len();
                 let blanks = left - lexer.rest.len() - len;
                 // A line has at most 4,096 bytes, so both fit.
-                words.push(StoredToken {
+                spans.push(StoredToken {
                     kind: token.kind,
                     blanks: blanks as u32,
                     len: len as u32,

@@ -2,22 +2,22 @@
 
 ghost use Rattle.std.specs.Prelude.{Option, ◌≡◌, ◌<◌, ◌≤◌, ◌+◌, ◌^◌, IfOk, IsSome, IsTrue, length, map, option_map, false, is_some, IfErr, Ok, Some};
 ghost use Rattle.syntax65.specs.Tokens.{lexeme_of, lexemes};
-ghost use Rattle.expand65.specs.Macros.{arguments_of, braces_after, closes_last, is_braced, parts_within, without_braces, macro_line, call_result, distinct_of, header_of, macro_at, macro_of, ordinary, params_of, is_comma_at, name_at, part_len};
-ghost use Rattle.expand65.specs.Fronts.{names_of, ok_or_unknown};
+ghost use Rattle.expand65.specs.Macros.{arguments_of, braces_after, closes_last, is_braced, arguments_within, without_braces, macro_line, call_result, distinct_of, header_of, macro_at, macro_of, plain_line_result, params_of, is_comma_at, name_at, argument_len};
+ghost use Rattle.expand65.specs.LineStart.{names_of, ok_or_not_understood};
 ghost use Rattle.expand65.specs.Replay.{tokens_in, definition_of};
 ghost use Rattle.base65.specs.Outcome.{Refines};
 ghost use Rattle.syntax65.specs.Faults.{is_failure, is_system_error};
-ghost use Rattle.expand65.specs.Failing.{StepFails};
+ghost use Rattle.expand65.specs.Failures.{StepFails};
 ghost use Rattle.expand65.specs.Expansion.{StepReaches};
 ghost use Rattle.base65.specs.Store.{Files};
-ghost use Rattle.expand65.specs.Representation.{PreservesPositions, HasLineOutcome, LeadsTo, StopsBy, macros_of};
+ghost use Rattle.expand65.specs.Representation.{PreservesPositions, HasLineOutcome, HasLineOutcomeForAllFiles, HasFailureLocationIfKnown, macros_of};
 ghost use Rattle.expand65.specs.Lines.{ReadFrame};
 
 use crate::blocks::BlockKind;
-use crate::fronts::{after_first, closes_brace, is_comma, name_in, opens_brace};
 use crate::input::{LineSource, number_line};
 use crate::input_stack::Input;
 use crate::line::StoredLine;
+use crate::line_start::{after_first, closes_brace, is_comma, name_in, opens_brace};
 use crate::macro_replay::{Body, Replay};
 use crate::preprocessor::{LineOutcome, Preprocessor};
 use base65::{ListVec, Store};
@@ -84,14 +84,14 @@ fn braces_after(depth: usize, token: &Token<'_>) -> usize
 }
 
 /// Returns the number of tokens before the first comma outside braces.
-fn part_len(tokens: &[Token<'_>]) -> usize
-    ensures count { result ≡ part_len 0 (lexemes tokens.now) }
+fn argument_len(tokens: &[Token<'_>]) -> usize
+    ensures count { result ≡ argument_len 0 (lexemes tokens.now) }
     ensures within { result ≤ length tokens.now }
 {
     let mut depth = 0;
-    for (place, token) in tokens.iter().enumerate() {
+    for (index, token) in tokens.iter().enumerate() {
         if is_comma(token) && depth == 0 {
-            return place;
+            return index;
         }
         depth = braces_after(depth, token);
     }
@@ -103,9 +103,9 @@ fn closes_last(tokens: &[Token<'_>]) -> bool
     ensures { result ≡ closes_last 0 (lexemes tokens.now) }
 {
     let mut depth = 0;
-    for (place, token) in tokens.iter().enumerate() {
+    for (index, token) in tokens.iter().enumerate() {
         if closes_brace(token) && depth == 0 {
-            return place + 1 == tokens.len();
+            return index + 1 == tokens.len();
         }
         depth = braces_after(depth, token);
     }
@@ -120,7 +120,7 @@ fn is_braced(tokens: &[Token<'_>]) -> bool
 }
 
 /// Removes the pair of braces around an argument.
-fn unbraced<'a, 'b>(tokens: &'b [Token<'a>]) -> &'b [Token<'a>]
+fn strip_braces<'a, 'b>(tokens: &'b [Token<'a>]) -> &'b [Token<'a>]
     ensures { lexemes result.now ≡ without_braces (lexemes tokens.now) }
 {
     match tokens {
@@ -130,16 +130,16 @@ fn unbraced<'a, 'b>(tokens: &'b [Token<'a>]) -> &'b [Token<'a>]
 }
 
 /// Splits tokens at the commas outside braces.
-fn parts_of(alloc: Global, tokens: &[Token<'_>]) -> Result<ListVec<StoredLine>, AllocError>
-    ensures { IfOk result (λ lines. map tokens_in lines ≡ map without_braces (parts_within 0 (lexemes tokens.now))) }
+fn split_arguments(alloc: Global, tokens: &[Token<'_>]) -> Result<ListVec<StoredLine>, AllocError>
+    ensures { IfOk result (λ lines. map tokens_in lines ≡ map without_braces (arguments_within 0 (lexemes tokens.now))) }
 {
     let mut lines = ListVec::new(alloc);
     let mut at = 0;
     'parts: loop {
         let (_, rest) = tokens.split_at(at);
-        let len = part_len(rest);
+        let len = argument_len(rest);
         let (part, following) = rest.split_at(len);
-        let line = StoredLine::copy_of(alloc, unbraced(part))?;
+        let line = StoredLine::copy_of(alloc, strip_braces(part))?;
         lines.push(line)?;
         if following.is_empty() {
             return Ok(lines);
@@ -155,7 +155,7 @@ pub fn arguments_of(alloc: Global, tokens: &[Token<'_>]) -> Result<ListVec<Store
     if tokens.is_empty() {
         return Ok(ListVec::new(alloc));
     }
-    parts_of(alloc, tokens)
+    split_arguments(alloc, tokens)
 }
 
 /// The name and parameters of a macro.
@@ -166,9 +166,9 @@ pub struct Header {
 }
 
 /// Collects names that must be distinct.
-fn distinct(alloc: Global, names: &[&[u8]]) -> Result<IndexSet<Vec<u8>>, ExpandFault>
+fn distinct_names(alloc: Global, names: &[&[u8]]) -> Result<IndexSet<Vec<u8>>, ExpandFault>
     ensures set { Refines is_system_error (λ s. map (λ k. k.items) s.keys) result
-        (ok_or_unknown (distinct_of (map (λ s. s.now) names.now))) }
+        (ok_or_not_understood (distinct_of (map (λ s. s.now) names.now))) }
     ensures inside { IfErr result (λ e. is_failure e ≡ false) }
 {
     let mut set = IndexSet::new(alloc);
@@ -184,14 +184,14 @@ fn distinct(alloc: Global, names: &[&[u8]]) -> Result<IndexSet<Vec<u8>>, ExpandF
 /// Parses parameters: nothing, or names separated by commas.
 fn params_of(alloc: Global, tokens: &[Token<'_>]) -> Result<IndexSet<Vec<u8>>, ExpandFault>
     ensures params { Refines is_system_error (λ s. map (λ k. k.items) s.keys) result
-        (ok_or_unknown (params_of (lexemes tokens.now))) }
+        (ok_or_not_understood (params_of (lexemes tokens.now))) }
     ensures inside { IfErr result (λ e. is_failure e ≡ false) }
 {
     if tokens.is_empty() {
         return Ok(IndexSet::new(alloc));
     }
     match names_of(alloc, tokens)? {
-        Some(names) => distinct(alloc, names.as_slice()),
+        Some(names) => distinct_names(alloc, names.as_slice()),
         None => Err(ExpandFault::NotUnderstood),
     }
 }
@@ -199,7 +199,7 @@ fn params_of(alloc: Global, tokens: &[Token<'_>]) -> Result<IndexSet<Vec<u8>>, E
 /// Parses the name and parameters of a macro.
 fn header_of(alloc: Global, tokens: &[Token<'_>]) -> Result<Header, ExpandFault>
     ensures header { Refines is_system_error (λ h. (h.name.items, map (λ k. k.items) h.params.keys)) result
-        (ok_or_unknown (header_of (lexemes tokens.now))) }
+        (ok_or_not_understood (header_of (lexemes tokens.now))) }
     ensures inside { IfErr result (λ e. is_failure e ≡ false) }
 {
     let Some((first, following)) = tokens.split_first() else {
@@ -224,14 +224,14 @@ impl Preprocessor {
             StepReaches m (macro_line s (lexemes tokens.now))) }
         ensures keeps { PreservesPositions (S.files store.old) self.old self.new result }
         ensures frame { ReadFrame S.files S.failures store.old store.new result }
-        ensures stopped { StopsBy (S.files store.old) self.old self.new result (λ m s.
+        ensures stopped { HasFailureLocationIfKnown (S.files store.old) self.old self.new result (λ m s.
             StepFails m (S.last_failure store.new) (macro_line s (lexemes tokens.now))) }
     {
         let Header { name, params } = header_of(self.alloc, tokens)?;
         if self.has_macro(name.as_slice()) {
             return Err(ExpandFault::MacroTwice);
         }
-        let block = self.reader.block(self.alloc, store, BlockKind::Macro)?;
+        let block = self.stack.read_block(self.alloc, store, BlockKind::Macro)?;
         let lines = block.lines;
         let body = Rc::new(self.alloc, Body { params, lines })?;
         self.macros.insert(name, body)?;
@@ -276,7 +276,7 @@ impl Preprocessor {
 
     /// Calls a macro, given the tokens after its name.
     fn call(&mut self, body: Rc<Body>, tokens: &[Token<'_>]) -> Result<LineOutcome, ExpandFault>
-        ensures turns { LeadsTo self.old self.new result (λ s.
+        ensures turns { HasLineOutcomeForAllFiles self.old self.new result (λ s.
             call_result s (definition_of body.value) (arguments_of (lexemes tokens.now))) }
         ensures keeps { (files : Option Files) → PreservesPositions files self.old self.new result }
         ensures inside { IfErr result (λ e. is_failure e ≡ false) }
@@ -295,7 +295,7 @@ impl Preprocessor {
         arguments: ListVec<StoredLine>,
     ) -> Result<LineOutcome, ExpandFault>
         requires { length arguments ≤ length body.value.params.keys }
-        ensures turns { LeadsTo self.old self.new result (λ s.
+        ensures turns { HasLineOutcomeForAllFiles self.old self.new result (λ s.
             call_result s (definition_of body.value) (map tokens_in arguments)) }
         ensures keeps { (files : Option Files) → PreservesPositions files self.old self.new result }
         ensures inside { IfErr result (λ e. is_failure e ≡ false) }
@@ -315,18 +315,18 @@ impl Preprocessor {
             locals: IndexMap::with_hasher(self.alloc, *self.macros.hasher()),
             number,
         };
-        self.reader.enter(Input {
+        self.stack.push_input(Input {
             source: LineSource::Call(replay),
             conditions: self.conditions.len(),
-            back: None,
+            return_location: None,
         })?;
         self.expansions = number;
         Ok(LineOutcome::Continue)
     }
 
     /// Processes a line without preprocessor directive: an empty line, a macro call or a statement.
-    pub fn call_or_give(&mut self, line: StoredLine) -> Result<LineOutcome, ExpandFault>
-        ensures turns { LeadsTo self.old self.new result (λ s. ordinary s (tokens_in line)) }
+    pub fn execute_plain_line(&mut self, line: StoredLine) -> Result<LineOutcome, ExpandFault>
+        ensures turns { HasLineOutcomeForAllFiles self.old self.new result (λ s. plain_line_result s (tokens_in line)) }
         ensures keeps { (files : Option Files) → PreservesPositions files self.old self.new result }
         ensures inside { IfErr result (λ e. is_failure e ≡ false) }
     {

@@ -3,25 +3,25 @@
 ghost use Rattle.std.specs.Prelude.{Option, ◌≡◌, ◌≤◌, ◌<◌, ◌+◌, [], true, false, length, IfErr, IfOk, IfSome, Ok, OnOk};
 ghost use Rattle.base65.specs.Store.{Files};
 ghost use Rattle.syntax65.specs.Tokens.{lexemes};
-ghost use Rattle.expand65.specs.State.{else_line, ended_if, if_line, unless_refused, EnvironmentView};
-ghost use Rattle.expand65.specs.Failing.{StepFails, FailsAt};
+ghost use Rattle.expand65.specs.State.{else_line, endif_result, if_line, and_then_step, EnvironmentView};
+ghost use Rattle.expand65.specs.Failures.{StepFails, StepFailsAt};
 ghost use Rattle.syntax65.specs.Faults.{is_failure};
-ghost use Rattle.expand65.specs.Representation.{StandsIn, remaining_in, remaining_of, PreservesPositions, HasLineOutcome, LeadsTo, StopsBy, RefinesLineOutcome, size_of, stands_alone, state_of, weight_of};
-ghost use Rattle.expand65.specs.Fronts.{front_directive, is_mislabelled, string_of, ok_or_unknown};
-ghost use Rattle.expand65.specs.Expansion.{StepReaches, line_step, at_mark, unless_mislabelled, directive_step, include_file, file_step, IsStep, last_condition};
+ghost use Rattle.expand65.specs.Representation.{IsStackPositionedIfKnown, remaining_in, remaining_of, PreservesPositions, HasLineOutcome, HasLineOutcomeForAllFiles, HasFailureLocationIfKnown, RefinesLineOutcome, size_of, has_no_operands, state_of, weight_of};
+ghost use Rattle.expand65.specs.LineStart.{first_directive, is_mislabelled, string_of, ok_or_not_understood};
+ghost use Rattle.expand65.specs.Expansion.{StepReaches, line_step, end_mark_step, unless_mislabelled, directive_step, include_file, file_step, IsStep, last_condition};
 ghost use Rattle.expand65.specs.Replay.{tokens_in};
 ghost use Rattle.expand65.specs.Lines.{bytes_of, ReadFrame};
 ghost use Rattle.expand65.specs.Macros.{file_of};
 
 use crate::blocks::{BlockEnd, BlockKind};
-use crate::conditions::{Conditions, condition};
+use crate::conditions::{Conditions, evaluate_condition};
 use crate::file::OpenFile;
-use crate::fronts::{ConditionKind, Directive, after_first, string_of};
 use crate::includes::find_file;
 use crate::input::LineSource;
 use crate::input_stack::{Input, InputStack};
 use crate::knows::Knows;
 use crate::line::StoredLine;
+use crate::line_start::{ConditionKind, Directive, after_first, string_of};
 use crate::macro_replay::Body;
 use base65::{ListVec, PathString, Seed, Store};
 use indexmap::IndexMap;
@@ -47,7 +47,7 @@ pub enum LineOutcome {
 #[derive(Drop)]
 pub struct Preprocessor {
     pub alloc: Global,
-    pub reader: InputStack,
+    pub stack: InputStack,
     pub macros: IndexMap<Vec<u8>, Rc<Body>, Seed>,
     pub conditions: Conditions,
     /// The number of macro calls.
@@ -69,15 +69,17 @@ impl Preprocessor {
             StepReaches m (if_line (K.meaning knows.now) s test (lexemes tokens.now))) }
         ensures keeps { PreservesPositions (S.files store.old) self.old self.new result }
         ensures frame { ReadFrame S.files S.failures store.old store.new result }
-        ensures stopped { StopsBy (S.files store.old) self.old self.new result (λ m s.
+        ensures stopped { HasFailureLocationIfKnown (S.files store.old) self.old self.new result (λ m s.
             StepFails m (S.last_failure store.new)
             (if_line (K.meaning knows.now) s test (lexemes tokens.now))) }
     {
-        if condition(self.alloc, knows, test, tokens)? {
+        if evaluate_condition(self.alloc, knows, test, tokens)? {
             self.conditions.push(false)?;
             return Ok(LineOutcome::Continue);
         }
-        let skipped = self.reader.block(self.alloc, store, BlockKind::Skipped)?;
+        let skipped = self
+            .stack
+            .read_block(self.alloc, store, BlockKind::Skipped)?;
         let end = skipped.end;
         match end {
             BlockEnd::End => Ok(LineOutcome::Continue),
@@ -91,31 +93,34 @@ impl Preprocessor {
 
     /// Executes the `.endif` of an open condition.
     pub fn end_if(&mut self) -> Result<LineOutcome, ExpandFault>
-        ensures turns { LeadsTo self.old self.new result (λ s. ended_if s (last_condition s)) }
+        ensures turns { HasLineOutcomeForAllFiles self.old self.new result (λ s. endif_result s (last_condition s)) }
         ensures keeps { (files : Option Files) → PreservesPositions files self.old self.new result }
         ensures inside { IfErr result (λ e. is_failure e ≡ false) }
     {
-        match self.conditions.pop_above(self.reader.top.conditions) {
+        match self.conditions.pop_above(self.stack.top.conditions) {
             None => Err(ExpandFault::NotOpened),
             Some(_) => Ok(LineOutcome::Continue),
         }
     }
 
     /// Skips from an `.elseif` or `.else` after a true condition to its `.endif`.
-    pub fn pass_else<S: Store>(&mut self, store: &mut S) -> Result<LineOutcome, ExpandFault>
+    pub fn skip_remaining_branches<S: Store>(
+        &mut self,
+        store: &mut S,
+    ) -> Result<LineOutcome, ExpandFault>
         ensures turns { HasLineOutcome (S.files store.old) self.old self.new result (λ m s.
             StepReaches m (else_line s (last_condition s))) }
         ensures keeps { PreservesPositions (S.files store.old) self.old self.new result }
         ensures frame { ReadFrame S.files S.failures store.old store.new result }
-        ensures stopped { StopsBy (S.files store.old) self.old self.new result (λ m s.
+        ensures stopped { HasFailureLocationIfKnown (S.files store.old) self.old self.new result (λ m s.
             StepFails m (S.last_failure store.new) (else_line s (last_condition s))) }
     {
-        match self.conditions.pop_above(self.reader.top.conditions) {
+        match self.conditions.pop_above(self.stack.top.conditions) {
             None => Err(ExpandFault::NotOpened),
             Some(true) => Err(ExpandFault::NotOpened),
             Some(false) => {
-                self.reader
-                    .block(self.alloc, store, BlockKind::RemainingBranches)?;
+                self.stack
+                    .read_block(self.alloc, store, BlockKind::RemainingBranches)?;
                 Ok(LineOutcome::Continue)
             }
         }
@@ -129,18 +134,18 @@ impl Preprocessor {
     ) -> Result<LineOutcome, ExpandFault>
         ensures turns { HasLineOutcome (S.files store.old) self.old self.new result (λ m s.
             StepReaches m
-            (unless_refused s (ok_or_unknown (string_of (lexemes tokens.now))) (include_file s))) }
+            (and_then_step s (ok_or_not_understood (string_of (lexemes tokens.now))) (include_file s))) }
         ensures keeps { PreservesPositions (S.files store.old) self.old self.new result }
         ensures frame { ReadFrame S.files S.failures store.old store.new result }
-        ensures stopped { StopsBy (S.files store.old) self.old self.new result (λ m s.
+        ensures stopped { HasFailureLocationIfKnown (S.files store.old) self.old self.new result (λ m s.
             StepFails m (S.last_failure store.new)
-            (unless_refused s (ok_or_unknown (string_of (lexemes tokens.now))) (include_file s))) }
+            (and_then_step s (ok_or_not_understood (string_of (lexemes tokens.now))) (include_file s))) }
     {
         let Some(name) = string_of(tokens) else {
             return Err(ExpandFault::NotUnderstood);
         };
-        let beside = self.reader.place.file.as_str();
-        let file = find_file(self.alloc, store, beside, self.folders.as_slice(), name)?;
+        let includer = self.stack.location.file.as_str();
+        let file = find_file(self.alloc, store, includer, self.folders.as_slice(), name)?;
         self.enter_file(file)
     }
 
@@ -152,17 +157,17 @@ impl Preprocessor {
         ensures keeps { (files : Option Files) → PreservesPositions files self.old self.new result }
         ensures inside { IfErr result (λ e. is_failure e ≡ false) }
     {
-        let place = SourceLocation {
+        let location = SourceLocation {
             file: PathString::copy_of(self.alloc, file.as_str())?,
             line: 0,
         };
-        let back = self.reader.place.copy(self.alloc)?;
-        self.reader.enter(Input {
+        let return_location = self.stack.location.copy(self.alloc)?;
+        self.stack.push_input(Input {
             source: LineSource::File(OpenFile::new(self.alloc, file)),
             conditions: self.conditions.len(),
-            back: Some(back),
+            return_location: Some(return_location),
         })?;
-        self.reader.place = place;
+        self.stack.location = location;
         Ok(LineOutcome::Continue)
     }
 
@@ -173,20 +178,20 @@ impl Preprocessor {
         directive: Directive,
         tokens: &[Token<'_>],
     ) -> Result<LineOutcome, ExpandFault>
-        requires { stands_alone directive ≡ true }
+        requires { has_no_operands directive ≡ true }
         ensures turns { IfSome (S.files store.old) (λ m.
             (k : EnvironmentView) → RefinesLineOutcome result (state_of m self.new)
             (StepReaches m (directive_step k (state_of m self.old) directive (lexemes tokens.now)))) }
         ensures keeps { PreservesPositions (S.files store.old) self.old self.new result }
         ensures frame { ReadFrame S.files S.failures store.old store.new result }
-        ensures stopped { (k : EnvironmentView) → StopsBy (S.files store.old) self.old self.new result
+        ensures stopped { (k : EnvironmentView) → HasFailureLocationIfKnown (S.files store.old) self.old self.new result
             (λ m s. StepFails m (S.last_failure store.new) (directive_step k s directive (lexemes tokens.now))) }
     {
         if !tokens.is_empty() {
             return Err(ExpandFault::NotUnderstood);
         }
         match directive {
-            Directive::Else => self.pass_else(store),
+            Directive::Else => self.skip_remaining_branches(store),
             Directive::EndIf => self.end_if(),
             Directive::ExitMacro => self.exit_macro(),
             Directive::EndMacro | Directive::EndRepeat => Err(ExpandFault::NotOpened),
@@ -207,7 +212,7 @@ impl Preprocessor {
             StepReaches m (directive_step (K.meaning knows.now) s directive (lexemes tokens.now))) }
         ensures keeps { PreservesPositions (S.files store.old) self.old self.new result }
         ensures frame { ReadFrame S.files S.failures store.old store.new result }
-        ensures stopped { StopsBy (S.files store.old) self.old self.new result (λ m s.
+        ensures stopped { HasFailureLocationIfKnown (S.files store.old) self.old self.new result (λ m s.
             StepFails m (S.last_failure store.new)
             (directive_step (K.meaning knows.now) s directive (lexemes tokens.now))) }
     {
@@ -216,7 +221,7 @@ impl Preprocessor {
             Directive::Local => self.add_locals(tokens),
             Directive::Repeat => self.begin_repeat(store, knows, tokens),
             Directive::If(test) => self.begin_if(store, knows, test, tokens),
-            Directive::ElseIf => self.pass_else(store),
+            Directive::ElseIf => self.skip_remaining_branches(store),
             Directive::Include => self.include(store, tokens),
             Directive::Error => {
                 let Some(text) = string_of(tokens) else {
@@ -243,25 +248,25 @@ impl Preprocessor {
     ) -> Result<LineOutcome, ExpandFault>
         ensures turns { HasLineOutcome (S.files store.old) self.old self.new result (λ m s.
             StepReaches m
-            (line_step (K.meaning knows.now) s (tokens_in line) (front_directive (tokens_in line)))) }
+            (line_step (K.meaning knows.now) s (tokens_in line) (first_directive (tokens_in line)))) }
         ensures keeps { PreservesPositions (S.files store.old) self.old self.new result }
         ensures frame { ReadFrame S.files S.failures store.old store.new result }
-        ensures stopped { StopsBy (S.files store.old) self.old self.new result (λ m s.
+        ensures stopped { HasFailureLocationIfKnown (S.files store.old) self.old self.new result (λ m s.
             StepFails m (S.last_failure store.new)
-            (line_step (K.meaning knows.now) s (tokens_in line) (front_directive (tokens_in line)))) }
+            (line_step (K.meaning knows.now) s (tokens_in line) (first_directive (tokens_in line)))) }
     {
         match line.directive() {
             Some(directive) => {
                 let tokens = line.tokens(self.alloc)?;
                 self.execute_with_operands(store, knows, directive, after_first(tokens.as_slice()))
             }
-            None => self.call_or_give(line),
+            None => self.execute_plain_line(line),
         }
     }
 
     /// Executes a line that may begin with a label.
     #[inline(always)]
-    fn begin<S: Store, K: Knows>(
+    fn execute_labelled_line<S: Store, K: Knows>(
         &mut self,
         store: &mut S,
         knows: &K,
@@ -270,11 +275,11 @@ impl Preprocessor {
         ensures turns { HasLineOutcome (S.files store.old) self.old self.new result (λ m s.
             StepReaches m
             (unless_mislabelled (K.meaning knows.now) s (tokens_in line) (is_mislabelled (tokens_in line)))) }
-        ensures stands { StandsIn (S.files store.old) self.old.reader →
-            OnOk result (StandsIn (S.files store.old) self.new.reader) }
+        ensures stands { IsStackPositionedIfKnown (S.files store.old) self.old.stack →
+            OnOk result (IsStackPositionedIfKnown (S.files store.old) self.new.stack) }
         ensures size { IfOk result (λ t. size_of self.new + weight_of t ≤ size_of self.old + 3) }
         ensures frame { ReadFrame S.files S.failures store.old store.new result }
-        ensures stopped { StopsBy (S.files store.old) self.old self.new result (λ m s.
+        ensures stopped { HasFailureLocationIfKnown (S.files store.old) self.old self.new result (λ m s.
             StepFails m (S.last_failure store.new)
             (unless_mislabelled (K.meaning knows.now) s (tokens_in line) (is_mislabelled (tokens_in line)))) }
     {
@@ -287,14 +292,14 @@ impl Preprocessor {
     /// Ends the innermost input.
     fn end_input(&mut self) -> Result<LineOutcome, ExpandFault>
         ensures turns { (m : Files) →
-            remaining_in m self.old.reader.top.source ≡ [] → RefinesLineOutcome result (state_of m self.new)
-            (λ r. r ≡ at_mark (state_of m self.old) (remaining_of m self.old.reader).items) }
-        ensures stands { (files : Option Files) → StandsIn files self.old.reader →
-            OnOk result (StandsIn files self.new.reader) }
+            remaining_in m self.old.stack.top.source ≡ [] → RefinesLineOutcome result (state_of m self.new)
+            (λ r. r ≡ end_mark_step (state_of m self.old) (remaining_of m self.old.stack).items) }
+        ensures stands { (files : Option Files) → IsStackPositionedIfKnown files self.old.stack →
+            OnOk result (IsStackPositionedIfKnown files self.new.stack) }
         ensures size { IfOk result (λ t. size_of self.new + weight_of t < size_of self.old + 1) }
         ensures inside { IfErr result (λ e. is_failure e ≡ false) }
     {
-        if self.reader.leave(self.conditions.len())? {
+        if self.stack.close_input(self.conditions.len())? {
             Ok(LineOutcome::Continue)
         } else {
             Ok(LineOutcome::EndOfInput)
@@ -303,23 +308,23 @@ impl Preprocessor {
 
     /// Executes the next line, or ends the innermost input.
     #[inline(always)]
-    pub fn take<S: Store, K: Knows>(
+    pub fn execute_next<S: Store, K: Knows>(
         &mut self,
         store: &mut S,
         knows: &K,
     ) -> Result<LineOutcome, ExpandFault>
         ensures turns { HasLineOutcome (S.files store.old) self.old self.new result (λ m s.
             IsStep m (K.meaning knows.now) s) }
-        ensures stands { StandsIn (S.files store.old) self.old.reader →
-            OnOk result (StandsIn (S.files store.old) self.new.reader) }
+        ensures stands { IsStackPositionedIfKnown (S.files store.old) self.old.stack →
+            OnOk result (IsStackPositionedIfKnown (S.files store.old) self.new.stack) }
         ensures size { IfOk result (λ t. size_of self.new + weight_of t < size_of self.old + 1) }
         ensures frame { ReadFrame S.files S.failures store.old store.new result }
-        ensures stopped { StopsBy (S.files store.old) self.old self.new result (λ m s.
-            FailsAt m (S.last_failure store.new) (K.meaning knows.now) s) }
+        ensures stopped { HasFailureLocationIfKnown (S.files store.old) self.old self.new result (λ m s.
+            StepFailsAt m (S.last_failure store.new) (K.meaning knows.now) s) }
     {
-        match self.reader.next_line(self.alloc, store)? {
+        match self.stack.next_line(self.alloc, store)? {
             None => self.end_input(),
-            Some(line) => self.begin(store, knows, line),
+            Some(line) => self.execute_labelled_line(store, knows, line),
         }
     }
 }

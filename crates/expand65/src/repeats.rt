@@ -5,15 +5,15 @@ ghost use Rattle.std.specs.List.{list_any};
 ghost use Rattle.base65.specs.Outcome.{Refines};
 ghost use Rattle.syntax65.specs.Tokens.{lexemes};
 ghost use Rattle.syntax65.specs.Faults.{is_failure, is_system_error};
-ghost use Rattle.expand65.specs.Fronts.{ok_or_unknown};
-ghost use Rattle.expand65.specs.Macros.{exit_macro, is_made, local_line, new_names, repeat_line, iterations_step, repeat_header, iterations_of, variable_of};
+ghost use Rattle.expand65.specs.LineStart.{ok_or_not_understood};
+ghost use Rattle.expand65.specs.Macros.{exit_macro, is_generated_name, local_line, new_names, repeat_line, iterations_step, repeat_header, iterations_of, variable_of};
 ghost use Rattle.base65.specs.Store.{Files};
-ghost use Rattle.expand65.specs.Representation.{PreservesPositions, HasLineOutcome, LeadsTo, StopsBy};
+ghost use Rattle.expand65.specs.Representation.{PreservesPositions, HasLineOutcome, HasLineOutcomeForAllFiles, HasFailureLocationIfKnown};
 ghost use Rattle.syntax65.specs.Expressions.{IsParsed};
 ghost use Rattle.base65.specs.Relations.{RefinesRel};
 ghost use Rattle.syntax65.specs.Trees.{Tree};
-ghost use Rattle.syntax65.specs.declared.expressions.words.ExprFault.{ExprFault};
-ghost use Rattle.expand65.specs.Failing.{StepFails};
+ghost use Rattle.syntax65.specs.declared.expressions.operators.ExprFault.{ExprFault};
+ghost use Rattle.expand65.specs.Failures.{StepFails};
 ghost use Rattle.expand65.specs.Expansion.{StepReaches};
 ghost use Rattle.expand65.specs.Lines.{ReadFrame};
 
@@ -31,18 +31,18 @@ use std::rc::Rc;
 use syntax65::{ExpandFault, Expr, Token, read_expr};
 
 /// Returns whether a name is the replacement of a local name.
-fn is_made(name: &[u8]) -> bool
-    ensures { result ≡ is_made name.now }
+fn is_generated_name(name: &[u8]) -> bool
+    ensures { result ≡ is_generated_name name.now }
 {
     name.iter().any(|b| *b == b'?')
 }
 
 /// Returns whether one of the names is the replacement of a local name.
-fn is_one_made(names: &[&[u8]]) -> bool
-    ensures { result ≡ list_any is_made (map (λ s. s.now) names.now) }
+fn has_generated_name(names: &[&[u8]]) -> bool
+    ensures { result ≡ list_any is_generated_name (map (λ s. s.now) names.now) }
 {
     for name in names {
-        if is_made(name) {
+        if is_generated_name(name) {
             return true;
         }
     }
@@ -52,13 +52,13 @@ fn is_one_made(names: &[&[u8]]) -> bool
 /// Parses names separated by commas, none of which is the replacement of a local name.
 fn new_names<'a>(alloc: Global, tokens: &[Token<'a>]) -> Result<Vec<&'a [u8]>, ExpandFault>
     ensures names { Refines is_system_error (λ v. map (λ s. s.now) v.items) result
-        (ok_or_unknown (new_names (lexemes tokens.now))) }
+        (ok_or_not_understood (new_names (lexemes tokens.now))) }
     ensures inside { IfErr result (λ e. is_failure e ≡ false) }
 {
     let Some(names) = names_of(alloc, tokens)? else {
         return Err(ExpandFault::NotUnderstood);
     };
-    if is_one_made(names.as_slice()) {
+    if has_generated_name(names.as_slice()) {
         return Err(ExpandFault::NotUnderstood);
     }
     Ok(names)
@@ -67,15 +67,15 @@ fn new_names<'a>(alloc: Global, tokens: &[Token<'a>]) -> Result<Vec<&'a [u8]>, E
 impl Preprocessor {
     /// Executes `.local`, given the rest of its line.
     pub fn add_locals(&mut self, tokens: &[Token<'_>]) -> Result<LineOutcome, ExpandFault>
-        ensures turns { LeadsTo self.old self.new result (λ s. local_line s (lexemes tokens.now)) }
+        ensures turns { HasLineOutcomeForAllFiles self.old self.new result (λ s. local_line s (lexemes tokens.now)) }
         ensures keeps { (files : Option Files) → PreservesPositions files self.old self.new result }
         ensures inside { IfErr result (λ e. is_failure e ≡ false) }
     {
-        if !self.reader.top.source.is_call() {
+        if !self.stack.top.source.is_call() {
             return Err(ExpandFault::NotUnderstood);
         }
         let names = new_names(self.alloc, tokens)?;
-        self.reader
+        self.stack
             .top
             .source
             .add_locals(self.alloc, names.as_slice())?;
@@ -84,11 +84,11 @@ impl Preprocessor {
 
     /// Leaves the innermost macro call.
     pub fn exit_macro(&mut self) -> Result<LineOutcome, ExpandFault>
-        ensures turns { LeadsTo self.old self.new result exit_macro }
+        ensures turns { HasLineOutcomeForAllFiles self.old self.new result exit_macro }
         ensures keeps { (files : Option Files) → PreservesPositions files self.old self.new result }
         ensures inside { IfErr result (λ e. is_failure e ≡ false) }
     {
-        let Some(end) = self.reader.leave_macro() else {
+        let Some(end) = self.stack.close_macro_call() else {
             return Err(ExpandFault::NotOpened);
         };
         self.conditions.truncate(end.conditions);
@@ -113,7 +113,7 @@ pub struct Header {
 /// Parses an optional variable: nothing, or a comma and a name.
 fn variable_of(alloc: Global, tokens: &[Token<'_>]) -> Result<IndexSet<Vec<u8>>, ExpandFault>
     ensures variable { Refines is_system_error (λ s. map (λ k. k.items) s.keys) result
-        (ok_or_unknown (variable_of (lexemes tokens.now))) }
+        (ok_or_not_understood (variable_of (lexemes tokens.now))) }
     ensures inside { IfErr result (λ e. is_failure e ≡ false) }
 {
     if tokens.is_empty() {
@@ -154,8 +154,8 @@ fn iterations_of(value: Option<i64>) -> Result<u32, ExpandFault>
 }
 
 /// Evaluates the expression of a count.
-fn iterations_given<K: Knows>(alloc: Global, knows: &K, count: Expr) -> Result<u32, ExpandFault>
-    ensures said { Refines is_system_error (λ n. n) result
+fn evaluate_iterations<K: Knows>(alloc: Global, knows: &K, count: Expr) -> Result<u32, ExpandFault>
+    ensures value { Refines is_system_error (λ n. n) result
         (iterations_of ((K.meaning knows.now).value count)) }
     ensures inside { IfErr result (λ e. is_failure e ≡ false) }
 {
@@ -174,11 +174,11 @@ impl Preprocessor {
             StepReaches m (repeat_line (K.meaning knows.now) s (lexemes tokens.now))) }
         ensures keeps { PreservesPositions (S.files store.old) self.old self.new result }
         ensures frame { ReadFrame S.files S.failures store.old store.new result }
-        ensures stopped { StopsBy (S.files store.old) self.old self.new result (λ m s.
+        ensures stopped { HasFailureLocationIfKnown (S.files store.old) self.old self.new result (λ m s.
             StepFails m (S.last_failure store.new) (repeat_line (K.meaning knows.now) s (lexemes tokens.now))) }
     {
         let Header { count, variable } = header_of(self.alloc, tokens)?;
-        let count = iterations_given(self.alloc, knows, count)?;
+        let count = evaluate_iterations(self.alloc, knows, count)?;
         self.repeat(store, count, variable)
     }
 
@@ -193,10 +193,10 @@ impl Preprocessor {
             StepReaches m (iterations_step s count (map (λ k. k.items) variable.keys))) }
         ensures keeps { PreservesPositions (S.files store.old) self.old self.new result }
         ensures frame { ReadFrame S.files S.failures store.old store.new result }
-        ensures stopped { StopsBy (S.files store.old) self.old self.new result (λ m s.
+        ensures stopped { HasFailureLocationIfKnown (S.files store.old) self.old self.new result (λ m s.
             StepFails m (S.last_failure store.new) (iterations_step s count (map (λ k. k.items) variable.keys))) }
     {
-        let block = self.reader.block(self.alloc, store, BlockKind::Repeat)?;
+        let block = self.stack.read_block(self.alloc, store, BlockKind::Repeat)?;
         let lines = block.lines;
         let at = lines.len();
         let body = Body {
@@ -214,10 +214,10 @@ impl Preprocessor {
             locals,
             number: 0,
         };
-        self.reader.enter(Input {
+        self.stack.push_input(Input {
             source: LineSource::Repeat(replay, 0, count),
             conditions: self.conditions.len(),
-            back: None,
+            return_location: None,
         })?;
         Ok(LineOutcome::Continue)
     }

@@ -1,34 +1,34 @@
 //! Skips lines of files, or reads them without copying.
 
 ghost use Rattle.std.specs.Prelude.{◌≡◌, ◌<◌, ◌≤◌, ◌-◌, List, IfSome, IsTrue, false, Ok, Some};
-ghost use Rattle.syntax65.specs.Tokens.{IsFront, Lexeme, lexeme_of, HoldsNothing, stored_lexemes};
+ghost use Rattle.syntax65.specs.Tokens.{AreFirstTokens, Lexeme, lexeme_of, HasNoTokens, stored_lexemes};
 ghost use Rattle.base65.specs.Store.{Files};
 ghost use Rattle.std.specs.Option.{option_map, option_map_or};
-ghost use Rattle.expand65.specs.Fronts.{is_colon};
-ghost use Rattle.expand65.specs.Representation.{KeepsInnermost, is_call, is_file, remaining_in, remaining_of, IsAt, IsInPlace};
+ghost use Rattle.expand65.specs.LineStart.{is_colon};
+ghost use Rattle.expand65.specs.Representation.{PreservesInnermost, is_call, is_file, remaining_in, remaining_of, IsSourceAt, IsStackPositioned};
 ghost use Rattle.syntax65.specs.declared.source_location.SourceLocation.{SourceLocation};
-ghost use Rattle.expand65.specs.Lines.{IsFileAt, location_at, left_in_file, without_return, TakesNextLine};
-ghost use Rattle.expand65.specs.Replay.{IsPlainLine, PassesPlain, SkipsPlainLines, IsPlain, IsAtHand, IsFirstLine, IsFirstOf, IsNextLine, TakesWritten};
+ghost use Rattle.expand65.specs.Lines.{IsFileAt, location_at, remaining_file_lines, without_return, ReadsNextLine};
+ghost use Rattle.expand65.specs.Replay.{IsPlainLine, SkipsPlainLine, SkipsPlainLines, IsPlain, IsBufferedLine, IsFirstLine, IsFirstBufferedLine, IsNextLine, ReadsFileLine};
 
 use crate::file::{OpenFile, line_len};
-use crate::fronts::{directive_in, is_colon};
 use crate::input::LineSource;
 use crate::input_stack::InputStack;
+use crate::line_start::{directive_in, is_colon};
 use std::alloc::Global;
-use syntax65::{LineFront, LineTokens, Token, line_front};
+use syntax65::{FirstTokens, LineTokens, Token, first_tokens};
 
 /// Returns whether a token exists and is a colon.
-fn is_colon_there(token: Option<Token<'_>>) -> bool
+fn is_colon_token(token: Option<Token<'_>>) -> bool
     ensures { result ≡ option_map_or is_colon (option_map lexeme_of token.entry) false }
 {
     matches!(token, Some(token) if is_colon(&token))
 }
 
 /// Returns whether a line that begins with these tokens has no label and no preprocessor directive.
-fn is_plain_front(pending: LineFront<'_>) -> bool
-    ensures { (ts : List Lexeme) → IsFront ts pending.entry → IsTrue result → IsPlain ts }
+fn is_plain_start(pending: FirstTokens<'_>) -> bool
+    ensures { (ts : List Lexeme) → AreFirstTokens ts pending.entry → IsTrue result → IsPlain ts }
 {
-    if is_colon_there(pending.first) || is_colon_there(pending.second) {
+    if is_colon_token(pending.first) || is_colon_token(pending.second) {
         return false;
     }
     match pending.first {
@@ -41,8 +41,8 @@ fn is_plain_front(pending: LineFront<'_>) -> bool
 fn is_plain_line(line: &[u8]) -> bool
     ensures { IsTrue result → IsPlainLine line.now }
 {
-    match line_front(line) {
-        Ok(pending) => is_plain_front(pending),
+    match first_tokens(line) {
+        Ok(pending) => is_plain_start(pending),
         Err(_) => false,
     }
 }
@@ -80,7 +80,7 @@ pub struct Peeked {
 /// Splits the first line into tokens, if its end is there. Returns its length.
 #[inline(always)]
 fn peek<'a>(alloc: Global, bytes: &'a [u8], tokens: &mut LineTokens<'a>) -> Option<usize>
-    requires { HoldsNothing tokens.old }
+    requires { HasNoTokens tokens.old }
     ensures front { IfSome result (λ n. IsFirstLine bytes.now n (stored_lexemes tokens.new)) }
     ensures within { tokens.new.few.count ≤ 8 }
 {
@@ -98,7 +98,7 @@ fn peek<'a>(alloc: Global, bytes: &'a [u8], tokens: &mut LineTokens<'a>) -> Opti
 impl OpenFile {
     /// Returns the next line if it is buffered whole and plain.
     fn peek_plain(&self) -> Option<Peeked>
-        ensures { IfSome result (λ p. (ts : List Lexeme) × IsFirstOf self.now p ts × IsPlain ts) }
+        ensures { IfSome result (λ p. (ts : List Lexeme) × IsFirstBufferedLine self.now p ts × IsPlain ts) }
     {
         if self.at >= self.buffer.len() {
             return None;
@@ -112,8 +112,8 @@ impl OpenFile {
     /// Returns the next line and its tokens, if it is buffered whole.
     #[inline(always)]
     fn peek<'a>(&'a self, alloc: Global, tokens: &mut LineTokens<'a>) -> Option<Peeked>
-        requires { HoldsNothing tokens.old }
-        ensures ahead { IfSome result (λ p. IsFirstOf self.now p (stored_lexemes tokens.new)) }
+        requires { HasNoTokens tokens.old }
+        ensures lookahead { IfSome result (λ p. IsFirstBufferedLine self.now p (stored_lexemes tokens.new)) }
         ensures within { tokens.new.few.count ≤ 8 }
     {
         if self.at >= self.buffer.len() {
@@ -127,10 +127,10 @@ impl OpenFile {
 
     /// Reads the line that `peek` returned.
     #[inline(always)]
-    fn take_peeked(&mut self, line: Peeked)
-        ensures taken { (m : Files) (ts : List Lexeme) → IsFirstOf self.old line ts →
-            TakesWritten (left_in_file m self.old) line.number ts (left_in_file m self.new) }
-        ensures at { (m : Files) (ts : List Lexeme) (p : SourceLocation) → IsFirstOf self.old line ts →
+    fn consume_peeked(&mut self, line: Peeked)
+        ensures taken { (m : Files) (ts : List Lexeme) → IsFirstBufferedLine self.old line ts →
+            ReadsFileLine (remaining_file_lines m self.old) line.number ts (remaining_file_lines m self.new) }
+        ensures at { (m : Files) (ts : List Lexeme) (p : SourceLocation) → IsFirstBufferedLine self.old line ts →
             IsFileAt m self.old p → IsFileAt m self.new (location_at p line.number) }
     {
         self.at = line.following;
@@ -141,7 +141,7 @@ impl OpenFile {
 impl LineSource {
     /// Returns the next line if it comes from a file, is buffered whole and is plain.
     fn peek_plain(&self) -> Option<Peeked>
-        ensures { IfSome result (λ p. (ts : List Lexeme) × IsAtHand self.now p ts × IsPlain ts) }
+        ensures { IfSome result (λ p. (ts : List Lexeme) × IsBufferedLine self.now p ts × IsPlain ts) }
     {
         match self {
             LineSource::File(file) => file.peek_plain(),
@@ -152,8 +152,8 @@ impl LineSource {
     /// Returns the next line and its tokens, if it comes from a file and is buffered whole.
     #[inline(always)]
     fn peek<'a>(&'a self, alloc: Global, tokens: &mut LineTokens<'a>) -> Option<Peeked>
-        requires { HoldsNothing tokens.old }
-        ensures ahead { IfSome result (λ p. IsAtHand self.now p (stored_lexemes tokens.new)) }
+        requires { HasNoTokens tokens.old }
+        ensures lookahead { IfSome result (λ p. IsBufferedLine self.now p (stored_lexemes tokens.new)) }
         ensures within { tokens.new.few.count ≤ 8 }
     {
         match self {
@@ -164,16 +164,16 @@ impl LineSource {
 
     /// Reads the line that `peek` returned.
     #[inline(always)]
-    fn take_peeked(&mut self, line: Peeked)
-        ensures taken { (m : Files) (ts : List Lexeme) → IsAtHand self.old line ts →
-            TakesWritten (remaining_in m self.old) line.number ts (remaining_in m self.new) }
-        ensures at { (m : Files) (ts : List Lexeme) (p : SourceLocation) → IsAtHand self.old line ts →
-            IsAt m self.old p → IsAt m self.new (location_at p line.number) }
+    fn consume_peeked(&mut self, line: Peeked)
+        ensures taken { (m : Files) (ts : List Lexeme) → IsBufferedLine self.old line ts →
+            ReadsFileLine (remaining_in m self.old) line.number ts (remaining_in m self.new) }
+        ensures at { (m : Files) (ts : List Lexeme) (p : SourceLocation) → IsBufferedLine self.old line ts →
+            IsSourceAt m self.old p → IsSourceAt m self.new (location_at p line.number) }
         ensures kind { is_file self.new ≡ is_file self.old }
         ensures call { is_call self.new ≡ is_call self.old }
     {
         if let LineSource::File(file) = self {
-            file.take_peeked(line);
+            file.consume_peeked(line);
         }
     }
 }
@@ -183,11 +183,11 @@ impl InputStack {
     /// within the line budget.
     #[inline(always)]
     pub fn peek<'a>(&'a self, alloc: Global, tokens: &mut LineTokens<'a>) -> Option<Peeked>
-        requires { HoldsNothing tokens.old }
-        ensures ahead { IfSome result (λ p. IsNextLine self.now p (stored_lexemes tokens.new)) }
+        requires { HasNoTokens tokens.old }
+        ensures lookahead { IfSome result (λ p. IsNextLine self.now p (stored_lexemes tokens.new)) }
         ensures within { tokens.new.few.count ≤ 8 }
     {
-        if self.room == 0 {
+        if self.budget == 0 {
             return None;
         }
         self.top.source.peek(alloc, tokens)
@@ -195,48 +195,48 @@ impl InputStack {
 
     /// Reads the line that `peek` returned.
     #[inline(always)]
-    pub fn take_peeked(&mut self, line: Peeked)
+    pub fn consume_peeked(&mut self, line: Peeked)
         ensures taken { (m : Files) (ts : List Lexeme) → IsNextLine self.old line ts →
-            TakesNextLine (remaining_of m self.old) (Ok (Some ts, remaining_of m self.new)) }
-        ensures place { self.new.place ≡ location_at self.old.place line.number }
-        ensures room { self.new.room ≡ self.old.room - 1 }
-        ensures stays { KeepsInnermost self.old self.new }
+            ReadsNextLine (remaining_of m self.old) (Ok (Some ts, remaining_of m self.new)) }
+        ensures current_location { self.new.location ≡ location_at self.old.location line.number }
+        ensures room { self.new.budget ≡ self.old.budget - 1 }
+        ensures innermost { PreservesInnermost self.old self.new }
         ensures stands { (m : Files) (ts : List Lexeme) → IsNextLine self.old line ts →
-            IsInPlace m self.old → IsInPlace m self.new }
+            IsStackPositioned m self.old → IsStackPositioned m self.new }
     {
-        self.top.source.take_peeked(line);
-        self.room = self.room.saturating_sub(1);
-        self.place.line = line.number;
+        self.top.source.consume_peeked(line);
+        self.budget = self.budget.saturating_sub(1);
+        self.location.line = line.number;
     }
 
     /// Skips the next line if it comes from a file, is buffered whole and is plain. Returns whether
     /// it did.
-    fn pass_line(&mut self) -> bool
-        ensures passed { (m : Files) → IsTrue result → PassesPlain (remaining_of m self.old) (remaining_of m self.new) }
-        ensures room { IsTrue result → self.new.room < self.old.room }
-        ensures stays { KeepsInnermost self.old self.new }
+    fn skip_plain_line(&mut self) -> bool
+        ensures skipped { (m : Files) → IsTrue result → SkipsPlainLine (remaining_of m self.old) (remaining_of m self.new) }
+        ensures budget { IsTrue result → self.new.budget < self.old.budget }
+        ensures innermost { PreservesInnermost self.old self.new }
         ensures none { result ≡ false → self.new ≡ self.old }
-        ensures stands { (m : Files) → IsInPlace m self.old → IsInPlace m self.new }
+        ensures stands { (m : Files) → IsStackPositioned m self.old → IsStackPositioned m self.new }
     {
-        if self.room == 0 {
+        if self.budget == 0 {
             return false;
         }
         let Some(line) = self.top.source.peek_plain() else {
             return false;
         };
-        self.take_peeked(line);
+        self.consume_peeked(line);
         true
     }
 
     /// Skips plain lines of a file, as far as they are buffered.
-    pub fn pass_plain_lines(&mut self)
-        ensures passed { (m : Files) → SkipsPlainLines (remaining_of m self.old) (remaining_of m self.new) }
-        ensures room { self.new.room ≤ self.old.room }
-        ensures stays { KeepsInnermost self.old self.new }
-        ensures stands { (m : Files) → IsInPlace m self.old → IsInPlace m self.new }
+    pub fn skip_plain_lines(&mut self)
+        ensures skipped { (m : Files) → SkipsPlainLines (remaining_of m self.old) (remaining_of m self.new) }
+        ensures room { self.new.budget ≤ self.old.budget }
+        ensures innermost { PreservesInnermost self.old self.new }
+        ensures stands { (m : Files) → IsStackPositioned m self.old → IsStackPositioned m self.new }
     {
         'lines: loop {
-            if !self.pass_line() {
+            if !self.skip_plain_line() {
                 return;
             }
         }

@@ -1,9 +1,9 @@
-pub mod Chosen
-pub mod Fed
-pub mod Leaving
+pub mod NeededMembers
+pub mod AddedRecords
+pub mod Frames
 pub mod LineInputs
-pub mod NoScript
+pub mod LibraryIsNoScript
 pub mod Objects
-pub mod OneNaming
-pub mod SomeLink
-pub mod Turns
+pub mod NamingUniqueness
+pub mod LinkExistence
+pub mod FailureOrder

@@ -1,3 +1,3 @@
 -- Definitions in terms of the code, for contracts within the crate alone.
-pub mod Feeding
+pub mod AddedModules
 pub mod Texts

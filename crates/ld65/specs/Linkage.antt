@@ -19,36 +19,36 @@ use Rattle.script65.specs.declared.fault.ScriptFault.{ScriptFault}
 use Rattle.script65.specs.declared.script.Script.{Script}
 use Rattle.link65.specs.declared.fault.LinkFault.{LinkFault}
 use Rattle.link65.specs.declared.linking.Linked.{Linked}
-use Rattle.link65.specs.Names.{given_names, open_names}
-use Rattle.link65.specs.Links.{LinkOf, names_once}
+use Rattle.link65.specs.Names.{strong_names, open_names}
+use Rattle.link65.specs.Links.{LinkOf, check_unique_names}
 use Rattle.link65.specs.Programs.{Module, program_of}
-use Rattle.link65.specs.Representation.{agreeing_object, as_link, module_without_duplicates as joined_to, module_of}
-use Rattle.cli65.specs.Line.{Linking}
+use Rattle.link65.specs.Representation.{agreeing_object, as_link, module_without_duplicates as without_duplicates, module_of}
+use Rattle.cli65.specs.Line.{LinkView}
 use Rattle.cli65.specs.Messages.{concat_texts}
 use Rattle.ld65.specs.declared.fault.LinkCommandFault.{LinkCommandFault}
-use Rattle.ld65.specs.declared.fault.LinkCommandFault.TheVariants as refusal
-use Rattle.ld65.specs.Faults.{refusal_at, refusal_in}
+use Rattle.ld65.specs.declared.fault.LinkCommandFault.TheVariants as error
+use Rattle.ld65.specs.Faults.{input_fault, member_fault}
 
 -- the faults of the parts as the command's; an input is named by its index in the line
 abbrev pub as_script : Result Script ScriptFault → Result Script LinkCommandFault
 as_script (Ok s) = Ok s
-as_script (Err e) = Err (refusal.Script e)
+as_script (Err e) = Err (error.Script e)
 
 abbrev pub as_library : {A : Type 0} → ℕ → Result A LibraryFault → Result A LinkCommandFault
 as_library k (Ok x) = Ok x
-as_library k (Err e) = Err (refusal.Library k e)
+as_library k (Err e) = Err (error.Library k e)
 
-abbrev pub as_refusal : {A : Type 0} → Result A LinkFault → Result A LinkCommandFault
-as_refusal (Ok x) = Ok x
-as_refusal (Err e) = Err (refusal.Link e)
+abbrev pub as_command_fault : {A : Type 0} → Result A LinkFault → Result A LinkCommandFault
+as_command_fault (Ok x) = Ok x
+as_command_fault (Err e) = Err (error.Link e)
 
 -- the bytes of a script's file
 abbrev pub text_of : Option (List ℕ) → Result (List ℕ) LinkCommandFault
-text_of None = Err (refusal.ScriptFile FileNotFound)
+text_of None = Err (error.ScriptFile FileNotFound)
 text_of (Some bytes) = Ok bytes
 
 -- the name of the linker's output
-abbrev pub output_of : Linking → List ℕ
+abbrev pub output_of : LinkView → List ℕ
 output_of l = unwrap_or l.output (codes "a.out")
 
 -- ---- One more object after other modules.
@@ -83,8 +83,8 @@ object_in m i = in_file (get m i.file) (object_at i.begin i.end)
 
 -- The object added to other modules. Its own errors come first, then an index entry that disagrees with it,
 -- then a name that is defined twice.
-abbrev pub added_in : Script → List Module → Files → Input → Result Object LinkFault
-added_in s before m i = as_link (object_in m i) >>= agreeing_object i.entry >>= joined_to s before i.name
+abbrev pub added_object : Script → List Module → Files → Input → Result Object LinkFault
+added_object s before m i = as_link (object_in m i) >>= agreeing_object i.entry >>= without_duplicates s before i.name
 
 -- the modules with that of the object, or what its fault is
 abbrev pub modules_after : (LinkFault → LinkCommandFault) → List Module → List ℕ → Result Object LinkFault → Result (List Module) LinkCommandFault
@@ -92,11 +92,11 @@ modules_after named before name (Ok o) = Ok (before ++ module_of name o ∷ [])
 modules_after named before name (Err e) = Err (named e)
 
 abbrev pub with_file : Script → Files → ℕ → List Module → List ℕ → Result (List Module) LinkCommandFault
-with_file s m k before name = modules_after (refusal_at k) before name (added_in s before m (file_input name))
+with_file s m k before name = modules_after (input_fault k) before name (added_object s before m (file_input name))
 
 abbrev pub with_member : Script → Files → List ℕ → List Module → Entry → Result (List Module) LinkCommandFault
 with_member s m library before e =
-    modules_after (refusal_in (member_module library e.name)) before (member_module library e.name) (added_in s before m (member_input library e))
+    modules_after (member_fault (member_module library e.name)) before (member_module library e.name) (added_object s before m (member_input library e))
 
 -- ---- The modules of the inputs.
 
@@ -105,47 +105,47 @@ with_members s m library before [] = Ok before
 with_members s m library before (e ∷ es) = with_member s m library before e >>= (λ ms. with_members s m library ms es)
 
 -- the entry at an index of a library's index, if there is one
-abbrev pub chosen_at : List Entry → ℕ → List Entry
-chosen_at es index = option_map_or (λ e. e ∷ []) (slice_get es index) []
+abbrev pub entry_if_any : List Entry → ℕ → List Entry
+entry_if_any es index = option_map_or (λ e. e ∷ []) (slice_get es index) []
 
 abbrev pub selected_entries : List Entry → List ℕ → List Entry
-selected_entries es entry_indices = flat_map (chosen_at es) entry_indices
+selected_entries es entry_indices = flat_map (entry_if_any es) entry_indices
 
 -- The members of an index that the modules before the library need, in file order: the first exporters of the
 -- names in a least set. The set has the names that these modules leave undefined; and with each name those
 -- that its first exporter imports and that they don't define.
 abbrev pub AreNeeded : Script → Files → List ℕ → List Module → List Entry → Result (List Module) LinkCommandFault → Type 0
 AreNeeded s m library before es r =
-    (entry_indices : List ℕ) × IsSelection es (open_names s (program_of before)) (given_names s (program_of before)) entry_indices
+    (entry_indices : List ℕ) × IsSelection es (open_names s (program_of before)) (strong_names s (program_of before)) entry_indices
     × (r ≡ with_members s m library before (selected_entries es entry_indices))
 
 abbrev pub index_in : Files → List ℕ → Result (List Entry) LibraryFault
 index_in m library = in_library (get m library) index_at
 
--- the needed members of a library at an index of the command line, added to other modules
+-- the needed members of a library, the input with this index among the inputs, added to other modules
 abbrev pub IsLibraryInput : Script → Files → ℕ → List Module → List ℕ → Result (List Module) LinkCommandFault → Type 0
 IsLibraryInput s m k before library r = AndThen (as_library k (index_in m library)) (AreNeeded s m library before) r
 
 -- a file that begins with these bytes is a library, any other an object
-abbrev pub library_mark : List ℕ
-library_mark = 0x52 ∷ 0x36 ∷ 0x35 ∷ 0x6c ∷ []
+abbrev pub library_magic : List ℕ
+library_magic = 0x52 ∷ 0x36 ∷ 0x35 ∷ 0x6c ∷ []
 
 abbrev pub is_library : List ℕ → Bool
-is_library bytes = bytes_eq (take 4 bytes) library_mark
+is_library bytes = bytes_eq (take 4 bytes) library_magic
 
 abbrev pub is_library_in : Files → List ℕ → Bool
 is_library_in m name = option_map_or is_library (get m name) false
 
-abbrev pub ByKind : Bool → Type 0 → Type 0 → Type 0
-ByKind true Library Object = Library
-ByKind false Library Object = Object
+abbrev pub IfLibraryElse : Bool → Type 0 → Type 0 → Type 0
+IfLibraryElse true Library Object = Library
+IfLibraryElse false Library Object = Object
 
--- the modules after an input at an index of the command line
+-- the modules after the input with this index among the inputs
 abbrev pub IsInput : Script → Files → ℕ → List Module → List ℕ → Result (List Module) LinkCommandFault → Type 0
 IsInput s m k before name r =
-    ByKind (is_library_in m name) (IsLibraryInput s m k before name r) (r ≡ with_file s m k before name)
+    IfLibraryElse (is_library_in m name) (IsLibraryInput s m k before name r) (r ≡ with_file s m k before name)
 
--- The modules after inputs, of which the first has this index in the command line; or the first error of the
+-- The modules after inputs, of which the first has this index among all of the inputs; or the first error of the
 -- first input that has one.
 abbrev pub AreInputs : Script → Files → ℕ → List Module → List (List ℕ) → Result (List Module) LinkCommandFault → Type 0
 AreInputs s m k before [] r = r ≡ Ok before
@@ -155,18 +155,18 @@ AreInputs s m k before (name ∷ names) r =
 -- ---- The link.
 
 -- the result of linking modules
-abbrev pub LinksTo : Linking → Script → List Module → Result Linked LinkCommandFault → Type 0
-LinksTo l s ms r = (q : Result Linked LinkFault) × LinkOf (output_of l) s ms q × (r ≡ as_refusal q)
+abbrev pub IsLinkResult : LinkView → Script → List Module → Result Linked LinkCommandFault → Type 0
+IsLinkResult l s ms r = (q : Result Linked LinkFault) × LinkOf (output_of l) s ms q × (r ≡ as_command_fault q)
 
 -- the modules of a command line's inputs, and the result of linking them
-abbrev pub IsInputLink : Files → Linking → Script → Result Linked LinkCommandFault → Type 0
-IsInputLink m l s r = (q : Result (List Module) LinkCommandFault) × AreInputs s m 0 [] l.inputs q × AndThen q (LinksTo l s) r
+abbrev pub IsInputLink : Files → LinkView → Script → Result Linked LinkCommandFault → Type 0
+IsInputLink m l s r = (q : Result (List Module) LinkCommandFault) × AreInputs s m 0 [] l.inputs q × AndThen q (IsLinkResult l s) r
 
 -- the script's own names, then the inputs in order, then the link
-abbrev pub IsLinkedBy : Files → Linking → Script → Result Linked LinkCommandFault → Type 0
-IsLinkedBy m l s r = AndThen (as_refusal (names_once s (program_of []))) (λ u. IsInputLink m l s) r
+abbrev pub IsScriptedLink : Files → LinkView → Script → Result Linked LinkCommandFault → Type 0
+IsScriptedLink m l s r = AndThen (as_command_fault (check_unique_names s (program_of []))) (λ u. IsInputLink m l s) r
 
 -- The result of a command line, or its first error: of the script, then of the inputs, then of the link.
-abbrev pub IsLinked : Files → Linking → Result Linked LinkCommandFault → Type 0
-IsLinked m l r =
-    AndThen (text_of (get m l.script)) (λ text u. (q : Result Script ScriptFault) × IsScript text q × AndThen (as_script q) (IsLinkedBy m l) u) r
+abbrev pub IsCommandLink : Files → LinkView → Result Linked LinkCommandFault → Type 0
+IsCommandLink m l r =
+    AndThen (text_of (get m l.script)) (λ text u. (q : Result Script ScriptFault) × IsScript text q × AndThen (as_script q) (IsScriptedLink m l) u) r

@@ -8,13 +8,13 @@ use Rattle.base65.specs.declared.store.StoreFault.TheVariants as store
 use Rattle.object65.specs.declared.fault.ObjectFault.TheVariants as object
 use Rattle.library65.specs.declared.fault.LibraryFault.TheVariants as library
 use Rattle.library65.specs.declared.index.Entry.{Entry}
-use Rattle.library65.specs.Asking.{AsksAt, IsIndexPlace}
+use Rattle.library65.specs.FailedRequests.{RequestsOffset, IsIndexOffset}
 use Rattle.library65.specs.Selection.{IsSelection}
 use Rattle.script65.specs.Scripts.{IsScript}
 use Rattle.script65.specs.declared.script.Script.{Script}
-use Rattle.link65.specs.Names.{given_names, open_names}
+use Rattle.link65.specs.Names.{strong_names, open_names}
 use Rattle.link65.specs.Programs.{Module, program_of}
-use Rattle.cli65.specs.Line.{Linking}
+use Rattle.cli65.specs.Line.{LinkView}
 use Rattle.ld65.specs.declared.fault.LinkCommandFault.{LinkCommandFault}
 use Rattle.ld65.specs.declared.fault.LinkCommandFault.TheVariants.{ScriptFile, Object, Library, Member}
 use Rattle.ld65.specs.Linkage.{AreInputs, selected_entries, index_in, is_library_in, member_module, with_members}
@@ -22,76 +22,76 @@ use Rattle.ld65.specs.Faults.{is_failure}
 
 -- ---- One input, after the modules of those before it.
 
--- the front of the input at this index of the command line, by which it is a library or an object
-abbrev pub IsOfFront : LastFailure → ℕ → List ℕ → LinkCommandFault → Type 0
-IsOfFront last_failure index name e = (e ≡ Object index object.FileError) × FailedWithin last_failure name 0 4
+-- the front of the input with this index among the inputs, by which it is a library or an object
+abbrev pub IsHeaderFailure : LastFailure → ℕ → List ℕ → LinkCommandFault → Type 0
+IsHeaderFailure last_failure input_index name e = (e ≡ Object input_index object.FileError) × FailedWithin last_failure name 0 4
 
 -- an object
-abbrev pub IsOfObject : LastFailure → ℕ → List ℕ → LinkCommandFault → Type 0
-IsOfObject last_failure index name e = (e ≡ Object index object.FileError) × FailedOn last_failure name
+abbrev pub IsObjectFailure : LastFailure → ℕ → List ℕ → LinkCommandFault → Type 0
+IsObjectFailure last_failure input_index name e = (e ≡ Object input_index object.FileError) × FailedOn last_failure name
 
 -- The index of a library: where its bytes have one, the failed call asked for a place in front of the members, or for the
 -- last byte or the end of the file, where the index is compared with that.
-abbrev pub IsOfIndex : Option Files → LastFailure → ℕ → List ℕ → LinkCommandFault → Type 0
-IsOfIndex known last_failure index name e =
-    (e ≡ Library index library.FileError) × FailedOn last_failure name × AsksAt known last_failure name IsIndexPlace
+abbrev pub IsIndexFailure : Option Files → LastFailure → ℕ → List ℕ → LinkCommandFault → Type 0
+IsIndexFailure known last_failure input_index name e =
+    (e ≡ Library input_index library.FileError) × FailedOn last_failure name × RequestsOffset known last_failure name IsIndexOffset
 
 -- this member, whose bytes the failed call asked for
-abbrev pub IsOfMember : LastFailure → List ℕ → Entry → LinkCommandFault → Type 0
-IsOfMember last_failure name entry e =
+abbrev pub IsMemberFailure : LastFailure → List ℕ → Entry → LinkCommandFault → Type 0
+IsMemberFailure last_failure name entry e =
     (e ≡ Member (member_module name entry.name) object.FileError) × FailedWithin last_failure name entry.place (entry.place + entry.size)
 
--- One of the members that are needed of a library, at its turn among them: those before it are linked.
-pub record IsOfNeeded (known : Option Files) (s : Script) (before : List Module) (last_failure : LastFailure) (name : List ℕ) (e : LinkCommandFault) : Type 0 where
+-- One of the members that are needed of a library, at its rank among them: those before it are linked.
+pub record IsNeededMemberFailure (known : Option Files) (s : Script) (before : List Module) (last_failure : LastFailure) (name : List ℕ) (e : LinkCommandFault) : Type 0 where
   -- the library's index, and which members of it are needed
   pub entries : List Entry
   pub index : IfSome known (λ m. index_in m name ≡ Ok entries)
   pub entry_indices : List ℕ
-  pub needed : IsSelection entries (open_names s (program_of before)) (given_names s (program_of before)) entry_indices
-  -- the modules of those before its turn
-  pub turn : ℕ
+  pub needed : IsSelection entries (open_names s (program_of before)) (strong_names s (program_of before)) entry_indices
+  -- the modules of those before it
+  pub rank : ℕ
   pub modules : List Module
-  pub linked : IfSome known (λ m. with_members s m name before (selected_entries entries (take turn entry_indices)) ≡ Ok modules)
+  pub linked : IfSome known (λ m. with_members s m name before (selected_entries entries (take rank entry_indices)) ≡ Ok modules)
   -- the member
   pub entry_index : ℕ
-  pub its_turn : slice_get entry_indices turn ≡ Some entry_index
+  pub selected : slice_get entry_indices rank ≡ Some entry_index
   pub entry : Entry
-  pub there : slice_get entries entry_index ≡ Some entry
-  pub named : IsOfMember last_failure name entry e
+  pub at_index : slice_get entries entry_index ≡ Some entry
+  pub named : IsMemberFailure last_failure name entry e
 
 -- a library's index, or one of its members
-abbrev pub IsOfLibrary : Option Files → Script → List Module → LastFailure → ℕ → List ℕ → LinkCommandFault → Type 0
-IsOfLibrary known s before last_failure index name e = IsOfIndex known last_failure index name e ⊎ IsOfNeeded known s before last_failure name e
+abbrev pub IsLibraryFailure : Option Files → Script → List Module → LastFailure → ℕ → List ℕ → LinkCommandFault → Type 0
+IsLibraryFailure known s before last_failure input_index name e = IsIndexFailure known last_failure input_index name e ⊎ IsNeededMemberFailure known s before last_failure name e
 
 -- an input: its front; or it is an object; or it is a library, whose index or member that is
-abbrev pub IsOfInput : Option Files → Script → List Module → LastFailure → ℕ → List ℕ → LinkCommandFault → Type 0
-IsOfInput known s before last_failure index name e =
-    IsOfFront last_failure index name e
-    ⊎ (IfSome known (λ m. is_library_in m name ≡ false) × IsOfObject last_failure index name e)
-    ⊎ (IfSome known (λ m. is_library_in m name ≡ true) × IsOfLibrary known s before last_failure index name e)
+abbrev pub IsInputFailure : Option Files → Script → List Module → LastFailure → ℕ → List ℕ → LinkCommandFault → Type 0
+IsInputFailure known s before last_failure input_index name e =
+    IsHeaderFailure last_failure input_index name e
+    ⊎ (IfSome known (λ m. is_library_in m name ≡ false) × IsObjectFailure last_failure input_index name e)
+    ⊎ (IfSome known (λ m. is_library_in m name ≡ true) × IsLibraryFailure known s before last_failure input_index name e)
 
 -- ---- The line.
 
 -- one of these inputs, at its turn: those before it give modules
-abbrev pub IsOfInputs : Option Files → Script → List Module → LastFailure → List (List ℕ) → LinkCommandFault → Type 0
-IsOfInputs known s first last_failure inputs e =
-    (index : ℕ) × (name : List ℕ) × (slice_get inputs index ≡ Some name)
-    × (before : List Module) × IfSome known (λ m. AreInputs s m 0 first (take index inputs) (Ok before))
-    × IsOfInput known s before last_failure index name e
+abbrev pub IsInputListFailure : Option Files → Script → List Module → LastFailure → List (List ℕ) → LinkCommandFault → Type 0
+IsInputListFailure known s first last_failure inputs e =
+    (input_index : ℕ) × (name : List ℕ) × (slice_get inputs input_index ≡ Some name)
+    × (before : List Module) × IfSome known (λ m. AreInputs s m 0 first (take input_index inputs) (Ok before))
+    × IsInputFailure known s before last_failure input_index name e
 
 -- the script, for which the failed call asked
-abbrev pub IsOfScript : LastFailure → List ℕ → LinkCommandFault → Type 0
-IsOfScript last_failure script e = (e ≡ ScriptFile store.FileError) × FailedOn last_failure script
+abbrev pub IsScriptFailure : LastFailure → List ℕ → LinkCommandFault → Type 0
+IsScriptFailure last_failure script e = (e ≡ ScriptFile store.FileError) × FailedOn last_failure script
 
 -- the script in these files
 abbrev pub IsScriptIn : Files → List ℕ → Script → Type 0
 IsScriptIn m name s = (text : List ℕ) × (get m name ≡ Some text) × IsScript text (Ok s)
 
 -- the script; or an input by the script that was read
-abbrev pub IsOfLine : Option Files → LastFailure → Linking → LinkCommandFault → Type 0
-IsOfLine known last_failure l e =
-    IsOfScript last_failure l.script e
-    ⊎ ((s : Script) × IfSome known (λ m. IsScriptIn m l.script s) × IsOfInputs known s [] last_failure l.inputs e)
+abbrev pub IsCommandFailure : Option Files → LastFailure → LinkView → LinkCommandFault → Type 0
+IsCommandFailure known last_failure l e =
+    IsScriptFailure last_failure l.script e
+    ⊎ ((s : Script) × IfSome known (λ m. IsScriptIn m l.script s) × IsInputListFailure known s [] last_failure l.inputs e)
 
 -- where the store failed, the refusal is one that names so
 abbrev pub NamesFailure : (LinkCommandFault → Type 0) → LinkCommandFault → Type 0

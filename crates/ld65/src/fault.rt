@@ -2,10 +2,10 @@
 
 ghost use Rattle.std.specs.Prelude.{◌≡◌, IfOk, map};
 ghost use Rattle.link65.specs.declared.fault.LinkFault.{LinkFault};
-ghost use Rattle.cli65.specs.Line.{linking};
+ghost use Rattle.cli65.specs.Line.{link_view};
 ghost use Rattle.cli65.specs.Messages.{file_message};
 ghost use Rattle.ld65.specs.declared.fault.LinkCommandFault.TheVariants.{OutOfMemory, ScriptFile, Script, Link};
-ghost use Rattle.ld65.specs.Faults.{cause_message, is_memory, link_message, input_name_at, refusal_at, refusal_in, error_message};
+ghost use Rattle.ld65.specs.Faults.{cause_message, is_memory, link_message, input_name_at, input_fault, member_fault, error_message};
 
 use base65::{ListVec, StoreFault, join};
 use cli65::{LinkArgs, file_message, line_message};
@@ -15,7 +15,7 @@ use object65::ObjectFault;
 use script65::{Fault, ScriptFault};
 use std::alloc::{AllocError, Global};
 
-/// An error of the command ld65.
+/// An error of the command ld65. Inputs are counted as in `LinkArgs::inputs`; the first has the index 0.
 #[derive(Drop)]
 pub enum LinkCommandFault {
     OutOfMemory,
@@ -23,9 +23,9 @@ pub enum LinkCommandFault {
     ScriptFile(StoreFault),
     /// The script has an error.
     Script(ScriptFault),
-    /// The input at this index of the command line can't be read or isn't an object.
+    /// The input with this index among the inputs can't be read or isn't an object.
     Object(usize, ObjectFault),
-    /// The input at this index of the command line can't be read or isn't a valid library.
+    /// The input with this index among the inputs can't be read or isn't a valid library.
     Library(usize, LibraryFault),
     /// The library's member of this module's name can't be read or isn't an object.
     Member(ListVec<u8>, ObjectFault),
@@ -84,9 +84,9 @@ impl LinkCommandFault {
         }
     }
 
-    /// Returns the error of the object at an index of the command line. An error in the object itself is reported for this index.
+    /// Returns the error of the object with this index among the inputs. An error in the object itself is reported for the index.
     pub fn of_input(index: usize, fault: LinkFault) -> LinkCommandFault
-        ensures { result ≡ refusal_at index fault }
+        ensures { result ≡ input_fault index fault }
     {
         match fault {
             LinkFault::Malformed(fault) => LinkCommandFault::Object(index, fault),
@@ -96,7 +96,7 @@ impl LinkCommandFault {
 
     /// Returns the error of a library's member. An error in the member itself is reported for its module.
     pub fn of_member(name: ListVec<u8>, fault: LinkFault) -> LinkCommandFault
-        ensures { result ≡ refusal_in name fault }
+        ensures { result ≡ member_fault name fault }
     {
         match fault {
             LinkFault::Malformed(fault) => LinkCommandFault::Member(name, fault),
@@ -108,38 +108,33 @@ impl LinkCommandFault {
 
 /// Returns the message of a link error. An error of a value is reported with its module, file and line, any other as the linker's.
 fn link_message(alloc: Global, fault: &LinkFault) -> Result<ListVec<u8>, AllocError>
-    ensures { IfOk result (λ text. text ≡ link_message fault.now) }
+    ensures { IfOk result (λ message. message ≡ link_message fault.now) }
 {
-    let message = fault_text(alloc, fault)?;
+    let text = fault_text(alloc, fault)?;
     match fault {
         LinkFault::Circular(site)
         | LinkFault::OutOfRange(site)
         | LinkFault::NoValue(site)
         | LinkFault::Assertion(site, _) => {
             let name = location_name(alloc, site)?;
-            line_message(
-                alloc,
-                name.as_slice(),
-                site.line as usize,
-                message.as_slice(),
-            )
+            line_message(alloc, name.as_slice(), site.line as usize, text.as_slice())
         }
-        _ => file_message(alloc, b"ld65", message.as_slice()),
+        _ => file_message(alloc, b"ld65", text.as_slice()),
     }
 }
 
-/// Returns the message of an error in the input at an index of the command line.
+/// Returns the message of an error in the input with this index among the inputs.
 fn input_message(
     alloc: Global,
     line: &LinkArgs<'_>,
     index: usize,
-    message: &str,
+    text: &str,
 ) -> Result<ListVec<u8>, AllocError>
-    ensures { IfOk result (λ text. text ≡ file_message (input_name_at (linking line.now).inputs index) message.now) }
+    ensures { IfOk result (λ message. message ≡ file_message (input_name_at (link_view line.now).inputs index) text.now) }
 {
     match line.inputs.as_slice().get(index) {
-        Some(name) => file_message(alloc, name.as_bytes(), message.as_bytes()),
-        None => file_message(alloc, b"", message.as_bytes()),
+        Some(name) => file_message(alloc, name.as_bytes(), text.as_bytes()),
+        None => file_message(alloc, b"", text.as_bytes()),
     }
 }
 
@@ -147,12 +142,12 @@ fn input_message(
 fn cause_message(
     alloc: Global,
     line: &LinkArgs<'_>,
-    refusal: &LinkCommandFault,
+    error: &LinkCommandFault,
 ) -> Result<ListVec<u8>, AllocError>
-    ensures { IfOk result (λ text. text ≡ cause_message (linking line.now) refusal.now) }
+    ensures { IfOk result (λ message. message ≡ cause_message (link_view line.now) error.now) }
 {
     let script = line.script.as_bytes();
-    match refusal {
+    match error {
         LinkCommandFault::OutOfMemory => join(alloc, &[b"ld65: Error: out of memory\n"]),
         LinkCommandFault::ScriptFile(fault) => {
             file_message(alloc, script, fault.to_string(alloc)?.as_bytes())
@@ -175,8 +170,8 @@ fn cause_message(
             file_message(alloc, name.as_slice(), fault.to_string(alloc)?.as_bytes())
         }
         LinkCommandFault::Disagrees(name) => {
-            let message = fault_text(alloc, &LinkFault::IndexDisagrees)?;
-            file_message(alloc, name.as_slice(), message.as_slice())
+            let text = fault_text(alloc, &LinkFault::IndexDisagrees)?;
+            file_message(alloc, name.as_slice(), text.as_slice())
         }
         LinkCommandFault::Link(fault) => link_message(alloc, fault),
     }
@@ -186,12 +181,12 @@ fn cause_message(
 pub fn error_message(
     alloc: Global,
     line: &LinkArgs<'_>,
-    refusal: &LinkCommandFault,
+    error: &LinkCommandFault,
 ) -> Result<ListVec<u8>, AllocError>
-    ensures { IfOk result (λ text. text ≡ error_message (linking line.now) refusal.now) }
+    ensures { IfOk result (λ message. message ≡ error_message (link_view line.now) error.now) }
 {
-    if refusal.is_memory() {
+    if error.is_memory() {
         return join(alloc, &[b"ld65: Error: out of memory\n"]);
     }
-    cause_message(alloc, line, refusal)
+    cause_message(alloc, line, error)
 }

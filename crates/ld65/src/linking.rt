@@ -7,21 +7,21 @@ ghost use Rattle.object65.specs.Scanning.{start};
 ghost use Rattle.library65.specs.declared.index.Entry as index;
 ghost use Rattle.link65.specs.declared.fault.LinkFault.TheVariants.{Malformed};
 ghost use Rattle.link65.specs.Programs.{Module};
-ghost use Rattle.link65.specs.Representation.{IsFed, IsFeeding, ConfigFrame, is_open};
-ghost use Rattle.ld65.specs.Internal.Feeding.{FeedsObject, FeedsRecords, input_of, FeedsFile, FeedsInput, FeedsInputs, NamedStoreFrame, FeedFrame};
+ghost use Rattle.link65.specs.Representation.{RepresentsModules, RepresentsWithOpenModule, ConfigFrame, is_open};
+ghost use Rattle.ld65.specs.Internal.AddedModules.{AddsObject, AddsRecords, input_of, AddsFile, AddsInput, AddsInputs, NamedStoreFrame, AddModulesFrame};
 ghost use Rattle.std.specs.FinMap.{get};
 ghost use Rattle.base65.specs.Outcome.{Refines, RefinesProp};
 ghost use Rattle.object65.specs.Record.{is_system_error as is_object_system_error};
 ghost use Rattle.object65.specs.Reading.{StoreFrame, in_file};
-ghost use Rattle.ld65.specs.Linkage.{is_library, IsLinkedBy, IsLinked};
+ghost use Rattle.ld65.specs.Linkage.{is_library, IsScriptedLink, IsCommandLink};
 ghost use Rattle.ld65.specs.Faults.{is_failure, is_system_error};
-ghost use Rattle.ld65.specs.Naming.{IsOfInput, IsOfInputs, IsOfLine, IsOfObject, IsOfScript, NamesFailure};
-ghost use Rattle.cli65.specs.Line.{linking};
+ghost use Rattle.ld65.specs.Naming.{IsInputFailure, IsInputListFailure, IsCommandFailure, IsObjectFailure, IsScriptFailure, NamesFailure};
+ghost use Rattle.cli65.specs.Line.{link_view};
 ghost use Rattle.ld65.specs.Internal.Texts.{script_text};
 
 use crate::fault::LinkCommandFault;
-use crate::members::{Named, feed_library};
-use base65::{ListVec, Store, read_front, read_full};
+use crate::members::{NamedInput, add_library};
+use base65::{ListVec, Store, read_full, read_prefix};
 use cli65::LinkArgs;
 use library65::Entry;
 use link65::{LinkFault, Linked, Linker};
@@ -44,7 +44,7 @@ pub struct ObjectInput<'a> {
 
 /// Feeds the records of the open module, after its head up to its END. Returns the offset after the
 /// END. The head has the version and the offset of the first record.
-fn feed_records<S: Store>(
+fn add_records<S: Store>(
     store: &mut S,
     linker: &mut Linker,
     reader: &mut RecordReader,
@@ -53,16 +53,16 @@ fn feed_records<S: Store>(
 ) -> Result<u64, LinkFault>
     requires opened { is_open linker.old ≡ true }
     requires fresh { reader.old.ahead ≡ [] }
-    ensures fed { FeedsRecords (S.files store.old) (input_of object.now) head linker.old linker.new result }
+    ensures fed { AddsRecords (S.files store.old) (input_of object.now) head linker.old linker.new result }
     ensures opened { is_open linker.new ≡ true }
     ensures keeps { ConfigFrame linker.old linker.new }
     ensures files { S.files store.new ≡ S.files store.old }
     ensures frame { (modules : List Module) (called : List ℕ) (entry : Option index.Entry) →
-        IsFeeding linker.old modules called entry (start head.0) →
+        RepresentsWithOpenModule linker.old modules called entry (start head.0) →
         StoreFrame S.files S.failures S.last_failure (Malformed FileError) object.now.file.now
         store.old store.new result }
     ensures within { (modules : List Module) (called : List ℕ) (entry : Option index.Entry) →
-        IsFeeding linker.old modules called entry (start head.0) →
+        RepresentsWithOpenModule linker.old modules called entry (start head.0) →
         IsErrOf result (Malformed FileError) → head.1 ≤ object.now.end →
         FailedWithin (S.last_failure store.new) object.now.file.now head.1 object.now.end }
     ensures bound { IfOk result (λ end. (head.1 ≤ end) × (end ≤ object.now.end)) }
@@ -80,34 +80,34 @@ fn feed_records<S: Store>(
 }
 
 /// Feeds an object as a module. No module may be open.
-pub fn feed_object<S: Store>(
+pub fn add_object<S: Store>(
     store: &mut S,
     linker: &mut Linker,
     reader: &mut RecordReader,
     object: &ObjectInput<'_>,
 ) -> Result<(), LinkFault>
     requires { is_open linker.old ≡ false }
-    ensures fed { FeedsObject (S.files store.old) (input_of object.now) linker.old linker.new result }
+    ensures fed { AddsObject (S.files store.old) (input_of object.now) linker.old linker.new result }
     ensures opened { OnOk result (is_open linker.new ≡ false) }
     ensures keeps { ConfigFrame linker.old linker.new }
     ensures files { S.files store.new ≡ S.files store.old }
-    ensures frame { (modules : List Module) → IsFed linker.old modules →
+    ensures frame { (modules : List Module) → RepresentsModules linker.old modules →
         StoreFrame S.files S.failures S.last_failure (Malformed FileError) object.now.file.now
         store.old store.new result }
-    ensures within { (modules : List Module) → IsFed linker.old modules →
+    ensures within { (modules : List Module) → RepresentsModules linker.old modules →
         IsErrOf result (Malformed FileError) → object.now.begin ≤ object.now.end →
         FailedWithin (S.last_failure store.new) object.now.file.now object.now.begin object.now.end }
 {
     let head = read_head(store, object.file, object.begin, object.end)?;
     linker.begin_module(object.name, head.0, object.entry)?;
     reader.forget();
-    let end = feed_records(store, linker, reader, object, head)?;
+    let end = add_records(store, linker, reader, object, head)?;
     check_end(store, object.file, end, object.end)?;
     linker.end_module()
 }
 
 /// The bytes with which a library begins.
-const LIBRARY: [u8; 4] = [0x52, 0x36, 0x35, 0x6c];
+const MAGIC: [u8; 4] = [0x52, 0x36, 0x35, 0x6c];
 
 /// Returns whether a file begins as a library.
 fn is_library<S: Store>(store: &mut S, name: &str) -> Result<bool, ObjectFault>
@@ -115,22 +115,22 @@ fn is_library<S: Store>(store: &mut S, name: &str) -> Result<bool, ObjectFault>
     ensures frame { StoreFrame S.files S.failures S.last_failure FileError name.now store.old store.new result }
     ensures within { IsErrOf result FileError → FailedWithin (S.last_failure store.new) name.now 0 4 }
 {
-    let mut front = [0u8; 4];
-    let n = read_full(store, name, 0, &mut front)?;
-    Ok(front[..n] == LIBRARY[..])
+    let mut first_bytes = [0u8; 4];
+    let n = read_full(store, name, 0, &mut first_bytes)?;
+    Ok(first_bytes[..n] == MAGIC[..])
 }
 
 /// Feeds a file that is an object, as a module of the file's name.
-fn feed_file<S: Store>(
+fn add_file<S: Store>(
     store: &mut S,
     linker: &mut Linker,
     reader: &mut RecordReader,
-    input: &Named<'_>,
+    input: &NamedInput<'_>,
 ) -> Result<(), LinkCommandFault>
     requires { is_open linker.old ≡ false }
-    ensures fed { FeedsFile (S.files store.old) input.now.index input.now.name.now linker.old linker.new result }
-    ensures frame { FeedFrame S.files S.failures S.last_failure
-        (λ _ b. NamesFailure (IsOfObject b input.now.index input.now.name.now))
+    ensures fed { AddsFile (S.files store.old) input.now.input_index input.now.name.now linker.old linker.new result }
+    ensures frame { AddModulesFrame S.files S.failures S.last_failure
+        (λ _ b. NamesFailure (IsObjectFailure b input.now.input_index input.now.name.now))
         store.old store.new linker.old linker.new result }
 {
     let object = ObjectInput {
@@ -140,51 +140,57 @@ fn feed_file<S: Store>(
         name: input.name.as_bytes(),
         entry: None,
     };
-    match feed_object(store, linker, reader, &object) {
+    match add_object(store, linker, reader, &object) {
         Ok(()) => Ok(()),
-        Err(fault) => Err(LinkCommandFault::of_input(input.index, fault)),
+        Err(fault) => Err(LinkCommandFault::of_input(input.input_index, fault)),
     }
 }
 
 /// Feeds an input: an object, or the members of a library that are needed.
-fn feed_input<S: Store>(
+fn add_input<S: Store>(
     alloc: Global,
     store: &mut S,
     linker: &mut Linker,
     reader: &mut RecordReader,
-    input: &Named<'_>,
+    input: &NamedInput<'_>,
 ) -> Result<(), LinkCommandFault>
     requires { is_open linker.old ≡ false }
-    ensures fed { FeedsInput (S.files store.old) input.now.index input.now.name.now linker.old linker.new result }
-    ensures frame { FeedFrame S.files S.failures S.last_failure
-        (λ before b. NamesFailure (IsOfInput (S.files store.old) linker.old.script before b
-        input.now.index input.now.name.now))
+    ensures fed { AddsInput (S.files store.old) input.now.input_index input.now.name.now linker.old linker.new result }
+    ensures frame { AddModulesFrame S.files S.failures S.last_failure
+        (λ before b. NamesFailure (IsInputFailure (S.files store.old) linker.old.script before b
+        input.now.input_index input.now.name.now))
         store.old store.new linker.old linker.new result }
 {
     match is_library(store, input.name) {
-        Ok(true) => feed_library(alloc, store, linker, input),
-        Ok(false) => feed_file(store, linker, reader, input),
-        Err(fault) => Err(LinkCommandFault::Object(input.index, fault)),
+        Ok(true) => add_library(alloc, store, linker, input),
+        Ok(false) => add_file(store, linker, reader, input),
+        Err(fault) => Err(LinkCommandFault::Object(input.input_index, fault)),
     }
 }
 
 /// Feeds inputs, in order. The first fault is that of the first input that has one.
-fn feed_inputs<S: Store>(
+fn add_inputs<S: Store>(
     alloc: Global,
     store: &mut S,
     linker: &mut Linker,
     inputs: &[&str],
 ) -> Result<(), LinkCommandFault>
     requires { is_open linker.old ≡ false }
-    ensures fed { FeedsInputs (S.files store.old) (map (λ s. s.now) inputs.now) linker.old linker.new result }
-    ensures frame { FeedFrame S.files S.failures S.last_failure
-        (λ first b. NamesFailure (IsOfInputs (S.files store.old) linker.old.script first b
+    ensures fed { AddsInputs (S.files store.old) (map (λ s. s.now) inputs.now) linker.old linker.new result }
+    ensures frame { AddModulesFrame S.files S.failures S.last_failure
+        (λ first b. NamesFailure (IsInputListFailure (S.files store.old) linker.old.script first b
         (map (λ s. s.now) inputs.now)))
         store.old store.new linker.old linker.new result }
 {
     let mut reader = RecordReader::new();
-    for (index, name) in inputs.iter().enumerate() {
-        feed_input(alloc, store, linker, &mut reader, &Named { index, name })?;
+    for (input_index, name) in inputs.iter().enumerate() {
+        add_input(
+            alloc,
+            store,
+            linker,
+            &mut reader,
+            &NamedInput { input_index, name },
+        )?;
     }
     Ok(())
 }
@@ -199,14 +205,14 @@ fn link_inputs<S: Store>(
     line: &LinkArgs<'_>,
     script: Script,
 ) -> Result<Linked, LinkCommandFault>
-    ensures linked { IfSome (S.files store.old) (λ m. RefinesProp is_system_error (IsLinkedBy m (linking line.now) script) result) }
+    ensures linked { IfSome (S.files store.old) (λ m. RefinesProp is_system_error (IsScriptedLink m (link_view line.now) script) result) }
     ensures frame { NamedStoreFrame S.files S.failures S.last_failure
-        (λ b. NamesFailure (IsOfInputs (S.files store.old) script [] b (linking line.now).inputs))
+        (λ b. NamesFailure (IsInputListFailure (S.files store.old) script [] b (link_view line.now).inputs))
         store.old store.new result }
 {
     let output = line.output.unwrap_or("a.out");
     let mut linker = Linker::seeded(alloc, store.seed(), script, output)?;
-    feed_inputs(alloc, store, &mut linker, line.inputs.as_slice())?;
+    add_inputs(alloc, store, &mut linker, line.inputs.as_slice())?;
     Ok(linker.finish()?)
 }
 
@@ -218,10 +224,10 @@ fn read_text<S: Store>(
 ) -> Result<ListVec<u8>, LinkCommandFault>
     ensures read { IfSome (S.files store.old) (λ m. RefinesProp is_system_error (λ r. r ≡ script_text m name.now) result) }
     ensures frame { NamedStoreFrame S.files S.failures S.last_failure
-        (λ b. NamesFailure (IsOfScript b name.now)) store.old store.new result }
+        (λ b. NamesFailure (IsScriptFailure b name.now)) store.old store.new result }
     ensures at_last_count { FailsAtLastCount is_system_error (S.failures store.old) result }
 {
-    Ok(ListVec::from_vec(read_front(alloc, store, name, SCRIPT_LIMIT + 1)?))
+    Ok(ListVec::from_vec(read_prefix(alloc, store, name, SCRIPT_LIMIT + 1)?))
 }
 
 /// Links the script and the inputs of a command line. Returns the files of areas, the warnings and
@@ -233,11 +239,11 @@ pub fn link_files<S: Store>(
     store: &mut S,
     line: &LinkArgs<'_>,
 ) -> Result<Linked, LinkCommandFault>
-    ensures linked { IfSome (S.files store.old) (λ m. RefinesProp is_system_error (IsLinked m (linking line.now)) result) }
+    ensures linked { IfSome (S.files store.old) (λ m. RefinesProp is_system_error (IsCommandLink m (link_view line.now)) result) }
     ensures files { S.files store.new ≡ S.files store.old }
     ensures count { PropagatesIoErrors is_failure (S.failures store.old) (S.failures store.new) result }
     ensures named { IfErr result
-        (NamesFailure (IsOfLine (S.files store.old) (S.last_failure store.new) (linking line.now))) }
+        (NamesFailure (IsCommandFailure (S.files store.old) (S.last_failure store.new) (link_view line.now))) }
     ensures at_last_count { FailsAtLastCount is_system_error (S.failures store.old) result }
 {
     let text = read_text(alloc, store, line.script)?;

@@ -10,12 +10,12 @@ use Rattle.std.proofs.lemmas.Cmp.{nat_list_eq_equiv}
 use Rattle.std.proofs.lemmas.Slice.Eq.{bytes_eq-Decides}
 use Rattle.indexmap.specs.IndexMap.{insert_entry}
 use Rattle.library65.specs.declared.contents.Contents.{Contents}
-use Rattle.library65.specs.declared.library.Stored.{Stored}
-use Rattle.library65.specs.Libraries.{bytes_of, member_contents, member_names, with_member, without_member, IsStored, member_of}
+use Rattle.library65.specs.declared.library.StoredMember.{StoredMember}
+use Rattle.library65.specs.Libraries.{bytes_of, member_contents, member_names, with_member, without_member, HasMatchingContents, member_of}
 use Rattle.library65.specs.Spelling.{are_member_names, is_among, is_member_name, Member}
 
 abbrev pub Stock : Type 0
-Stock = List (Vec ℕ × Stored)
+Stock = List (Vec ℕ × StoredMember)
 
 abbrev pub same_key : Vec ℕ → Vec ℕ → Bool
 same_key a b = bytes_eq a.items b.items
@@ -25,7 +25,7 @@ has_key name k = bytes_eq name k.items
 
 -- ---- What the list of members becomes.
 
-pub inserted : (es : Stock) (k : Vec ℕ) (v : Stored) → map member_of (insert_entry same_key es k v) ≡ with_member (map member_of es) k.items v.bytes.items
+pub inserted : (es : Stock) (k : Vec ℕ) (v : StoredMember) → map member_of (insert_entry same_key es k v) ≡ with_member (map member_of es) k.items v.bytes.items
 inserted [] k v = refl
 inserted (e ∷ es) k v = grind (arith, common_steps, (inserted es k v))
 
@@ -119,11 +119,11 @@ pub checked_good : (name bytes : List ℕ) (c : Contents) → member_contents na
 unfolding member_contents
 checked_good name bytes c e = grind (arith, common_steps)
 
-pub insert_stored : (es : Stock) (k : Vec ℕ) (v : Stored) → AllByRecursion IsStored es → IsStored (k, v) → AllByRecursion IsStored (insert_entry same_key es k v)
+pub insert_stored : (es : Stock) (k : Vec ℕ) (v : StoredMember) → AllByRecursion HasMatchingContents es → HasMatchingContents (k, v) → AllByRecursion HasMatchingContents (insert_entry same_key es k v)
 insert_stored [] k v all one = (one, tt)
 insert_stored (e ∷ es) k v all one = grind (arith, common_steps, (insert_stored es k v all.1 one), bytes_eq-Decides)
 
-pub remove_stored : (es : Stock) (name : List ℕ) → AllByRecursion IsStored es → AllByRecursion IsStored (remove_entry (has_key name) es)
+pub remove_stored : (es : Stock) (name : List ℕ) → AllByRecursion HasMatchingContents es → AllByRecursion HasMatchingContents (remove_entry (has_key name) es)
 remove_stored [] name all = tt
 remove_stored (e ∷ es) name all = grind (arith, common_steps, (remove_stored es name all.1))
 

@@ -12,16 +12,16 @@ use Rattle.library65.specs.declared.fault.LibraryFault.{LibraryFault}
 use Rattle.library65.specs.declared.fault.LibraryFault.TheVariants as library
 use Rattle.library65.specs.declared.fault.LibraryFault.TheVariants.{BadMemberName}
 use Rattle.library65.specs.Libraries.{are_same, member_contents, contents_from, contents_in}
-use Rattle.library65.specs.Spelling.{is_member_name, AreSymbols}
+use Rattle.library65.specs.Spelling.{is_member_name, HasValidSymbols}
 use Rattle.object65.specs.declared.record.Item.{Item}
 use Rattle.object65.specs.Record.{is_memory as is_object_memory, RawRecord as Record, is_version}
 use Rattle.object65.specs.Items.{with_item}
-use Rattle.object65.specs.Scanning.{Outline, outline_of, IsReached, State, after, object_from, start}
-use Rattle.object65.proofs.Withins.{reached_next, reached_parts, reached_start}
+use Rattle.object65.specs.Scanning.{Outline, outline_of, IsReached, State, state_after_record, object_from, start}
+use Rattle.object65.proofs.ItemLimits.{reached_next, reached_parts, reached_start}
 use Rattle.object65.proofs.Records.{Goes, begins, ends, goes_on, stops_reading, stops_taking}
 use Rattle.library65.specs.declared.contents.Contents.{Contents}
-use Rattle.library65.specs.Internal.Contents.{EndsWith}
-use Rattle.library65.proofs.Made.{all_names}
+use Rattle.library65.specs.Internal.Contents.{HasObjectContents}
+use Rattle.library65.proofs.WrittenLibraries.{all_names}
 
 -- ---- The objects in members' bytes.
 
@@ -42,12 +42,12 @@ not_a_file name bytes e = grind (arith, common_steps)
 pub not_stored : (name bytes : List ℕ) (e : LibraryFault) → RefinesErr is_memory e (member_contents name bytes) → e ≡ library.FileError → ⊥
 not_stored name bytes e refused is = not_a_file name bytes (rw is at refused)
 
--- ---- Bytes behind an object.
+-- ---- Bytes after an object.
 
 following : (end : ℕ) (bytes : List ℕ) → end < length bytes → end_at end (length bytes) bytes ≡ Err object.BytesAfterEnd
 following end bytes less = grind (arith, common_steps, nat_tests)
 
-pub trailing : (name bytes : List ℕ) (version first end : ℕ) (c : Contents) → is_member_name name ≡ true → Ok (version, first) ≡ head_of 0 (take 5 bytes) → EndsWith bytes version first c end → end < length bytes → member_contents name bytes ≡ Err library.NotAnObject
+pub trailing : (name bytes : List ℕ) (version first end : ℕ) (c : Contents) → is_member_name name ≡ true → Ok (version, first) ≡ head_of 0 (take 5 bytes) → HasObjectContents bytes version first c end → end < length bytes → member_contents name bytes ≡ Err library.NotAnObject
 unfolding member_contents contents_in object_at
 trailing name bytes version first end c named head ends less = grind (arith, common_steps, following)
 
@@ -72,10 +72,10 @@ module _ (v : ℕ) (bytes : List ℕ) (at next : ℕ) (scan : Outline) (c : Cont
   pub reading_refused : (e : ObjectFault) → RefinesErr is_object_memory e (record_at v next (length bytes) bytes) → RefinesErr is_object_memory e (records_at (length bytes) (start v) at (length bytes) bytes)
   reading_refused e refused = unless (is_object_memory e) (stops_reading v bytes (length bytes) at next was.state e was.goes) refused
 
-  pub taking_refused : (r : Record × ℕ) (e : ObjectFault) → record_at v next (length bytes) bytes ≡ Ok r → ((s : State) → scan ≡ outline_of s → RefinesErr is_object_memory e (after s r.0)) → RefinesErr is_object_memory e (records_at (length bytes) (start v) at (length bytes) bytes)
+  pub taking_refused : (r : Record × ℕ) (e : ObjectFault) → record_at v next (length bytes) bytes ≡ Ok r → ((s : State) → scan ≡ outline_of s → RefinesErr is_object_memory e (state_after_record s r.0)) → RefinesErr is_object_memory e (records_at (length bytes) (start v) at (length bytes) bytes)
   taking_refused r e read refused = unless (is_object_memory e) (stops_taking v bytes (length bytes) at next was.state r e was.goes read) (refused was.state was.outline)
 
-  module _ (r : Record × ℕ) (item : Item) (further : Outline) (more : Contents) (read : record_at v next (length bytes) bytes ≡ Ok r) (taken : (s : State) → scan ≡ outline_of s → after s r.0 ≡ Ok (with_item s item)) (kept : (s : State) → scan ≡ outline_of s → further ≡ outline_of (with_item s item)) (added : (s : State) → c ≡ contents_from (object_from s) → more ≡ contents_from (object_from (with_item s item))) where
+  module _ (r : Record × ℕ) (item : Item) (further : Outline) (more : Contents) (read : record_at v next (length bytes) bytes ≡ Ok r) (taken : (s : State) → scan ≡ outline_of s → state_after_record s r.0 ≡ Ok (with_item s item)) (kept : (s : State) → scan ≡ outline_of s → further ≡ outline_of (with_item s item)) (added : (s : State) → c ≡ contents_from (object_from s) → more ≡ contents_from (object_from (with_item s item))) where
     next_reached : IsReached (with_item was.state item)
     next_reached = reached_next was.state (with_item was.state item) r.0 was.reached (taken was.state was.outline)
 
@@ -88,7 +88,7 @@ module _ (v : ℕ) (bytes : List ℕ) (at next : ℕ) (scan : Outline) (c : Cont
       reached = next_reached;
     }
 
-    pub all_taken : further.ended ≡ true → EndsWith bytes v at more r.1
+    pub all_taken : further.ended ≡ true → HasObjectContents bytes v at more r.1
     all_taken closed =
         let ended : (with_item was.state item).ended ≡ true = sym (ap (λ (o : Outline). o.ended) (kept was.state was.outline)) ∙ closed in
         record {
@@ -98,5 +98,5 @@ module _ (v : ℕ) (bytes : List ℕ) (at next : ℕ) (scan : Outline) (c : Cont
           contents = added was.state was.contents;
         }
 
-    pub good_taken : AreSymbols more
+    pub good_taken : HasValidSymbols more
     good_taken = grind (arith, common_steps, reached_parts, next_reached, all_names)

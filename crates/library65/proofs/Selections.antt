@@ -2,8 +2,8 @@
 use Rattle.std.proofs.lemmas.Grind.{common_steps}
 use Rattle.std.specs.Global.{Vec}
 use Rattle.std.specs.Vec.{with_item}
-use Rattle.library65.specs.declared.selecting.Found.{Found}
-use Rattle.library65.specs.Internal.Searching.{IsWellFormedTable}
+use Rattle.library65.specs.declared.selecting.FoundMembers.{FoundMembers}
+use Rattle.library65.specs.Internal.Searching.{IsWellFormedSearch}
 use Rattle.std.proofs.Common.{◌≡◌, ◌∙◌, ◌<◌, ◌≤◌, ◌-◌, ℕ, zero, suc, ◌+◌, Bool, true, false, not, ◌||◌, cond, nat_eq, List, [], ◌∷◌, ◌++◌, length, get_or, slice_get, Some, refl, sym, ap, subst, arith, if◌then◌else◌, ◌&&◌, Option, None}
 use Rattle.std.specs.Prelude.{count_by, replicate, slice_set}
 use Rattle.std.specs.List.{AllByRecursion, list_any, position_from}
@@ -11,8 +11,8 @@ use Rattle.std.proofs.lemmas.Bool.Decides.{nat_tests}
 use Rattle.std.proofs.lemmas.List.{append-nil}
 use Rattle.std.proofs.lemmas.List.Folds.{list_any-append}
 use Rattle.std.proofs.lemmas.List.Sums.{sum_by-cons}
-use Rattle.library65.specs.Selection.{IsRising, has_place, IsClosed, IsSelection, first_exporter, imports_at, GrowingSelectionLaw, SelectionIsUnique}
-use Rattle.library65.specs.Internal.Searching.{marked_from, IsSearched, MarksExporters}
+use Rattle.library65.specs.Selection.{IsAscending, has_index, IsClosed, IsSelection, first_exporter, imports_at, SelectionIsMonotone, SelectionIsUnique}
+use Rattle.library65.specs.Internal.Searching.{marked_indices_from, IsSearchState, MarksExporters}
 use Rattle.library65.specs.declared.index.Entry.{Entry}
 use Rattle.object65.specs.Objects.{is_among}
 use Rattle.std.specs.Cmp.Lexicographic.{pointwise}
@@ -57,20 +57,20 @@ pub place_same : (i : ℕ) → nat_eq i i ≡ true
 place_same i = grind (arith, nat_tests)
 
 -- a place of a list is somewhere in it
-pub place_at : (is : List ℕ) (i : ℕ) → has_place is i ≡ true → (k : ℕ) × (k < length is) × (slice_get is k ≡ Some i)
+pub place_at : (is : List ℕ) (i : ℕ) → has_index is i ≡ true → (k : ℕ) × (k < length is) × (slice_get is k ≡ Some i)
 place_at is i e = let r = any_at (nat_eq i) is e in (r.0, r.2, r.3 ∙ ap (λ j. Some j) (sym (same_place i r.1 r.4)))
 
-pub place_of : (is : List ℕ) (k i : ℕ) → slice_get is k ≡ Some i → has_place is i ≡ true
+pub place_of : (is : List ℕ) (k i : ℕ) → slice_get is k ≡ Some i → has_index is i ≡ true
 place_of is k i at = any_of (nat_eq i) is k i at (place_same i)
 
-pub place_append : (is js : List ℕ) (i : ℕ) → has_place (is ++ js) i ≡ (has_place is i || has_place js i)
+pub place_append : (is js : List ℕ) (i : ℕ) → has_index (is ++ js) i ≡ (has_index is i || has_index js i)
 place_append is js i = list_any-append (nat_eq i) is js
 
-pub place_kept : (is js : List ℕ) (i : ℕ) → has_place is i ≡ true → has_place (is ++ js) i ≡ true
-place_kept is js i e = place_append is js i ∙ or_left (has_place is i) (has_place js i) e
+pub place_kept : (is js : List ℕ) (i : ℕ) → has_index is i ≡ true → has_index (is ++ js) i ≡ true
+place_kept is js i e = place_append is js i ∙ or_left (has_index is i) (has_index js i) e
 
-pub place_after : (is js : List ℕ) (i : ℕ) → has_place js i ≡ true → has_place (is ++ js) i ≡ true
-place_after is js i e = place_append is js i ∙ or_right (has_place is i) (has_place js i) e
+pub place_after : (is js : List ℕ) (i : ℕ) → has_index js i ≡ true → has_index (is ++ js) i ≡ true
+place_after is js i e = place_append is js i ∙ or_right (has_index is i) (has_index js i) e
 
 pub get_kept : (is js : List ℕ) (k : ℕ) → k < length is → slice_get (is ++ js) k ≡ slice_get is k
 get_kept [] js k lt = absurd (omega arith)
@@ -92,15 +92,15 @@ pub length_marks : (n : ℕ) → length (replicate n false) ≡ n
 length_marks zero = refl
 length_marks (suc n) = ap suc (length_marks n)
 
-pub marks_added : (marks : List Bool) (places : List ℕ) (place : ℕ) → place < length marks → ((i : ℕ) → get_or marks i false ≡ has_place places i) → (i : ℕ) → get_or (slice_set marks place true) i false ≡ has_place (places ++ place ∷ []) i
-marks_added marks places place within marked i = grind (arith, common_steps)
+pub marks_added : (marks : List Bool) (indices : List ℕ) (index : ℕ) → index < length marks → ((i : ℕ) → get_or marks i false ≡ has_index indices i) → (i : ℕ) → get_or (slice_set marks index true) i false ≡ has_index (indices ++ index ∷ []) i
+marks_added marks indices index within marked i = grind (arith, common_steps)
 
-pub count_added : (marks : List Bool) (place : ℕ) → place < length marks → get_or marks place false ≡ false → count_by not (slice_set marks place true) + 1 ≡ count_by not marks
-count_added marks place within new = grind (arith, common_steps)
+pub count_added : (marks : List Bool) (index : ℕ) → index < length marks → get_or marks index false ≡ false → count_by not (slice_set marks index true) + 1 ≡ count_by not marks
+count_added marks index within new = grind (arith, common_steps)
 
 -- ---- The places that are marked.
 
-pub marked_places : (i j : ℕ) (marks : List Bool) → i ≤ j → has_place (marked_from i marks) j ≡ get_or marks (j - i) false
+pub marked_places : (i j : ℕ) (marks : List Bool) → i ≤ j → has_index (marked_indices_from i marks) j ≡ get_or marks (j - i) false
 marked_places i j [] le = refl
 marked_places i j (mark ∷ marks) le =
     either (nat_eq j i)
@@ -109,30 +109,30 @@ marked_places i j (mark ∷ marks) le =
     let k : j - i ≡ suc (j - (i + 1)) = omega arith in
     rw k (there mark e ∙ marked_places (i + 1) j marks (omega arith)))
   where
-    before : (n : ℕ) (ms : List Bool) → j < n → has_place (marked_from n ms) j ≡ false
+    before : (n : ℕ) (ms : List Bool) → j < n → has_index (marked_indices_from n ms) j ≡ false
     before n [] lt = refl
     before n (true ∷ ms) lt = let no_place : nat_eq j n ≡ false = grind (arith, nat_tests) in rw no_place (before (n + 1) ms (omega arith))
     before n (false ∷ ms) lt = before (n + 1) ms (omega arith)
 
-    here : (m : Bool) → nat_eq j i ≡ true → has_place (if m then i ∷ marked_from (i + 1) marks else marked_from (i + 1) marks) j ≡ m
+    here : (m : Bool) → nat_eq j i ≡ true → has_index (if m then i ∷ marked_indices_from (i + 1) marks else marked_indices_from (i + 1) marks) j ≡ m
     here true e = or_left (nat_eq j i) _ e
     here false e = before (i + 1) marks (grind (arith, nat_tests))
 
-    there : (m : Bool) → nat_eq j i ≡ false → has_place (if m then i ∷ marked_from (i + 1) marks else marked_from (i + 1) marks) j ≡ has_place (marked_from (i + 1) marks) j
+    there : (m : Bool) → nat_eq j i ≡ false → has_index (if m then i ∷ marked_indices_from (i + 1) marks else marked_indices_from (i + 1) marks) j ≡ has_index (marked_indices_from (i + 1) marks) j
     there true e = rw e refl
     there false e = refl
 
-marked_above : (b i : ℕ) (marks : List Bool) → b < i → AllByRecursion (λ j. b < j) (marked_from i marks)
+marked_above : (b i : ℕ) (marks : List Bool) → b < i → AllByRecursion (λ j. b < j) (marked_indices_from i marks)
 marked_above b i [] lt = tt
 marked_above b i (true ∷ marks) lt = (lt, marked_above b (i + 1) marks (omega arith))
 marked_above b i (false ∷ marks) lt = marked_above b (i + 1) marks (omega arith)
 
-pub marked_rising : (i : ℕ) (marks : List Bool) → IsRising (marked_from i marks)
+pub marked_rising : (i : ℕ) (marks : List Bool) → IsAscending (marked_indices_from i marks)
 marked_rising i [] = tt
 marked_rising i (true ∷ marks) = (marked_above i (i + 1) marks (omega arith), marked_rising (i + 1) marks)
 marked_rising i (false ∷ marks) = marked_rising (i + 1) marks
 
-pub marked_below : (n i : ℕ) (marks : List Bool) → i + length marks ≤ n → AllByRecursion (λ j. j < n) (marked_from i marks)
+pub marked_below : (n i : ℕ) (marks : List Bool) → i + length marks ≤ n → AllByRecursion (λ j. j < n) (marked_indices_from i marks)
 marked_below n i [] le = tt
 marked_below n i (true ∷ marks) le = (omega arith, marked_below n (i + 1) marks (omega arith))
 marked_below n i (false ∷ marks) le = marked_below n (i + 1) marks (omega arith)
@@ -154,8 +154,8 @@ position_below p i (x ∷ xs) k e =
     let lt = position_step (p x) i k (length xs) (position_from p (i + 1) xs) (λ h. position_below p (i + 1) xs k h) e in
     omega arith
 
-pub exporter_below : (es : List Entry) (name : List ℕ) (place : ℕ) → first_exporter es name ≡ Some place → place < length es
-exporter_below es name place e = let below = position_below (λ (x : Entry). is_among x.exports name) 0 es place e in omega arith
+pub exporter_below : (es : List Entry) (name : List ℕ) (index : ℕ) → first_exporter es name ≡ Some index → index < length es
+exporter_below es name index e = let below = position_below (λ (x : Entry). is_among x.exports name) 0 es index e in omega arith
 
 -- ---- Tests.
 
@@ -183,58 +183,58 @@ module _ (es : List Entry) (wanted defined : Names) (found : List ℕ) where
   free name e = rw e refl
 
   -- the first exporter of a name of the set was found
-  exporter_found : IsSearched es wanted defined found (length found) → (name : List ℕ) (place : ℕ) → has name ≡ true → first_exporter es name ≡ Some place → has_place found place ≡ true
-  exporter_found done name place in_set first = grind (arith, common_steps, both, not_true, or_true, any_at)
+  exporter_found : IsSearchState es wanted defined found (length found) → (name : List ℕ) (index : ℕ) → has name ≡ true → first_exporter es name ≡ Some index → has_index found index ≡ true
+  exporter_found done name index in_set first = grind (arith, common_steps, both, not_true, or_true, any_at)
 
-  set_closed : IsSearched es wanted defined found (length found) → IsClosed es wanted defined has
+  set_closed : IsSearchState es wanted defined found (length found) → IsClosed es wanted defined has
   set_closed done = record {
-    begins = λ name want not_defined. and (not (is_among defined name)) _ (free name not_defined) (or_left (is_among wanted name) _ want);
-    goes_on = λ name other place in_set first imported not_defined.
-        let at = place_at found place (exporter_found done name place in_set first) in
-        and (not (is_among defined other)) _ (free other not_defined) (or_right (is_among wanted other) _ (any_of (λ i. is_among (imports_at es i) other) found at.0 place at.2 imported));
+    has_wanted = λ name want not_defined. and (not (is_among defined name)) _ (free name not_defined) (or_left (is_among wanted name) _ want);
+    has_imports = λ name other index in_set first imported not_defined.
+        let at = place_at found index (exporter_found done name index in_set first) in
+        and (not (is_among defined other)) _ (free other not_defined) (or_right (is_among wanted other) _ (any_of (λ i. is_among (imports_at es i) other) found at.0 index at.2 imported));
   }
 
-  set_least : IsSearched es wanted defined found (length found) → (other : List ℕ → Bool) → IsClosed es wanted defined other → (name : List ℕ) → has name ≡ true → other name ≡ true
+  set_least : IsSearchState es wanted defined found (length found) → (other : List ℕ → Bool) → IsClosed es wanted defined other → (name : List ℕ) → has name ≡ true → other name ≡ true
   set_least done other closed name in_set =
       let parts = both (not (is_among defined name)) _ in_set in
       let not_defined = not_true (is_among defined name) parts.0 in
       or_true (is_among wanted name) _ parts.1
-      (λ e. closed.begins name e not_defined)
+      (λ e. closed.has_wanted name e not_defined)
       (λ e. let r = any_at (λ i. is_among (imports_at es i) name) found e in
       let from = done.needed r.1 (place_of found r.0 r.1 r.3) in
-      closed.goes_on from.0 name r.1 (from.1 other closed) from.2 r.4 not_defined)
+      closed.has_imports from.0 name r.1 (from.1 other closed) from.2 r.4 not_defined)
 
-  pub searched_selected : (marks : List Bool) (places : List ℕ) → IsSearched es wanted defined found (length found) → ((i : ℕ) → get_or marks i false ≡ has_place found i) → places ≡ marked_from 0 marks → IsSelection es wanted defined places
-  searched_selected marks places done marked listed = grind (arith, common_steps, marked_places, set_closed, set_least, exporter_found, marked_rising)
+  pub searched_selected : (marks : List Bool) (indices : List ℕ) → IsSearchState es wanted defined found (length found) → ((i : ℕ) → get_or marks i false ≡ has_index found i) → indices ≡ marked_indices_from 0 marks → IsSelection es wanted defined indices
+  searched_selected marks indices done marked listed = grind (arith, common_steps, marked_places, set_closed, set_least, exporter_found, marked_rising)
 
 -- ---- Selections.
 
-above : (i j : ℕ) (is : List ℕ) → AllByRecursion (λ k. i < k) is → has_place is j ≡ true → i < j
+above : (i j : ℕ) (is : List ℕ) → AllByRecursion (λ k. i < k) is → has_index is j ≡ true → i < j
 above i j [] all e = cc
-above i j (k ∷ is) all e = or_true (nat_eq j k) (has_place is j) e (λ h. let same = same_place j k h in omega (arith, all.0)) (λ h. above i j is all.1 h)
+above i j (k ∷ is) all e = or_true (nat_eq j k) (has_index is j) e (λ h. let same = same_place j k h in omega (arith, all.0)) (λ h. above i j is all.1 h)
 
 -- rising lists of the same places are one
-one_list : (a b : List ℕ) → IsRising a → IsRising b → ((i : ℕ) → has_place a i ≡ true → has_place b i ≡ true) → ((i : ℕ) → has_place b i ≡ true → has_place a i ≡ true) → a ≡ b
+one_list : (a b : List ℕ) → IsAscending a → IsAscending b → ((i : ℕ) → has_index a i ≡ true → has_index b i ≡ true) → ((i : ℕ) → has_index b i ≡ true → has_index a i ≡ true) → a ≡ b
 one_list [] [] ra rb f g = refl
-one_list [] (j ∷ b) ra rb f g = cc (g j (or_left (nat_eq j j) (has_place b j) (place_same j)))
-one_list (i ∷ a) [] ra rb f g = cc (f i (or_left (nat_eq i i) (has_place a i) (place_same i)))
+one_list [] (j ∷ b) ra rb f g = cc (g j (or_left (nat_eq j j) (has_index b j) (place_same j)))
+one_list (i ∷ a) [] ra rb f g = cc (f i (or_left (nat_eq i i) (has_index a i) (place_same i)))
 one_list (i ∷ a) (j ∷ b) ra rb f g =
-    let low : j ≤ i = or_true (nat_eq i j) (has_place b i) (f i (or_left (nat_eq i i) (has_place a i) (place_same i))) (λ h. let same = same_place i j h in omega arith) (λ h. let lt = above j i b rb.0 h in omega arith) in
-    let high : i ≤ j = or_true (nat_eq j i) (has_place a j) (g j (or_left (nat_eq j j) (has_place b j) (place_same j))) (λ h. let same = same_place j i h in omega arith) (λ h. let lt = above i j a ra.0 h in omega arith) in
+    let low : j ≤ i = or_true (nat_eq i j) (has_index b i) (f i (or_left (nat_eq i i) (has_index a i) (place_same i))) (λ h. let same = same_place i j h in omega arith) (λ h. let lt = above j i b rb.0 h in omega arith) in
+    let high : i ≤ j = or_true (nat_eq j i) (has_index a j) (g j (or_left (nat_eq j j) (has_index b j) (place_same j))) (λ h. let same = same_place j i h in omega arith) (λ h. let lt = above i j a ra.0 h in omega arith) in
     let head : i ≡ j = omega arith in
     let rest = one_list a b ra.1 rb.1
-    (λ k h. or_true (nat_eq k j) (has_place b k) (f k (or_right (nat_eq k i) (has_place a k) h)) (λ e. let same = same_place k j e in let lt = above i k a ra.0 h in absurd (omega arith)) (λ e. e))
-    (λ k h. or_true (nat_eq k i) (has_place a k) (g k (or_right (nat_eq k j) (has_place b k) h)) (λ e. let same = same_place k i e in let lt = above j k b rb.0 h in absurd (omega arith)) (λ e. e)) in
+    (λ k h. or_true (nat_eq k j) (has_index b k) (f k (or_right (nat_eq k i) (has_index a k) h)) (λ e. let same = same_place k j e in let lt = above i k a ra.0 h in absurd (omega arith)) (λ e. e))
+    (λ k h. or_true (nat_eq k i) (has_index a k) (g k (or_right (nat_eq k j) (has_index b k) h)) (λ e. let same = same_place k i e in let lt = above j k b rb.0 h in absurd (omega arith)) (λ e. e)) in
     λ n. head n ∷ rest n
 
-pub selection_grows : GrowingSelectionLaw
-selection_grows es wanted more defined a b grown first second place there =
+pub selection_grows : SelectionIsMonotone
+selection_grows es wanted more defined a b grown first second index there =
     let closed : IsClosed es wanted defined second.has = record {
-      begins = λ name want free. second.closed.begins name (grown name want) free;
-      goes_on = second.closed.goes_on;
+      has_wanted = λ name want free. second.closed.has_wanted name (grown name want) free;
+      has_imports = second.closed.has_imports;
     } in
-    let from = first.exporters place there in
-    second.all from.0 place (first.least second.has closed from.0 from.1) from.2
+    let from = first.exporters index there in
+    second.all from.0 index (first.least second.has closed from.0 from.1) from.2
 
 pub one_selection : SelectionIsUnique
 one_selection es wanted defined a b first second = grind (arith, common_steps, one_list, selection_grows)
@@ -246,7 +246,7 @@ module _ (es : List Entry) (defined : Names) where
   pub finds_none : (old : List ℕ) → MarksExporters es defined [] old old
   finds_none old = grind (arith, common_steps)
 
-  -- names one behind the other
+  -- names one after the other
   pub finds_more : (names : Names) (name : List ℕ) (old mid new : List ℕ) → MarksExporters es defined names old mid → MarksExporters es defined (name ∷ []) mid new → MarksExporters es defined (names ++ name ∷ []) old new
   finds_more names name old mid new first last = grind (arith, common_steps)
 
@@ -275,59 +275,59 @@ module _ (es : List Entry) (defined : Names) where
   }
 
   -- a name whose first exporter was found before
-  pub finds_again : (name : List ℕ) (place : ℕ) (old : List ℕ) → first_exporter es name ≡ Some place → has_place old place ≡ true → MarksExporters es defined (name ∷ []) old old
-  finds_again name place old first there = record {
+  pub finds_again : (name : List ℕ) (index : ℕ) (old : List ℕ) → first_exporter es name ≡ Some index → has_index old index ≡ true → MarksExporters es defined (name ∷ []) old old
+  finds_again name index old first there = record {
     following = [];
     more = sym (append-nil old);
     all = λ n i among free exported. let same = one_name name n among in
-        let is : Some place ≡ Some i = sym first ∙ ap (first_exporter es) (sym same) ∙ exported in
-        let at : place ≡ i = cc in subst (λ j. has_place old j ≡ true) at there;
+        let is : Some index ≡ Some i = sym first ∙ ap (first_exporter es) (sym same) ∙ exported in
+        let at : index ≡ i = cc in subst (λ j. has_index old j ≡ true) at there;
     only = λ i e. absurd cc;
   }
 
   -- a name whose first exporter is new
-  pub finds_new : (name : List ℕ) (place : ℕ) (old new : List ℕ) → first_exporter es name ≡ Some place → is_among defined name ≡ false → new ≡ old ++ place ∷ [] → MarksExporters es defined (name ∷ []) old new
-  finds_new name place old new first free more = record {
-    following = place ∷ [];
+  pub finds_new : (name : List ℕ) (index : ℕ) (old new : List ℕ) → first_exporter es name ≡ Some index → is_among defined name ≡ false → new ≡ old ++ index ∷ [] → MarksExporters es defined (name ∷ []) old new
+  finds_new name index old new first free more = record {
+    following = index ∷ [];
     more = more;
     all = λ n i among free_too exported. let same = one_name name n among in
-        let is : Some place ≡ Some i = sym first ∙ ap (first_exporter es) (sym same) ∙ exported in
-        let at : place ≡ i = cc in
-        let there : has_place (place ∷ []) i ≡ true = grind (arith, nat_tests) in
-        subst (λ (js : List ℕ). has_place js i ≡ true) (sym more) (place_after old (place ∷ []) i there);
-    only = λ i found. let at : i ≡ place = grind (arith, nat_tests) in (name, its_own name, free, first ∙ ap (λ j. Some j) (sym at));
+        let is : Some index ≡ Some i = sym first ∙ ap (first_exporter es) (sym same) ∙ exported in
+        let at : index ≡ i = cc in
+        let there : has_index (index ∷ []) i ≡ true = grind (arith, nat_tests) in
+        subst (λ (js : List ℕ). has_index js i ≡ true) (sym more) (place_after old (index ∷ []) i there);
+    only = λ i found. let at : i ≡ index = grind (arith, nat_tests) in (name, its_own name, free, first ∙ ap (λ j. Some j) (sym at));
   }
 
 module _ (es : List Entry) (wanted defined : Names) where
   -- what is wanted was found
-  pub search_begins : (found : List ℕ) → MarksExporters es defined wanted [] found → IsSearched es wanted defined found 0
+  pub search_begins : (found : List ℕ) → MarksExporters es defined wanted [] found → IsSearchState es wanted defined found 0
   search_begins found finds = grind (arith, common_steps)
 
   -- what one member more imports was found
-  pub search_goes_on : (found new : List ℕ) (next place : ℕ) → next < length found → slice_get found next ≡ Some place → IsSearched es wanted defined found next → MarksExporters es defined (imports_at es place) found new → IsSearched es wanted defined new (next + 1)
-  search_goes_on found new next place lt at so_far finds = record {
-    needed = λ i there. or_true (has_place found i) (has_place finds.following i) (sym (list_any-append (nat_eq i) found finds.following) ∙ subst (λ (js : List ℕ). has_place js i ≡ true) finds.more there)
+  pub search_goes_on : (found new : List ℕ) (next index : ℕ) → next < length found → slice_get found next ≡ Some index → IsSearchState es wanted defined found next → MarksExporters es defined (imports_at es index) found new → IsSearchState es wanted defined new (next + 1)
+  search_goes_on found new next index lt at so_far finds = record {
+    needed = λ i there. or_true (has_index found i) (has_index finds.following i) (sym (list_any-append (nat_eq i) found finds.following) ∙ subst (λ (js : List ℕ). has_index js i ≡ true) finds.more there)
         (λ e. so_far.needed i e)
         (λ e. let r = finds.only i e in
-        let from = so_far.needed place (place_of found next place at) in
-        (r.0, (λ has closed. closed.goes_on from.0 r.0 place (from.1 has closed) from.2 r.1 r.2), r.3));
+        let from = so_far.needed index (place_of found next index at) in
+        (r.0, (λ has closed. closed.has_imports from.0 r.0 index (from.1 has closed) from.2 r.1 r.2), r.3));
     wanted_found = λ name i among free exported. grown i (so_far.wanted_found name i among free exported);
     imports_found = λ k p less there name i among free exported.
         let before : slice_get found k ≡ Some p = sym (get_kept found finds.following k (omega arith)) ∙ subst (λ (js : List ℕ). slice_get js k ≡ Some p) finds.more there in
         either (nat_eq k next)
         (λ e. let is : k ≡ next = grind (arith, nat_tests) in
-        let same : Some p ≡ Some place = sym before ∙ ap (slice_get found) is ∙ at in
-        let p_is : p ≡ place = cc in
+        let same : Some p ≡ Some index = sym before ∙ ap (slice_get found) is ∙ at in
+        let p_is : p ≡ index = cc in
         finds.all name i (subst (λ q. is_among (imports_at es q) name ≡ true) p_is among) free exported)
         (λ e. let earlier : k < next = grind (arith, nat_tests) in grown i (so_far.imports_found k p earlier before name i among free exported));
   }
     where
-      grown : (i : ℕ) → has_place found i ≡ true → has_place new i ≡ true
-      grown i e = subst (λ (js : List ℕ). has_place js i ≡ true) (sym finds.more) (place_kept found finds.following i e)
+      grown : (i : ℕ) → has_index found i ≡ true → has_index new i ≡ true
+      grown i e = subst (λ (js : List ℕ). has_index js i ≡ true) (sym finds.more) (place_kept found finds.following i e)
 
 -- one more that wasn't found before is marked
-pub mark_sound : (f : Found) (place : ℕ) (places : Vec ℕ) → IsWellFormedTable f → get_or f.marks.items place false ≡ false → place < length f.marks.items → places.items ≡ f.places.items ++ place ∷ [] → IsWellFormedTable (record { marks = with_item f.marks place true; places = places })
-mark_sound f place places sound clear within more = record {
+pub mark_sound : (f : FoundMembers) (index : ℕ) (indices : Vec ℕ) → IsWellFormedSearch f → get_or f.marks.items index false ≡ false → index < length f.marks.items → indices.items ≡ f.indices.items ++ index ∷ [] → IsWellFormedSearch (record { marks = with_item f.marks index true; indices = indices })
+mark_sound f index indices sound clear within more = record {
   marks = λ i. grind (arith, common_steps);
   count = grind (arith, common_steps);
 }

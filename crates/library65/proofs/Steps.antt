@@ -9,14 +9,14 @@ use Rattle.object65.specs.Reading.{StoreFrame}
 use Rattle.library65.specs.declared.fault.LibraryFault.{LibraryFault}
 use Rattle.library65.specs.declared.fault.LibraryFault.TheVariants.{BadIndex, FileError}
 use Rattle.library65.specs.Fault.{is_system_error}
-use Rattle.library65.specs.Reading.{in_file, index_at, count_at, counted_at, list_at, listing_at, listings_at, name_at, number_at, symbol_at, symbols_at}
+use Rattle.library65.specs.Reading.{in_file, index_at, count_at, counted_names_at, member_entries_at, unplaced_entry_at, unplaced_entries_at, name_at, number_at, symbol_at, symbols_at}
 use Rattle.std.proofs.lemmas.List.{length-take, take_all}
 use Rattle.library65.specs.declared.index.UnplacedEntry.{UnplacedEntry}
-use Rattle.library65.specs.Libraries.{joined_all, library_at, piece_at}
+use Rattle.library65.specs.Libraries.{with_library_entries, library_at, member_bytes_at}
 use Rattle.library65.specs.Spelling.{is_name}
 use Rattle.std.proofs.lemmas.Bool.Decides.{nat_tests}
 use Rattle.base65.specs.Reading.{ReadsChunk}
-use Rattle.base65.proofs.Filling.{take-add}
+use Rattle.base65.proofs.BufferFill.{take-add}
 
 -- ---- Something read of a file in steps, where the file may not be there and the files may not be known.
 
@@ -36,7 +36,7 @@ module _ {A Y : Type 0} (name : List ℕ) (all rest : Reading A) (step : Reading
   pub stops : (known now : Option Files) (e : LibraryFault) → now ≡ known → Leads known name rest all → IfSome now (λ m. RefinesErr is_system_error e (in_file (finmap.get m name) step)) → IfSome known (λ m. RefinesErr is_system_error e (in_file (finmap.get m name) all))
   stops x now e files leads refused = grind (arith, common_steps)
 
-  -- a step that is taken, behind which what was read is refused
+  -- a step that succeeds, after which the result is rejected
   pub fails : (known now : Option Files) (y : Y) (e : LibraryFault) → now ≡ known → Leads known name rest all → IfSome now (λ m. in_file (finmap.get m name) step ≡ Ok y) → ((bytes : List ℕ) → k y bytes ≡ Err e) → IfSome known (λ m. RefinesErr is_system_error e (in_file (finmap.get m name) all))
   fails x now y e files leads read refused = grind (arith, common_steps)
 
@@ -62,8 +62,8 @@ kept_on x e kept other = record {
 
 -- ---- The names of exports or imports.
 
-pub counted_begins : (at : ℕ) (bytes : List ℕ) → counted_at at bytes ≡ (number_at at bytes >>= (λ n. symbols_at (n - 0) [] (at + 4) bytes))
-unfolding counted_at
+pub counted_begins : (at : ℕ) (bytes : List ℕ) → counted_names_at at bytes ≡ (number_at at bytes >>= (λ n. symbols_at (n - 0) [] (at + 4) bytes))
+unfolding counted_names_at
 counted_begins at bytes = grind (arith, common_steps)
 
 -- what is read is tested before it goes on
@@ -81,11 +81,11 @@ symbols_more n i names at less bytes = let one : n - i ≡ suc (n - (i + 1)) = o
 
 -- ---- What is said of the members.
 
-pub list_begins : (bytes : List ℕ) → list_at bytes ≡ (count_at bytes >>= (λ n. listings_at (n - 0) [] 9 bytes))
-unfolding list_at
+pub list_begins : (bytes : List ℕ) → member_entries_at bytes ≡ (count_at bytes >>= (λ n. unplaced_entries_at (n - 0) [] 9 bytes))
+unfolding member_entries_at
 list_begins bytes = grind (arith, common_steps)
 
-pub listings_more : (n i : ℕ) (ms : List UnplacedEntry) (names : List (List ℕ)) (at : ℕ) → names ≡ map (λ m. m.name) ms → i < n → (bytes : List ℕ) → listings_at (n - i) ms at bytes ≡ (listing_at names at bytes >>= (λ m. listings_at (n - (i + 1)) (ms ++ m.0 ∷ []) m.1 bytes))
+pub listings_more : (n i : ℕ) (ms : List UnplacedEntry) (names : List (List ℕ)) (at : ℕ) → names ≡ map (λ m. m.name) ms → i < n → (bytes : List ℕ) → unplaced_entries_at (n - i) ms at bytes ≡ (unplaced_entry_at names at bytes >>= (λ m. unplaced_entries_at (n - (i + 1)) (ms ++ m.0 ∷ []) m.1 bytes))
 listings_more n i ms names at named less bytes = let one : n - i ≡ suc (n - (i + 1)) = omega arith in rw (one, named) refl
 
 -- the names of the members so far, with one more
@@ -94,7 +94,7 @@ name_pushed ms m after names name named same pushed = grind (arith, common_steps
 
 -- ---- The members themselves.
 
-pub library_begins : (bytes : List ℕ) → library_at bytes ≡ (index_at bytes >>= (λ es. joined_all [] es bytes))
+pub library_begins : (bytes : List ℕ) → library_at bytes ≡ (index_at bytes >>= (λ es. with_library_entries [] es bytes))
 unfolding library_at
 library_begins bytes = refl
 
@@ -123,14 +123,14 @@ abbrev pub IsPiece : Option (List ℕ) → ℕ → ℕ → List ℕ → Type 0
 IsPiece None at size bytes = ⊥
 IsPiece (Some file) at size bytes = bytes ≡ take size (drop at file)
 
-pub told_whole : (known next : Option Files) (name : List ℕ) (at place want n size : ℕ) (old new : List ℕ) → next ≡ known → place ≡ at + length old → length old ≤ size → want ≡ min 4096 (size - length old) → n < 4096 → IfSome known (λ m. IsPieceFront (finmap.get m name) at old) → IfSome next (λ m. ReadsChunk (finmap.get m name) place want old new (Ok n)) → IfSome known (λ m. IsPiece (finmap.get m name) at size new)
-told_whole None next name at place want n size old new same there within is short front read = tt
-told_whole (Some m) next name at place want n size old new same there within is short front read =
+pub told_whole : (known next : Option Files) (name : List ℕ) (at offset want n size : ℕ) (old new : List ℕ) → next ≡ known → offset ≡ at + length old → length old ≤ size → want ≡ min 4096 (size - length old) → n < 4096 → IfSome known (λ m. IsPieceFront (finmap.get m name) at old) → IfSome next (λ m. ReadsChunk (finmap.get m name) offset want old new (Ok n)) → IfSome known (λ m. IsPiece (finmap.get m name) at size new)
+told_whole None next name at offset want n size old new same there within is short front read = tt
+told_whole (Some m) next name at offset want n size old new same there within is short front read =
     let P : ℕ → Type 0 = λ k. ReadsChunk (finmap.get m name) k want old new (Ok n) in go (finmap.get m name) front (subst P there (rw same at read))
   where
     go : (file : Option (List ℕ)) → IsPieceFront file at old → ReadsChunk file (at + length old) want old new (Ok n) → IsPiece file at size new
     go None f r = absurd r
     go (Some file) f r = last (nat_le size (length old + 4096)) (drop at file) want n size old new refl f within is short (moved file at (length old) want n old new r)
 
-pub piece_whole : (known : Option Files) (name : List ℕ) (at size : ℕ) (new : List ℕ) → size ≤ length new → IfSome known (λ m. IsPiece (finmap.get m name) at size new) → IfSome known (λ m. in_file (finmap.get m name) (piece_at size at) ≡ Ok new)
+pub piece_whole : (known : Option Files) (name : List ℕ) (at size : ℕ) (new : List ℕ) → size ≤ length new → IfSome known (λ m. IsPiece (finmap.get m name) at size new) → IfSome known (λ m. in_file (finmap.get m name) (member_bytes_at size at) ≡ Ok new)
 piece_whole x name at size new le is = grind (arith, common_steps)

@@ -11,12 +11,12 @@ use Rattle.object65.specs.Objects.{is_among}
 pub taken_more : {X : Type 0} (xs : List X) (i : ℕ) (x : X) → i < length xs → x ≡ get_or xs i x → take (i + 1) xs ≡ take i xs ++ x ∷ []
 taken_more xs i x lt at = take_more xs i x lt ∙ ap (λ y. take i xs ++ y ∷ []) (sym at)
 
-joined : (a b c : Bool) (place : ℕ) (old : Option ℕ) → b ≡ c → cond b (Some place) (if a then Some place else old) ≡ (if a || (c || false) then Some place else old)
-joined true true c place old e = refl
-joined true false c place old e = refl
-joined false b true place old e = rw e refl
-joined false b false place old e = rw e refl
+joined : (a b c : Bool) (index : ℕ) (old : Option ℕ) → b ≡ c → cond b (Some index) (if a then Some index else old) ≡ (if a || (c || false) then Some index else old)
+joined true true c index old e = refl
+joined true false c index old e = refl
+joined false b true index old e = rw e refl
+joined false b false index old e = rw e refl
 
 -- an export more of one member
-pub export_more : (names : List (List ℕ)) (i : ℕ) (n key name : List ℕ) (place : ℕ) (old mid new : Option ℕ) → i < length names → n ≡ get_or names i n → key ≡ n → new ≡ cond (bytes_eq key name) (Some place) mid → mid ≡ (if is_among (take i names) name then Some place else old) → new ≡ (if is_among (take (i + 1) names) name then Some place else old)
-export_more names i n key name place old mid new lt at is step so_far = grind (arith, common_steps, joined, nat_list_eq_equiv, taken_more, list_any-append)
+pub export_more : (names : List (List ℕ)) (i : ℕ) (n key name : List ℕ) (index : ℕ) (old mid new : Option ℕ) → i < length names → n ≡ get_or names i n → key ≡ n → new ≡ cond (bytes_eq key name) (Some index) mid → mid ≡ (if is_among (take i names) name then Some index else old) → new ≡ (if is_among (take (i + 1) names) name then Some index else old)
+export_more names i n key name index old mid new lt at is step so_far = grind (arith, common_steps, joined, nat_list_eq_equiv, taken_more, list_any-append)

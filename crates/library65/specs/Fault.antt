@@ -1,4 +1,4 @@
--- Why a library is refused: in words, and whether the cause lies outside the bytes.
+-- Errors of libraries: their texts, and which are system errors.
 use Rattle.std.specs.Prelude.{ℕ, List, ◌++◌, Bool, true, false, codes, encode_utf8_all, if◌then◌else◌}
 use Rattle.std.specs.Str.{is_utf8}
 use Rattle.base65.specs.declared.store.StoreFault.{StoreFault}
@@ -41,7 +41,7 @@ fault_text FileError = codes "file error"
 fault_text FileNotFound = codes "file not found"
 fault_text BadMemberName = codes "bad member name"
 
--- a name as characters: where it isn't text, each byte is the character of its code
+-- a name for printing: if it isn't UTF-8, each byte as the character of its code
 abbrev pub name_text : List ℕ → List ℕ
 name_text name = if is_utf8 name then name else encode_utf8_all name
 

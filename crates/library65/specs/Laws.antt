@@ -8,46 +8,46 @@ use Rattle.library65.specs.Libraries.{without_named_member as deleted_of, librar
 use Rattle.library65.specs.Reading.{index_at}
 use Rattle.library65.specs.Spelling.{IsIndex, IsLibrary, IsMemberList, Member}
 
--- a library has one spelling
-abbrev pub LibrarySpellingIsUnique : Type 0
-LibrarySpellingIsUnique = (a b : List ℕ) (ms : List Member) → IsLibrary a ms → IsLibrary b ms → a ≡ b
+-- a list of members has at most one encoding as a library
+abbrev pub LibraryEncodingIsUnique : Type 0
+LibraryEncodingIsUnique = (a b : List ℕ) (ms : List Member) → IsLibrary a ms → IsLibrary b ms → a ≡ b
 
--- of any bytes an index is read, or their first fault
+-- any bytes are read as an index, or have an error that is no system error
 abbrev pub IndexExists : Type 0
 IndexExists = (bytes : List ℕ) → IsNoSystemError is_system_error (index_at bytes)
 
--- and a library likewise
+-- any bytes are loaded as a library, or have an error that is no system error
 abbrev pub LibraryExists : Type 0
 LibraryExists = (bytes : List ℕ) → IsNoSystemError is_system_error (library_at bytes)
 
--- any members are edited and written, or there is a fault of theirs
+-- editing or writing any members succeeds, or has an error that is no system error
 pub record EditExists : Type 0 where
   pub replaced : (ms : List Member) (n bytes : List ℕ) → IsNoSystemError is_system_error (replaced_of ms n bytes)
   pub deleted : (ms : List Member) (name : List ℕ) → IsNoSystemError is_system_error (deleted_of ms name)
   pub written : (before : List ℕ) (ms : List Member) → IsNoSystemError is_system_error (written_after before ms)
 
 -- bytes that are read as an index are its encoding
-abbrev pub IndexReadLaw : Type 0
-IndexReadLaw = (bytes : List ℕ) (es : List Entry) → IsBytes bytes → index_at bytes ≡ Ok es → IsIndex bytes es
+abbrev pub ReadIndexIsEncoded : Type 0
+ReadIndexIsEncoded = (bytes : List ℕ) (es : List Entry) → IsBytes bytes → index_at bytes ≡ Ok es → IsIndex bytes es
 
 -- the encoding of an index is read as that index
-abbrev pub IndexSpellingLaw : Type 0
-IndexSpellingLaw = (bytes : List ℕ) (es : List Entry) → IsIndex bytes es → index_at bytes ≡ Ok es
+abbrev pub IndexEncodingIsRead : Type 0
+IndexEncodingIsRead = (bytes : List ℕ) (es : List Entry) → IsIndex bytes es → index_at bytes ≡ Ok es
 
 -- the encoding of a library is loaded as that library
-abbrev pub LibrarySpellingLaw : Type 0
-LibrarySpellingLaw = (bytes : List ℕ) (ms : List Member) → IsLibrary bytes ms → library_at bytes ≡ Ok ms
+abbrev pub LibraryEncodingIsLoaded : Type 0
+LibraryEncodingIsLoaded = (bytes : List ℕ) (ms : List Member) → IsLibrary bytes ms → library_at bytes ≡ Ok ms
 
--- the bytes that are written of a library's members are a library of them
-abbrev pub WrittenLaw : Type 0
-WrittenLaw = (ms : List Member) (bytes : List ℕ) → IsMemberList ms → bytes_within_limit ms ≡ Ok bytes → IsLibrary bytes ms
+-- the bytes that are written for a library's members encode a library of these members
+abbrev pub WrittenBytesAreLibrary : Type 0
+WrittenBytesAreLibrary = (ms : List Member) (bytes : List ℕ) → IsMemberList ms → bytes_within_limit ms ≡ Ok bytes → IsLibrary bytes ms
 
 -- bytes that are loaded as a library are its encoding
-abbrev pub LibraryReadLaw : Type 0
-LibraryReadLaw = (bytes : List ℕ) (ms : List Member) → IsBytes bytes → library_at bytes ≡ Ok ms → IsLibrary bytes ms
+abbrev pub LoadedLibraryIsEncoded : Type 0
+LoadedLibraryIsEncoded = (bytes : List ℕ) (ms : List Member) → IsBytes bytes → library_at bytes ≡ Ok ms → IsLibrary bytes ms
 
--- the empty library, one that is loaded and what edits leave are of members that make a library
-pub record StockLaw : Type 0 where
+-- the members of an empty, a loaded or an edited library can form a library
+pub record EditsPreserveMemberList : Type 0 where
   pub none : IsMemberList []
   pub loaded : (bytes : List ℕ) (ms : List Member) → IsLibrary bytes ms → IsMemberList ms
   pub replaced : (ms ns : List Member) (name bytes : List ℕ) → IsBytes bytes → IsMemberList ms → replaced_of ms name bytes ≡ Ok ns → IsMemberList ns

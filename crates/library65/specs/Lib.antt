@@ -1,4 +1,4 @@
-pub mod Asking
+pub mod FailedRequests
 pub mod Fault
 pub mod Internal
 pub mod Laws

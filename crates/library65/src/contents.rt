@@ -5,7 +5,7 @@ ghost use Rattle.base65.specs.Outcome.{Refines};
 ghost use Rattle.object65.specs.Objects.{is_well_formed_object};
 ghost use Rattle.library65.specs.Fault.{is_memory};
 ghost use Rattle.library65.specs.Libraries.{has_index_names, are_same, member_contents, contents_from};
-ghost use Rattle.library65.specs.Spelling.{AreSymbols};
+ghost use Rattle.library65.specs.Spelling.{HasValidSymbols};
 ghost use Rattle.object65.specs.Record.{is_version};
 ghost use Rattle.object65.specs.Items.{with_item};
 ghost use Rattle.object65.specs.Scanning.{State, object_from};
@@ -30,18 +30,18 @@ pub struct Contents {
 #[tactic(auto, unfolding(crate::specs::Libraries::member_contents, crate::specs::Libraries::contents_in, object65::specs::Reading::object_at))]
 pub fn check_member(
     alloc: Global,
-    space: &mut ReadBuffers,
+    buffers: &mut ReadBuffers,
     name: &[u8],
     bytes: &[u8],
 ) -> Result<Contents, LibraryFault>
     ensures checked { Refines is_memory (λ c. c) result (member_contents name.now bytes.now) }
-    ensures symbols { IfOk result AreSymbols }
+    ensures symbols { IfOk result HasValidSymbols }
 {
     if !is_file_name(name) {
         return Err(LibraryFault::BadMemberName);
     }
     let (version, first) = decode_head(bytes, 0)?;
-    let (contents, end) = read_records(alloc, space, bytes, version, first as usize)?;
+    let (contents, end) = read_records(alloc, buffers, bytes, version, first as usize)?;
     if end < bytes.len() {
         return Err(LibraryFault::NotAnObject);
     }
@@ -64,24 +64,24 @@ pub fn are_same(names: &[ListVec<u8>], others: &[ListVec<u8>]) -> bool
 }
 
 /// Returns whether an entry has the names that the object exports and imports.
-pub fn agrees(entry: &Entry, contents: &Contents) -> bool
+pub fn has_entry_names(entry: &Entry, contents: &Contents) -> bool
     ensures { result ≡ has_index_names entry.now contents.now }
 {
     are_same(entry.exports.as_slice(), contents.exports.as_slice())
         && are_same(entry.imports.as_slice(), contents.imports.as_slice())
 }
 
-/// The buffers for reading members, one after the other.
+/// Buffers for reading members one after another.
 #[derive(Drop)]
 pub struct ReadBuffers {
-    /// Their records take it in turn.
+    /// The record that is being read.
     pub record: Record,
     /// The seed of the hash tables of names.
     pub seed: Seed,
 }
 
 impl ReadBuffers {
-    /// Space with tables of this seed.
+    /// Returns empty buffers. The hash tables of names will have this seed.
     pub fn of(seed: Seed) -> Self {
         ReadBuffers {
             record: Record {
@@ -93,7 +93,7 @@ impl ReadBuffers {
     }
 }
 
-/// Adds the name of an import or an export.
+/// Adds the item's name if it is an import or an export.
 fn add_item(contents: &mut Contents, item: Item) -> Result<(), ObjectFault>
     ensures added { (s : State) → contents.old ≡ contents_from (object_from s) →
         OnOk result (contents.new ≡ contents_from (object_from (with_item s item))) }
@@ -122,10 +122,11 @@ fn add_item(contents: &mut Contents, item: Item) -> Result<(), ObjectFault>
     Ok(())
 }
 
-/// Reads the records of an object of this version one by one up to the END: what they export and import, and where the END ends.
+/// Reads the records of an object of this version one by one up to the END. Returns their exports and
+/// imports, and the offset after the END.
 fn read_records(
     alloc: Global,
-    space: &mut ReadBuffers,
+    buffers: &mut ReadBuffers,
     bytes: &[u8],
     version: u8,
     at: usize,
@@ -134,17 +135,17 @@ fn read_records(
     requires within { at ≤ length bytes.now }
     ensures read { ReadsContents bytes.now version at result }
     ensures within { IfOk result (λ x. x.1 ≤ length bytes.now) }
-    ensures symbols { IfOk result (λ x. AreSymbols x.0) }
+    ensures symbols { IfOk result (λ x. HasValidSymbols x.0) }
 {
-    let mut scan = Scan::seeded(alloc, space.seed, version);
+    let mut scan = Scan::seeded(alloc, buffers.seed, version);
     let mut contents = Contents {
         exports: ListVec::new(alloc),
         imports: ListVec::new(alloc),
     };
     let mut next = at;
     'records: loop {
-        next = decode_record(&mut space.record, version, bytes, next)?;
-        let item = scan.take(&space.record)?;
+        next = decode_record(&mut buffers.record, version, bytes, next)?;
+        let item = scan.take(&buffers.record)?;
         add_item(&mut contents, item)?;
         if scan.is_ended() {
             return Ok((contents, next));

@@ -1,4 +1,4 @@
-//! Why a library is refused.
+//! Errors of libraries, and their texts.
 
 ghost use Rattle.std.specs.Prelude.{◌≡◌};
 ghost use Rattle.library65.specs.declared.fault.LibraryFault.TheVariants.{OutOfMemory};
@@ -9,7 +9,7 @@ use std::alloc::{AllocError, AllocFailed};
 use std::error::Error;
 use std::fmt;
 
-/// Why a library is refused.
+/// An error of reading, editing or writing a library, or of selecting its members.
 #[derive(Debug, Drop)]
 pub enum LibraryFault {
     OutOfMemory,
@@ -97,7 +97,7 @@ impl fmt::Display for LibraryFault {
 
 impl Error for LibraryFault {}
 
-/// A name as it is printed: as it is, and where it isn't text, each byte as the character of its code.
+/// A name for printing: unchanged if it is UTF-8, else with each byte as the character of its code.
 #[derive(Clone, Copy)]
 struct NameDisplay<'a>(&'a [u8]);
 
@@ -118,7 +118,7 @@ impl fmt::Display for NameDisplay<'_> {
     }
 }
 
-/// Bytes, each as the character of its code.
+/// Bytes for printing, each as the character of its code.
 #[derive(Clone, Copy)]
 struct Codes<'a>(&'a [u8]);
 

@@ -12,21 +12,21 @@ use base65::{ListVec, is_utf8};
 use indexmap::IndexSet;
 use std::alloc::Global;
 
-/// Names, each once.
+/// A set of names, in the order of insertion.
 pub type Names = IndexSet<Vec<u8>>;
 
-/// Returns whether a name is there.
+/// Returns whether a name is in the set.
 pub fn has_name(names: &IndexSet<Vec<u8>>, name: &[u8]) -> bool
     ensures { result ≡ is_among (map (λ n. n.items) names.now.keys) name.now }
 {
     names.contains(name)
 }
 
-/// A member in an index.
+/// A member's entry in an index.
 #[derive(Drop)]
 pub struct Entry {
     pub name: ListVec<u8>,
-    /// Where the member's bytes begin in the library's file.
+    /// The offset of the member's bytes in the library's file.
     pub place: u64,
     /// Its size in bytes.
     pub size: u32,
@@ -42,7 +42,7 @@ pub struct Index {
     pub entries: ListVec<Entry>,
 }
 
-/// A member in an index, before its offset is known.
+/// A member's entry in an index, before its offset is known.
 #[derive(Drop)]
 pub struct UnplacedEntry {
     pub name: ListVec<u8>,

@@ -3,12 +3,12 @@
 ghost use Rattle.std.specs.Prelude.{◌≡◌, ◌≤◌, ◌<◌, ◌+◌, ◌-◌, length, IfOk, OnOk, IfSome, IsErrOf, ◌++◌, ◌∷◌, [], ℕ, List, map, Ok, false};
 ghost use Rattle.std.specs.FinMap as map;
 ghost use Rattle.base65.specs.Outcome.{Refines};
-ghost use Rattle.base65.specs.Store.{FailsAtLastCount, HoldsBytes, FailedWithin};
+ghost use Rattle.base65.specs.Store.{FailsAtLastCount, HasOnlyBytes, FailedWithin};
 ghost use Rattle.object65.specs.Reading.{StoreFrame, file_limit};
-ghost use Rattle.library65.specs.Asking.{AsksAt, IsBefore, IsInName, IsIndexPlace};
+ghost use Rattle.library65.specs.FailedRequests.{RequestsOffset, IsOffsetInPart, IsOffsetInName, IsIndexOffset};
 ghost use Rattle.library65.specs.Fault.{is_system_error, is_memory};
 ghost use Rattle.library65.specs.Spelling.{is_among, is_member_name};
-ghost use Rattle.library65.specs.Reading.{in_file, field_at, head_at, name_at, number_at, symbol_at, counted_at, count_at, member_name_at, listing_at, list_at, entry_at, members_with_offsets, end_at, index_at};
+ghost use Rattle.library65.specs.Reading.{in_file, field_at, head_at, name_at, number_at, symbol_at, counted_names_at, count_at, member_name_at, unplaced_entry_at, member_entries_at, entry_at, members_with_offsets, end_at, index_at};
 ghost use Rattle.std.specs.List.{AllByRecursion};
 ghost use Rattle.library65.specs.declared.fault.LibraryFault.TheVariants.{FileError};
 
@@ -21,7 +21,7 @@ use object65::format::FILE_LIMIT;
 use object65::is_name;
 use std::alloc::Global;
 
-/// With these bytes a library begins.
+/// The bytes with which a library begins.
 pub const MAGIC: [u8; 5] = [0x52, 0x36, 0x35, 0x6c, 0x01];
 
 /// Reads a field of the buffer's length.
@@ -73,7 +73,7 @@ fn read_name<S: Store>(
     requires { at ≤ file_limit }
     ensures read { IfSome (S.files store.old) (λ m. Refines is_system_error (λ x. x) result (in_file (map.get m file.now) (name_at at))) }
     ensures frame { StoreFrame S.files S.failures S.last_failure FileError file.now store.old store.new result }
-    ensures before { IsErrOf result FileError → AsksAt (S.files store.old) (S.last_failure store.new) file.now (IsInName at) }
+    ensures before { IsErrOf result FileError → RequestsOffset (S.files store.old) (S.last_failure store.new) file.now (IsOffsetInName at) }
     ensures end { IfOk result (λ x. (at < x.1) × (x.1 ≤ file_limit)) }
 {
     let mut len = [0u8; 1];
@@ -94,13 +94,13 @@ fn read_symbols<S: Store>(
     at: u64,
 ) -> Result<(ListVec<ListVec<u8>>, u64), LibraryFault>
     requires { at ≤ file_limit }
-    ensures read { IfSome (S.files store.old) (λ m. Refines is_system_error (λ x. x) result (in_file (map.get m file.now) (counted_at at))) }
+    ensures read { IfSome (S.files store.old) (λ m. Refines is_system_error (λ x. x) result (in_file (map.get m file.now) (counted_names_at at))) }
     ensures frame { StoreFrame S.files S.failures S.last_failure FileError file.now store.old store.new result }
-    ensures before { IsErrOf result FileError → AsksAt (S.files store.old) (S.last_failure store.new) file.now (IsBefore (counted_at at)) }
+    ensures before { IsErrOf result FileError → RequestsOffset (S.files store.old) (S.last_failure store.new) file.now (IsOffsetInPart (counted_names_at at)) }
     ensures end { IfOk result (λ x. (at < x.1) × (x.1 ≤ file_limit)) }
 {
     let count = read_number(store, file, at)?;
-    // The index may say any number, so room grows by the names that are read.
+    // The index may contain any count, so memory is allocated only for names that are read.
     let mut names = ListVec::new(alloc);
     let mut end = at + 4;
     for _ in 0..count {
@@ -114,9 +114,9 @@ fn read_symbols<S: Store>(
     Ok((names, end))
 }
 
-/// Reads what is said of a member, whose name none of these members has, and answers where that ends.
-#[tactic(auto, unfolding(crate::specs::Reading::listing_at, crate::specs::Reading::member_name_at))]
-fn read_listing<S: Store>(
+/// Reads a member's entry, whose name must be none of these. Returns the offset after the entry.
+#[tactic(auto, unfolding(crate::specs::Reading::unplaced_entry_at, crate::specs::Reading::member_name_at))]
+fn read_entry<S: Store>(
     alloc: Global,
     store: &mut S,
     file: &str,
@@ -124,9 +124,9 @@ fn read_listing<S: Store>(
     names: &IndexSet<Vec<u8>>,
 ) -> Result<(UnplacedEntry, u64), LibraryFault>
     requires { at ≤ file_limit }
-    ensures read { IfSome (S.files store.old) (λ m. Refines is_system_error (λ x. x) result (in_file (map.get m file.now) (listing_at (map (λ n. n.items) names.now.keys) at))) }
+    ensures read { IfSome (S.files store.old) (λ m. Refines is_system_error (λ x. x) result (in_file (map.get m file.now) (unplaced_entry_at (map (λ n. n.items) names.now.keys) at))) }
     ensures frame { StoreFrame S.files S.failures S.last_failure FileError file.now store.old store.new result }
-    ensures before { IsErrOf result FileError → AsksAt (S.files store.old) (S.last_failure store.new) file.now (IsBefore (listing_at (map (λ n. n.items) names.now.keys) at)) }
+    ensures before { IsErrOf result FileError → RequestsOffset (S.files store.old) (S.last_failure store.new) file.now (IsOffsetInPart (unplaced_entry_at (map (λ n. n.items) names.now.keys) at)) }
     ensures end { IfOk result (λ x. (at < x.1) × (x.1 ≤ file_limit)) }
     ensures new { IfOk result (λ x. is_among (map (λ n. n.items) names.now.keys) x.0.name ≡ false) }
 {
@@ -151,7 +151,7 @@ fn read_listing<S: Store>(
 /// Reads the number of members after the head. Rejects a file without the head of a library.
 fn read_count<S: Store>(store: &mut S, file: &str) -> Result<u32, LibraryFault>
     ensures read { IfSome (S.files store.old) (λ m. Refines is_system_error (λ n. n) result (in_file (map.get m file.now) count_at)) }
-    ensures bytes { IfSome (S.files store.old) (λ m. HoldsBytes (map.get m file.now) result) }
+    ensures bytes { IfSome (S.files store.old) (λ m. HasOnlyBytes (map.get m file.now) result) }
     ensures frame { StoreFrame S.files S.failures S.last_failure FileError file.now store.old store.new result }
     ensures within { IsErrOf result FileError → FailedWithin (S.last_failure store.new) file.now 0 8 }
     ensures at_last_count { FailsAtLastCount is_system_error (S.failures store.old) result }
@@ -164,16 +164,16 @@ fn read_count<S: Store>(store: &mut S, file: &str) -> Result<u32, LibraryFault>
     read_number(store, file, 5)
 }
 
-/// Reads what is said of all members, and answers where that ends.
-fn read_list<S: Store>(
+/// Reads the head and the entries of all members. Returns the offset after them.
+fn read_entries<S: Store>(
     alloc: Global,
     store: &mut S,
     file: &str,
 ) -> Result<(Vec<UnplacedEntry>, u64), LibraryFault>
-    ensures read { IfSome (S.files store.old) (λ m. Refines is_system_error (λ x. (x.0.items, x.1)) result (in_file (map.get m file.now) list_at)) }
-    ensures bytes { IfSome (S.files store.old) (λ m. HoldsBytes (map.get m file.now) result) }
+    ensures read { IfSome (S.files store.old) (λ m. Refines is_system_error (λ x. (x.0.items, x.1)) result (in_file (map.get m file.now) member_entries_at)) }
+    ensures bytes { IfSome (S.files store.old) (λ m. HasOnlyBytes (map.get m file.now) result) }
     ensures frame { StoreFrame S.files S.failures S.last_failure FileError file.now store.old store.new result }
-    ensures before { IsErrOf result FileError → AsksAt (S.files store.old) (S.last_failure store.new) file.now (IsBefore list_at) }
+    ensures before { IsErrOf result FileError → RequestsOffset (S.files store.old) (S.last_failure store.new) file.now (IsOffsetInPart member_entries_at) }
     ensures at_last_count { FailsAtLastCount is_system_error (S.failures store.old) result }
     ensures end { IfOk result (λ x. (0 < x.1) × (x.1 ≤ file_limit)) }
 {
@@ -182,7 +182,7 @@ fn read_list<S: Store>(
     let mut members = Vec::new(alloc);
     let mut end = 9;
     for _ in 0..count {
-        let (member, next) = read_listing(alloc, store, file, end, &names)?;
+        let (member, next) = read_entry(alloc, store, file, end, &names)?;
         let name = Vec::from_slice(alloc, member.name.as_slice())?;
         names.insert(name)?;
         members.push(member)?;
@@ -228,18 +228,18 @@ fn place_members(
     Ok((entries, end))
 }
 
-/// Reads the index of a library: of its members no byte but the last, to see where the file ends.
+/// Reads the index of a library. Of the members' bytes only the last is read, to check the file size.
 #[tactic(auto, unfolding(crate::specs::Reading::index_at))]
 pub fn read_index<S: Store>(alloc: Global, store: &mut S, file: &str) -> Result<Index, LibraryFault>
     ensures read { IfSome (S.files store.old) (λ m. Refines is_system_error (λ x. x.entries) result (in_file (map.get m file.now) index_at)) }
-    ensures bytes { IfSome (S.files store.old) (λ m. HoldsBytes (map.get m file.now) result) }
+    ensures bytes { IfSome (S.files store.old) (λ m. HasOnlyBytes (map.get m file.now) result) }
     ensures frame { StoreFrame S.files S.failures S.last_failure FileError file.now store.old store.new result }
-    ensures before { IsErrOf result FileError → AsksAt (S.files store.old) (S.last_failure store.new) file.now IsIndexPlace }
+    ensures before { IsErrOf result FileError → RequestsOffset (S.files store.old) (S.last_failure store.new) file.now IsIndexOffset }
     ensures at_last_count { FailsAtLastCount is_system_error (S.failures store.old) result }
-    // Also where the store doesn't tell.
+    // Holds even if the store's files aren't known.
     ensures within { IfOk result (λ x. AllByRecursion (λ e. e.place + e.size ≤ file_limit) x.entries) }
 {
-    let (members, at) = read_list(alloc, store, file)?;
+    let (members, at) = read_entries(alloc, store, file)?;
     let (entries, end) = place_members(alloc, members, at)?;
     let mut last = [0u8; 2];
     let n = read_full(store, file, end - 1, &mut last)?;

@@ -1,20 +1,20 @@
-//! A whole library, read from a file.
+//! Reads a whole library from a file.
 
 ghost use Rattle.std.specs.Prelude.{◌≡◌, ◌≤◌, ◌+◌, ◌++◌, [], length, drop, take, Ok, OnOk, IsErrOf, IfSome, IfOk};
 ghost use Rattle.std.specs.FinMap as map;
 ghost use Rattle.std.specs.List.{AllByRecursion};
 ghost use Rattle.base65.specs.Outcome.{Refines};
 ghost use Rattle.base65.specs.Reading.{ReadsChunk};
-ghost use Rattle.base65.specs.Store.{FailsAtLastCount, HoldsBytes};
+ghost use Rattle.base65.specs.Store.{FailsAtLastCount, HasOnlyBytes};
 ghost use Rattle.object65.specs.Reading.{StoreFrame, file_limit};
 ghost use Rattle.library65.specs.Fault.{is_memory, is_system_error};
-ghost use Rattle.library65.specs.Libraries.{with_entry, indexed_contents, member_contents, with_library_entry, library_at, piece_at, IsWellFormedMember, members_of};
+ghost use Rattle.library65.specs.Libraries.{with_entry, indexed_contents, member_contents, with_library_entry, library_at, member_bytes_at, LibraryInvariant, members_of};
 ghost use Rattle.library65.specs.Reading.{in_file};
-ghost use Rattle.library65.specs.Spelling.{AreSymbols};
+ghost use Rattle.library65.specs.Spelling.{HasValidSymbols};
 ghost use Rattle.library65.specs.declared.fault.LibraryFault.TheVariants.{FileError};
 
-use crate::contents::{ReadBuffers, agrees, check_member};
-use crate::library::{Stored, put_member};
+use crate::contents::{ReadBuffers, check_member, has_entry_names};
+use crate::library::{StoredMember, insert_member};
 use crate::{Entry, LibraryFault, read_index};
 use base65::{Seed, Store, StoreFault, read_full};
 use indexmap::IndexMap;
@@ -22,16 +22,16 @@ use std::alloc::Global;
 
 const CHUNK: usize = 4096;
 
-/// The members that were read so far, and the rooms that the bytes and the records of each are read into.
+/// The members that were read so far, and the buffers for the bytes and records of the next one.
 #[derive(Drop)]
-struct Loading {
+struct LibraryLoader {
     alloc: Global,
-    members: IndexMap<Vec<u8>, Stored, Seed>,
-    space: ReadBuffers,
+    members: IndexMap<Vec<u8>, StoredMember, Seed>,
+    buffers: ReadBuffers,
     chunk: [u8; CHUNK],
 }
 
-/// Adds what a file has from a place on, at most as many bytes as the chunk takes, and answers how many there were.
+/// Appends the bytes of a file from an offset on, at most the chunk's length. Returns how many there were.
 fn read_chunk<S: Store>(
     store: &mut S,
     file: &str,
@@ -50,8 +50,8 @@ fn read_chunk<S: Store>(
     Ok(n)
 }
 
-/// Reads the bytes of a member. Memory grows only by what was read.
-fn read_piece<S: Store>(
+/// Reads the bytes of a member. Allocates memory only for bytes that were read.
+fn read_member_bytes<S: Store>(
     alloc: Global,
     store: &mut S,
     file: &str,
@@ -59,7 +59,7 @@ fn read_piece<S: Store>(
     chunk: &mut [u8; CHUNK],
 ) -> Result<Vec<u8>, LibraryFault>
     requires { entry.now.place + entry.now.size ≤ file_limit }
-    ensures read { IfSome (S.files store.old) (λ m. Refines is_system_error (λ v. v.items) result (in_file (map.get m file.now) (piece_at entry.now.size entry.now.place))) }
+    ensures read { IfSome (S.files store.old) (λ m. Refines is_system_error (λ v. v.items) result (in_file (map.get m file.now) (member_bytes_at entry.now.size entry.now.place))) }
     ensures frame { StoreFrame S.files S.failures S.last_failure FileError file.now store.old store.new result }
 {
     let size = entry.size as usize;
@@ -84,29 +84,29 @@ fn read_piece<S: Store>(
     Ok(bytes)
 }
 
-/// Reads the member of an entry and puts it in, where the entry has the names that its object has.
+/// Reads the member of an entry and inserts it. Rejects an entry whose names aren't those of its object.
 #[tactic(auto, unfolding(crate::specs::Libraries::with_library_entry, crate::specs::Libraries::indexed_contents))]
-fn join_member<S: Store>(
+fn load_member<S: Store>(
     store: &mut S,
     file: &str,
-    loading: &mut Loading,
+    loader: &mut LibraryLoader,
     entry: &Entry,
 ) -> Result<(), LibraryFault>
-    requires sound { IsWellFormedMember loading.old.members }
+    requires sound { LibraryInvariant loader.old.members }
     requires within { entry.now.place + entry.now.size ≤ file_limit }
-    ensures read { IfSome (S.files store.old) (λ m. Refines is_system_error (λ _. members_of loading.new.members) result (in_file (map.get m file.now) (with_library_entry (members_of loading.old.members) entry.now))) }
+    ensures read { IfSome (S.files store.old) (λ m. Refines is_system_error (λ _. members_of loader.new.members) result (in_file (map.get m file.now) (with_library_entry (members_of loader.old.members) entry.now))) }
     ensures frame { StoreFrame S.files S.failures S.last_failure FileError file.now store.old store.new result }
-    ensures sound { OnOk result (IsWellFormedMember loading.new.members) }
+    ensures sound { OnOk result (LibraryInvariant loader.new.members) }
 {
-    let alloc = loading.alloc;
-    let bytes = read_piece(alloc, store, file, entry, &mut loading.chunk)?;
+    let alloc = loader.alloc;
+    let bytes = read_member_bytes(alloc, store, file, entry, &mut loader.chunk)?;
     let name = entry.name.as_slice();
-    let contents = check_member(alloc, &mut loading.space, name, bytes.as_slice())?;
-    if !agrees(entry, &contents) {
+    let contents = check_member(alloc, &mut loader.buffers, name, bytes.as_slice())?;
+    if !has_entry_names(entry, &contents) {
         return Err(LibraryFault::IndexDisagrees);
     }
     let name = Vec::from_slice(alloc, name)?;
-    put_member(&mut loading.members, name, Stored { bytes, contents })?;
+    insert_member(&mut loader.members, name, StoredMember { bytes, contents })?;
     Ok(())
 }
 
@@ -115,28 +115,28 @@ pub fn read_members<S: Store>(
     alloc: Global,
     store: &mut S,
     file: &str,
-) -> Result<IndexMap<Vec<u8>, Stored, Seed>, LibraryFault>
+) -> Result<IndexMap<Vec<u8>, StoredMember, Seed>, LibraryFault>
     ensures read { IfSome (S.files store.old) (λ m. Refines is_system_error (λ ms. members_of ms) result (in_file (map.get m file.now) library_at)) }
-    ensures bytes { IfSome (S.files store.old) (λ m. HoldsBytes (map.get m file.now) result) }
+    ensures bytes { IfSome (S.files store.old) (λ m. HasOnlyBytes (map.get m file.now) result) }
     ensures frame { StoreFrame S.files S.failures S.last_failure FileError file.now store.old store.new result }
     ensures at_last_count { FailsAtLastCount is_system_error (S.failures store.old) result }
-    ensures sound { IfOk result (λ ms. IsWellFormedMember ms) }
+    ensures sound { IfOk result (λ ms. LibraryInvariant ms) }
 {
     let index = read_index(alloc, store, file)?;
-    let mut loading = Loading {
+    let mut loader = LibraryLoader {
         alloc,
         members: IndexMap::with_hasher(alloc, store.seed()),
-        space: ReadBuffers::of(store.seed()),
+        buffers: ReadBuffers::of(store.seed()),
         chunk: [0u8; CHUNK],
     };
     for entry in index.entries.as_slice() {
-        join_member(store, file, &mut loading, entry)?;
+        load_member(store, file, &mut loader, entry)?;
     }
-    let Loading {
+    let LibraryLoader {
         alloc: _,
         members,
-        space: _,
+        buffers: _,
         chunk: _,
-    } = loading;
+    } = loader;
     Ok(members)
 }

@@ -1,20 +1,20 @@
-//! Libraries as bytes.
+//! Writes a library as bytes.
 
 ghost use Rattle.std.specs.Prelude.{◌≡◌, ◌≤◌, ◌<◌, ◌+◌, ◌++◌, ◌^◌, length, map, true, IfOk, IfErr, OnOk};
 ghost use Rattle.std.specs.List.{flat_map, list_all};
 ghost use Rattle.byteorder.specs.Endian.{little_bytes};
-ghost use Rattle.library65.specs.Libraries.{library_bytes, member_listing, IsWellFormedMember, members_of};
-ghost use Rattle.library65.specs.Spelling.{is_name, listing_bytes, name_bytes, names_bytes, AreSymbols, AppendsBytes};
+ghost use Rattle.library65.specs.Libraries.{library_bytes, member_entry_bytes, LibraryInvariant, members_of};
+ghost use Rattle.library65.specs.Spelling.{is_name, index_entry_bytes, name_bytes, names_bytes, HasValidSymbols, AppendsBytes};
 
 use crate::LibraryFault;
 use crate::indexing::MAGIC;
-use crate::library::Stored;
+use crate::library::StoredMember;
 use base65::{ListVec, Seed};
 use byteorder::{ByteOrder, LittleEndian};
 use indexmap::IndexMap;
 use std::alloc::AllocError;
 
-/// A count as it is written.
+/// Returns a length as a number of 32 bits, if it fits.
 fn count_of(len: usize) -> Result<u32, LibraryFault>
     ensures ok { IfOk result (λ n. n ≡ len) }
     ensures err { IfErr result (λ e. (e ≡ LibraryFault.BadIndex) × (2 ^ 32 ≤ len)) }
@@ -25,8 +25,8 @@ fn count_of(len: usize) -> Result<u32, LibraryFault>
     Ok(len as u32)
 }
 
-/// Adds a number of four bytes.
-fn put_number(out: &mut Vec<u8>, number: u32) -> Result<(), AllocError>
+/// Appends a number as four bytes, the low byte first.
+fn encode_number(out: &mut Vec<u8>, number: u32) -> Result<(), AllocError>
     ensures { OnOk result (out.new.items ≡ out.old.items ++ little_bytes 4 number) }
 {
     let mut bytes = [0u8; 4];
@@ -36,7 +36,7 @@ fn put_number(out: &mut Vec<u8>, number: u32) -> Result<(), AllocError>
 }
 
 /// Appends the length of a name, and the name.
-fn put_name(out: &mut Vec<u8>, name: &[u8]) -> Result<(), AllocError>
+fn encode_name(out: &mut Vec<u8>, name: &[u8]) -> Result<(), AllocError>
     requires { length name.now < 256 }
     ensures { OnOk result (out.new.items ≡ out.old.items ++ name_bytes name.now) }
 {
@@ -46,57 +46,57 @@ fn put_name(out: &mut Vec<u8>, name: &[u8]) -> Result<(), AllocError>
 }
 
 /// Appends the number of names and, for each, its length and its bytes.
-fn put_names(out: &mut Vec<u8>, names: &[ListVec<u8>]) -> Result<(), LibraryFault>
+fn encode_names(out: &mut Vec<u8>, names: &[ListVec<u8>]) -> Result<(), LibraryFault>
     requires { list_all is_name names.now ≡ true }
     ensures { AppendsBytes (names_bytes names.now) (length (names_bytes names.now)) out.old.items out.new.items result }
 {
     let count = count_of(names.len())?;
-    put_number(out, count)?;
+    encode_number(out, count)?;
     for name in names {
-        put_name(out, name.as_slice())?;
+        encode_name(out, name.as_slice())?;
     }
     Ok(())
 }
 
-/// Adds what the index says of a member.
-fn put_listing(out: &mut Vec<u8>, name: &[u8], stored: &Stored) -> Result<(), LibraryFault>
+/// Appends the index entry of a member.
+fn encode_entry(out: &mut Vec<u8>, name: &[u8], stored: &StoredMember) -> Result<(), LibraryFault>
     requires name { length name.now < 256 }
-    requires symbols { AreSymbols stored.now.contents }
-    ensures { AppendsBytes (listing_bytes name.now (length stored.now.bytes.items) stored.now.contents.exports stored.now.contents.imports) (length (listing_bytes name.now (length stored.now.bytes.items) stored.now.contents.exports stored.now.contents.imports) + length stored.now.bytes.items) out.old.items out.new.items result }
+    requires symbols { HasValidSymbols stored.now.contents }
+    ensures { AppendsBytes (index_entry_bytes name.now (length stored.now.bytes.items) stored.now.contents.exports stored.now.contents.imports) (length (index_entry_bytes name.now (length stored.now.bytes.items) stored.now.contents.exports stored.now.contents.imports) + length stored.now.bytes.items) out.old.items out.new.items result }
 {
     let size = count_of(stored.bytes.len())?;
-    put_name(out, name)?;
-    put_number(out, size)?;
-    put_names(out, stored.contents.exports.as_slice())?;
-    put_names(out, stored.contents.imports.as_slice())
+    encode_name(out, name)?;
+    encode_number(out, size)?;
+    encode_names(out, stored.contents.exports.as_slice())?;
+    encode_names(out, stored.contents.imports.as_slice())
 }
 
-/// Adds what the index says of the members.
-fn put_listings(
+/// Appends the index entries of the members.
+fn encode_entries(
     out: &mut Vec<u8>,
-    members: &IndexMap<Vec<u8>, Stored, Seed>,
+    members: &IndexMap<Vec<u8>, StoredMember, Seed>,
 ) -> Result<(), LibraryFault>
-    requires { IsWellFormedMember members.now }
-    ensures { AppendsBytes (flat_map member_listing (members_of members.now)) (length (flat_map member_listing (members_of members.now)) + length (flat_map (λ m. m.1) (members_of members.now))) out.old.items out.new.items result }
+    requires { LibraryInvariant members.now }
+    ensures { AppendsBytes (flat_map member_entry_bytes (members_of members.now)) (length (flat_map member_entry_bytes (members_of members.now)) + length (flat_map (λ m. m.1) (members_of members.now))) out.old.items out.new.items result }
 {
     for (name, stored) in members.iter() {
-        put_listing(out, name.as_slice(), stored)?;
+        encode_entry(out, name.as_slice(), stored)?;
     }
     Ok(())
 }
 
-/// Adds the bytes of a library of these members.
-pub fn put_library(
+/// Appends the bytes of a library of these members.
+pub fn encode_library(
     out: &mut Vec<u8>,
-    members: &IndexMap<Vec<u8>, Stored, Seed>,
+    members: &IndexMap<Vec<u8>, StoredMember, Seed>,
 ) -> Result<(), LibraryFault>
-    requires { IsWellFormedMember members.now }
+    requires { LibraryInvariant members.now }
     ensures { AppendsBytes (library_bytes (members_of members.now)) (length (library_bytes (members_of members.now))) out.old.items out.new.items result }
 {
     let count = count_of(members.len())?;
     out.extend_from_slice(&MAGIC)?;
-    put_number(out, count)?;
-    put_listings(out, members)?;
+    encode_number(out, count)?;
+    encode_entries(out, members)?;
     for stored in members.values() {
         out.extend_from_slice(&stored.bytes)?;
     }

@@ -4,12 +4,12 @@ use Rattle.std.proofs.Common.{◌≡◌, ◌∙◌, ℕ, ◌+◌, ◌<◌, ◌�
 use Rattle.std.specs.Prelude.{◌&&◌, ◌==◌, filter, if◌then◌else◌, nat_le, nat_lt, not, IsUtf8, ◌||◌, slice_set}
 use Rattle.std.proofs.lemmas.Bool.Decides.{nat_tests}
 use Rattle.std.proofs.lemmas.List.{drop_all, map-append}
-use Rattle.script65.proofs.Eaches.{drop_item, drop_at}
+use Rattle.script65.proofs.ListLemmas.{drop_item, drop_at}
 use Rattle.script65.specs.declared.placement.AreaPlacement.{AreaPlacement}
 use Rattle.script65.specs.declared.script.MemoryArea.{MemoryArea}
 use Rattle.link65.specs.declared.files.RowImage.{RowImage}
-use Rattle.link65.specs.Files.{IsFileBy, IsImage, RowPiece, PlacedRow, RowBytes, area_pieces, byte_over, file_len, laid_over, offset_of, is_loaded, loaded_in, written_row_bytes, AddsArea, AddsAreas, IsAreaFile, area_at, file_name, with_bytes}
-use Rattle.link65.specs.Internal.Loads.{IsWhole, LaysAll, OverlaysBytes, PlacedBytes, IsFileOf, has_bytes, held_by, piece_at, placed_in, view, HoldsLoads}
+use Rattle.link65.specs.Files.{IsFileBy, IsImage, RowPiece, PlacedRow, RowBytes, area_pieces, image_byte, file_len, overlaid_byte, offset_of, is_loaded, loaded_in, written_row_bytes, AddsArea, AddsAreas, IsAreaFile, area_at, file_name, with_bytes}
+use Rattle.link65.specs.Internal.Loads.{IsSinglePiece, OverlaysPieces, OverlaysBytes, PlacedBytes, IsFileOf, has_bytes, placed_bytes_of, piece_at, placed_row_of, view, HasRowImages}
 use Rattle.std.specs.Option.{option_map}
 use Rattle.std.proofs.lemmas.Option.{slice_get_cases}
 use Rattle.script65.specs.declared.placement.RowPlacement.{RowPlacement}
@@ -19,7 +19,7 @@ use Rattle.std.specs.List.{list_any, position_or_len}
 use Rattle.std.specs.Str.{bytes_eq}
 use Rattle.std.proofs.lemmas.Str.{is_utf8-from_IsUtf8}
 use Rattle.base65.proofs.Texts.{not_utf8}
-use Rattle.script65.proofs.Walks.{there}
+use Rattle.script65.proofs.AreaLemmas.{there}
 use Rattle.script65.specs.declared.placement.Placement.{Placement}
 use Rattle.script65.specs.declared.script.AreaOutput.{AreaOutput}
 use Rattle.script65.specs.declared.script.AreaOutput.TheVariants.{Named}
@@ -27,64 +27,64 @@ use Rattle.base65.specs.declared.output.OutputFile.{OutputFile}
 
 -- ---- Pieces over pieces.
 
-pub laid_none : (image : List ℕ) → LaysAll [] image image
+pub laid_none : (image : List ℕ) → OverlaysPieces [] image image
 laid_none image = record { len = refl; each = λ i inside. refl }
 
 -- the pieces of rows in the file of an area that begins here
 abbrev pub pieces_in : ℕ → List RowImage → List RowPiece
 pieces_in start ls = map (piece_at start) (map view ls)
 
-pub next_row : (start offset : ℕ) (ls : List RowImage) (i : ℕ) (l : RowImage) (bytes mid image new : List ℕ) → i < length ls → l ≡ get_or ls i l → offset ≡ offset_of start (placed_in l) → bytes ≡ l.bytes → OverlaysBytes mid offset bytes image → LaysAll (pieces_in start (drop (i + 1) ls)) image new → LaysAll (pieces_in start (drop i ls)) mid new
+pub next_row : (start offset : ℕ) (ls : List RowImage) (i : ℕ) (l : RowImage) (bytes mid image new : List ℕ) → i < length ls → l ≡ get_or ls i l → offset ≡ offset_of start (placed_row_of l) → bytes ≡ l.bytes → OverlaysBytes mid offset bytes image → OverlaysPieces (pieces_in start (drop (i + 1) ls)) image new → OverlaysPieces (pieces_in start (drop i ls)) mid new
 next_row start offset ls i l bytes mid image new lt is at same laid rest = grind (arith, common_steps)
 
-pub no_row : (start : ℕ) (ls : List RowImage) (i : ℕ) (image : List ℕ) → length ls ≤ i → LaysAll (pieces_in start (drop i ls)) image image
-no_row start ls i image le = subst (λ (xs : List RowImage). LaysAll (pieces_in start xs) image image) (sym (drop_all i ls le)) (laid_none image)
+pub no_row : (start : ℕ) (ls : List RowImage) (i : ℕ) (image : List ℕ) → length ls ≤ i → OverlaysPieces (pieces_in start (drop i ls)) image image
+no_row start ls i image le = subst (λ (xs : List RowImage). OverlaysPieces (pieces_in start xs) image image) (sym (drop_all i ls le)) (laid_none image)
 
 -- ---- A file that is one row.
 
 inside : (i at len : ℕ) → at ≡ 0 → i < len → (nat_le at i && nat_lt i (at + len)) ≡ true
 inside i at len e lt = grind (arith, nat_tests)
 
-pub whole_image : (len fill : ℕ) (pieces : List RowPiece) (image : List ℕ) (w : IsWhole len pieces) → image ≡ (w.0).bytes → IsImage len fill pieces image
+pub whole_image : (len fill : ℕ) (pieces : List RowPiece) (image : List ℕ) (w : IsSinglePiece len pieces) → image ≡ (w.0).bytes → IsImage len fill pieces image
 whole_image len fill pieces image x same = grind (arith, common_steps)
 
-pub first_bytes : (len start : ℕ) (ls : List RowImage) (l : RowImage) (w : IsWhole len (pieces_in start ls)) → l ≡ get_or ls 0 l → l.bytes ≡ (w.0).bytes
+pub first_bytes : (len start : ℕ) (ls : List RowImage) (l : RowImage) (w : IsSinglePiece len (pieces_in start ls)) → l ≡ get_or ls 0 l → l.bytes ≡ (w.0).bytes
 first_bytes len start x l y e = grind (arith, common_steps)
 
-pub one_row : (len start : ℕ) (ls : List RowImage) (l : RowImage) → 1 ≤ length ls → length ls < 2 → l ≡ get_or ls 0 l → l.placement.load ≤ start → length l.bytes ≡ len → IsWhole len (pieces_in start ls)
+pub one_row : (len start : ℕ) (ls : List RowImage) (l : RowImage) → 1 ≤ length ls → length ls < 2 → l ≡ get_or ls 0 l → l.placement.load ≤ start → length l.bytes ≡ len → IsSinglePiece len (pieces_in start ls)
 one_row len start [] l some few is le long = absurd (omega arith)
 one_row len start (x ∷ y ∷ ls) l some few is le long = absurd (omega arith)
 one_row len start (x ∷ []) l some few is le long = (piece_at start (view l), ap (λ (z : RowImage). piece_at start (view z) ∷ []) (sym is), omega arith, long)
 
-placed_all : (ls : List RowImage) → map (λ h. h.0) (map view ls) ≡ map placed_in ls
+placed_all : (ls : List RowImage) → map (λ h. h.0) (map view ls) ≡ map placed_row_of ls
 placed_all [] = refl
-placed_all (l ∷ ls) = ap (λ ps. placed_in l ∷ ps) (placed_all ls)
+placed_all (l ∷ ls) = ap (λ ps. placed_row_of l ∷ ps) (placed_all ls)
 
 -- ---- Rows without bytes.
 
-none_laid : (i at : ℕ) (bytes : List ℕ) (before : ℕ) → not (length bytes == 0) ≡ false → laid_over i at bytes before ≡ before
+none_laid : (i at : ℕ) (bytes : List ℕ) (before : ℕ) → not (length bytes == 0) ≡ false → overlaid_byte i at bytes before ≡ before
 none_laid i at x before e = grind (arith, common_steps)
 
-full_over : (start : ℕ) (ls : List RowImage) (i before : ℕ) → byte_over (pieces_in start (filter has_bytes ls)) i before ≡ byte_over (pieces_in start ls) i before
+full_over : (start : ℕ) (ls : List RowImage) (i before : ℕ) → image_byte (pieces_in start (filter has_bytes ls)) i before ≡ image_byte (pieces_in start ls) i before
 full_over start [] i before = refl
 full_over start (l ∷ ls) i before = grind (arith, common_steps, (full_over start ls i), none_laid)
 
 -- the file of an area's rows, by its length and those that have bytes
-pub file_of : (a : MemoryArea) (placement : AreaPlacement) (ls items : List RowImage) (len : ℕ) (image : List ℕ) → items ≡ filter has_bytes ls → len ≡ file_len a placement (map placed_in ls) → IsImage len a.fill_value (pieces_in placement.start items) image → IsFileOf a placement (map view ls) image
+pub file_of : (a : MemoryArea) (placement : AreaPlacement) (ls items : List RowImage) (len : ℕ) (image : List ℕ) → items ≡ filter has_bytes ls → len ≡ file_len a placement (map placed_row_of ls) → IsImage len a.fill_value (pieces_in placement.start items) image → IsFileOf a placement (map view ls) image
 file_of a placement ls items len image are long file = grind (arith, common_steps, there, full_over, placed_all)
 
 -- ---- By what rows hold.
 
-firsts : (bytes : RowBytes) (ps : List PlacedRow) → map (λ h. h.0) (map (held_by bytes) ps) ≡ ps
+firsts : (bytes : RowBytes) (ps : List PlacedRow) → map (λ h. h.0) (map (placed_bytes_of bytes) ps) ≡ ps
 firsts bytes [] = refl
 firsts bytes (p ∷ ps) = ap (λ qs. p ∷ qs) (firsts bytes ps)
 
-all_pieces : (start : ℕ) (bytes : RowBytes) (ps : List PlacedRow) → map (piece_at start) (map (held_by bytes) ps) ≡ area_pieces start bytes ps
+all_pieces : (start : ℕ) (bytes : RowBytes) (ps : List PlacedRow) → map (piece_at start) (map (placed_bytes_of bytes) ps) ≡ area_pieces start bytes ps
 all_pieces start bytes [] = refl
 all_pieces start bytes (p ∷ ps) = ap (λ qs. record { offset = offset_of start p; bytes = bytes p.row } ∷ qs) (all_pieces start bytes ps)
 
 -- the file of rows with their bytes is that of the rows
-pub file_by : (bytes : RowBytes) (a : MemoryArea) (placement : AreaPlacement) (hs : List PlacedBytes) (ps : List PlacedRow) (image : List ℕ) → hs ≡ map (held_by bytes) ps → IsFileOf a placement hs image → IsFileBy bytes a placement ps image
+pub file_by : (bytes : RowBytes) (a : MemoryArea) (placement : AreaPlacement) (hs : List PlacedBytes) (ps : List PlacedRow) (image : List ℕ) → hs ≡ map (placed_bytes_of bytes) ps → IsFileOf a placement hs image → IsFileBy bytes a placement ps image
 file_by bytes a placement hs ps image are file = grind (arith, common_steps, firsts, all_pieces)
 
 -- ---- The rows of each area's file.
@@ -106,7 +106,7 @@ own_bytes bytes k r e = grind (arith, common_steps)
 
 -- the rows of an area's file among some, with their bytes
 abbrev held_in : RowBytes → ℕ → List SegmentRow → List RowPlacement → List PlacedBytes
-held_in bytes k rows placements = map (held_by bytes) (loaded_in k rows placements)
+held_in bytes k rows placements = map (placed_bytes_of bytes) (loaded_in k rows placements)
 
 -- what the rows so far and the rest are
 abbrev pub Collects : RowBytes → ℕ → List SegmentRow → List RowPlacement → ℕ → Option (List RowImage) → Type 0
@@ -123,21 +123,21 @@ module _ (bytes : RowBytes) (k : ℕ) (rows : List SegmentRow) (placements : Lis
       rest : List PlacedRow
       rest = loaded_in k (drop (i + 1) rows) (drop (i + 1) placements)
 
-      mine : is_loaded k l.row.now ≡ true → view l ≡ held_by bytes (placed_in l)
-      mine is = ap (λ (b : List ℕ). (placed_in l, b)) (own ∙ own_bytes bytes k l.row.now is)
+      mine : is_loaded k l.row.now ≡ true → view l ≡ placed_bytes_of bytes (placed_row_of l)
+      mine is = ap (λ (b : List ℕ). (placed_row_of l, b)) (own ∙ own_bytes bytes k l.row.now is)
 
-      front : map view h.0 ++ map (held_by bytes) (loaded_in k (l.row.now ∷ drop (i + 1) rows) (l.placement ∷ drop (i + 1) placements)) ≡ map view h.0 ++ held_in bytes k (drop i rows) (drop i placements)
-      front = ap (λ rs. map view h.0 ++ map (held_by bytes) (loaded_in k rs (l.placement ∷ drop (i + 1) placements))) (sym (drop_item rows i l.row.now lt at)) ∙ ap (λ ps. map view h.0 ++ map (held_by bytes) (loaded_in k (drop i rows) ps)) (sym (rw add-one (drop_at placements i l.placement there)))
+      front : map view h.0 ++ map (placed_bytes_of bytes) (loaded_in k (l.row.now ∷ drop (i + 1) rows) (l.placement ∷ drop (i + 1) placements)) ≡ map view h.0 ++ held_in bytes k (drop i rows) (drop i placements)
+      front = ap (λ rs. map view h.0 ++ map (placed_bytes_of bytes) (loaded_in k rs (l.placement ∷ drop (i + 1) placements))) (sym (drop_item rows i l.row.now lt at)) ∙ ap (λ ps. map view h.0 ++ map (placed_bytes_of bytes) (loaded_in k (drop i rows) ps)) (sym (rw add-one (drop_at placements i l.placement there)))
 
-      by : (b : Bool) → (b ≡ true → view l ≡ held_by bytes (placed_in l)) → map view h.0 ++ map (held_by bytes) (if b then placed_in l ∷ rest else rest) ≡ held_in bytes k rows placements → map view (with_if b l h.0) ++ map (held_by bytes) rest ≡ held_in bytes k rows placements
-      by true same t = ap (λ m. m ++ map (held_by bytes) rest) (map-append view h.0 (l ∷ [])) ∙ append_assoc (map view h.0) (view l ∷ []) (map (held_by bytes) rest) ∙ ap (λ x. map view h.0 ++ x ∷ map (held_by bytes) rest) (same refl) ∙ t
+      by : (b : Bool) → (b ≡ true → view l ≡ placed_bytes_of bytes (placed_row_of l)) → map view h.0 ++ map (placed_bytes_of bytes) (if b then placed_row_of l ∷ rest else rest) ≡ held_in bytes k rows placements → map view (with_if b l h.0) ++ map (placed_bytes_of bytes) rest ≡ held_in bytes k rows placements
+      by true same t = ap (λ m. m ++ map (placed_bytes_of bytes) rest) (map-append view h.0 (l ∷ [])) ∙ append_assoc (map view h.0) (view l ∷ []) (map (placed_bytes_of bytes) rest) ∙ ap (λ x. map view h.0 ++ x ∷ map (placed_bytes_of bytes) rest) (same refl) ∙ t
       by false same t = t
 
   -- a row without a placement
   pub collects_past : (i : ℕ) (o : Option (List RowImage)) → slice_get placements i ≡ None → Collects bytes k rows placements i o → Collects bytes k rows placements (i + 1) o
   collects_past i o past h = grind (arith, common_steps, none_past, drop_all, loaded_none)
 
-  pub collects_all : (i : ℕ) (o : Option (List RowImage)) → length rows ≤ i → Collects bytes k rows placements i o → HoldsLoads bytes k rows placements o
+  pub collects_all : (i : ℕ) (o : Option (List RowImage)) → length rows ≤ i → Collects bytes k rows placements i o → HasRowImages bytes k rows placements o
   collects_all i o le h = grind (arith, common_steps)
 
 -- the bytes of a row, by what was taken of all at its place
@@ -233,11 +233,11 @@ module _ (output : List ℕ) (bytes : RowBytes) (rows : List SegmentRow) (p : Pl
   abbrev Adds : ℕ → List MemoryArea → List OutputFile → List OutputFile → Type 0
   Adds = AddsAreas output (IsAreaFile rows p bytes)
 
-  by_rows : (b : Bool) (name : List ℕ) (a : MemoryArea) (placement : AreaPlacement) (hs : List PlacedBytes) (ps : List PlacedRow) (before after : List OutputFile) → hs ≡ map (held_by bytes) ps → AddsArea b name (IsFileOf a placement hs) before after → AddsArea b name (IsFileBy bytes a placement ps) before after
+  by_rows : (b : Bool) (name : List ℕ) (a : MemoryArea) (placement : AreaPlacement) (hs : List PlacedBytes) (ps : List PlacedRow) (before after : List OutputFile) → hs ≡ map (placed_bytes_of bytes) ps → AddsArea b name (IsFileOf a placement hs) before after → AddsArea b name (IsFileBy bytes a placement ps) before after
   by_rows true name a placement hs ps before after are e = e
   by_rows false name a placement hs ps before after are e = (e.0, file_by bytes a placement hs ps e.0 are e.1, e.2)
 
-  pub next_area : (areas : List MemoryArea) (k : ℕ) (a : MemoryArea) (name : List ℕ) (placement : AreaPlacement) (loads : List PlacedBytes) (before mid after : List OutputFile) → k < length areas → a ≡ get_or areas k a → name ≡ file_name output a.file → placement ≡ area_at p k → loads ≡ map (held_by bytes) (loaded_in k rows p.rows) → AddsArea (length name == 0) name (IsFileOf a placement loads) before mid → Adds (k + 1) (drop (k + 1) areas) mid after → Adds k (drop k areas) before after
+  pub next_area : (areas : List MemoryArea) (k : ℕ) (a : MemoryArea) (name : List ℕ) (placement : AreaPlacement) (loads : List PlacedBytes) (before mid after : List OutputFile) → k < length areas → a ≡ get_or areas k a → name ≡ file_name output a.file → placement ≡ area_at p k → loads ≡ map (placed_bytes_of bytes) (loaded_in k rows p.rows) → AddsArea (length name == 0) name (IsFileOf a placement loads) before mid → Adds (k + 1) (drop (k + 1) areas) mid after → Adds k (drop k areas) before after
   next_area areas k a name placement loads before mid after lt is named stands are adds rest =
       let so = subst (λ (n : List ℕ). AddsArea (length n == 0) n (IsFileOf a placement loads) before mid) named adds in
       let there = subst (λ (q : AreaPlacement). AddsArea (length (file_name output a.file) == 0) (file_name output a.file) (IsFileOf a q loads) before mid) stands so in

@@ -7,7 +7,7 @@ use Rattle.std.specs.List.{AllZip, position_from, flat_map}
 use Rattle.std.specs.Borrow.{Bor}
 use Rattle.std.specs.Str.{bytes_eq}
 use Rattle.std.proofs.lemmas.List.{drop_all}
-use Rattle.script65.proofs.Eaches.{drop_at}
+use Rattle.script65.proofs.ListLemmas.{drop_at}
 use Rattle.std.specs.Option.{option_or}
 use Rattle.std.proofs.lemmas.Option.{slice_get_read}
 use Rattle.indexmap.specs.IndexMap.{IndexMap}
@@ -48,37 +48,37 @@ copied keys old x y h = grind (arith, common_steps, same_names)
 abbrev pub first_from : {X : Type 0} → (X → List ℕ) → List X → ℕ → List ℕ → Option ℕ
 first_from name_of xs i name = position_from (λ x. bytes_eq (name_of x) name) i (drop i xs)
 
-nearer : {A : Type 0} (given : ℕ → A) (b : Bool) (i : ℕ) (o : Option ℕ) (old mid : Option A) → mid ≡ option_or (option_map given o) old → cond b (Some (given i)) mid ≡ option_or (option_map given (cond b (Some i) o)) old
-nearer given true i o old mid e = refl
-nearer given false i o old mid e = e
+nearer : {A : Type 0} (provided : ℕ → A) (b : Bool) (i : ℕ) (o : Option ℕ) (old mid : Option A) → mid ≡ option_or (option_map provided o) old → cond b (Some (provided i)) mid ≡ option_or (option_map provided (cond b (Some i) o)) old
+nearer provided true i o old mid e = refl
+nearer provided false i o old mid e = e
 
-module _ {X A S : Type 0} (name_of : X → List ℕ) (given : ℕ → A) (xs : List X) where
+module _ {X A S : Type 0} (name_of : X → List ℕ) (provided : ℕ → A) (xs : List X) where
   -- the items from a place on are known, and else what was
   abbrev pub AreKnown : ℕ → (List ℕ → Option A) → IndexMap (Bor (List ℕ)) A S → Type 0
-  AreKnown i old new = (name : List ℕ) → provider_found new name ≡ option_or (option_map given (first_from name_of xs i name)) (old name)
+  AreKnown i old new = (name : List ℕ) → provider_found new name ≡ option_or (option_map provided (first_from name_of xs i name)) (old name)
 
   pub known_none : (i : ℕ) (old : List ℕ → Option A) (new : IndexMap (Bor (List ℕ)) A S) → i ≡ length xs → ((name : List ℕ) → provider_found new name ≡ old name) → AreKnown i old new
   known_none i old new all same name =
-      same name ∙ sym (ap (λ l. option_or (option_map given (position_from (λ x. bytes_eq (name_of x) name) i l)) (old name)) (drop_all i xs (omega arith)))
+      same name ∙ sym (ap (λ l. option_or (option_map provided (position_from (λ x. bytes_eq (name_of x) name) i l)) (old name)) (drop_all i xs (omega arith)))
 
   -- one item more, in front of those so far
-  pub known_more : (i : ℕ) (x : X) (n : List ℕ) (v : A) (old : List ℕ → Option A) (mid new : IndexMap (Bor (List ℕ)) A S) → 0 < i → i ≤ length xs → x ≡ get_or xs (i - 1) x → n ≡ name_of x → v ≡ given (i - 1) → ((name : List ℕ) → provider_found new name ≡ cond (bytes_eq n name) (Some v) (provider_found mid name)) → AreKnown i old mid → AreKnown (i - 1) old new
+  pub known_more : (i : ℕ) (x : X) (n : List ℕ) (v : A) (old : List ℕ → Option A) (mid new : IndexMap (Bor (List ℕ)) A S) → 0 < i → i ≤ length xs → x ≡ get_or xs (i - 1) x → n ≡ name_of x → v ≡ provided (i - 1) → ((name : List ℕ) → provider_found new name ≡ cond (bytes_eq n name) (Some v) (provider_found mid name)) → AreKnown i old mid → AreKnown (i - 1) old new
   known_more i x n v old mid new pos le is named same e inv name =
       let next : i - 1 + 1 ≡ i = omega arith in
       let at : slice_get xs (i - 1) ≡ Some x = slice_get_read xs (length xs) (i - 1) x refl (omega arith) is in
       let there : drop (i - 1) xs ≡ x ∷ drop (i - 1 + 1) xs = rw add-one (drop_at xs (i - 1) x at) in
-      let known : List X → Option A = λ l. option_or (option_map given (position_from (λ y. bytes_eq (name_of y) name) (i - 1) l)) (old name) in
+      let known : List X → Option A = λ l. option_or (option_map provided (position_from (λ y. bytes_eq (name_of y) name) (i - 1) l)) (old name) in
       e name
       ∙ ap (λ (m : List ℕ). cond (bytes_eq m name) (Some v) (provider_found mid name)) named
       ∙ ap (λ (w : A). cond (bytes_eq (name_of x) name) (Some w) (provider_found mid name)) same
-      ∙ nearer given (bytes_eq (name_of x) name) (i - 1) (first_from name_of xs (i - 1 + 1) name) (old name) (provider_found mid name) (inv name ∙ sym (ap (λ j. option_or (option_map given (first_from name_of xs j name)) (old name)) next))
+      ∙ nearer provided (bytes_eq (name_of x) name) (i - 1) (first_from name_of xs (i - 1 + 1) name) (old name) (provider_found mid name) (inv name ∙ sym (ap (λ j. option_or (option_map provided (first_from name_of xs j name)) (old name)) next))
       ∙ sym (ap known there)
 
-  pub known_all : (i : ℕ) (old : List ℕ → Option A) (new : IndexMap (Bor (List ℕ)) A S) → i ≡ 0 → AreKnown i old new → (name : List ℕ) → provider_found new name ≡ option_or (option_map given (position_in (map name_of xs) name)) (old name)
+  pub known_all : (i : ℕ) (old : List ℕ → Option A) (new : IndexMap (Bor (List ℕ)) A S) → i ≡ 0 → AreKnown i old new → (name : List ℕ) → provider_found new name ≡ option_or (option_map provided (position_in (map name_of xs) name)) (old name)
   known_all i old new none inv name =
       inv name
-      ∙ ap (λ j. option_or (option_map given (first_from name_of xs j name)) (old name)) none
-      ∙ ap (λ o. option_or (option_map given o) (old name)) (mapped 0 xs)
+      ∙ ap (λ j. option_or (option_map provided (first_from name_of xs j name)) (old name)) none
+      ∙ ap (λ o. option_or (option_map provided o) (old name)) (mapped 0 xs)
     where
       mapped : (i : ℕ) (ys : List X) → position_from (λ x. bytes_eq (name_of x) name) i ys ≡ position_from (λ n. bytes_eq n name) i (map name_of ys)
       mapped i [] = refl

@@ -11,11 +11,11 @@ use Rattle.base65.specs.declared.output.OutputFile.{OutputFile}
 use Rattle.link65.specs.declared.parts.ValueFault.{ValueFault}
 use Rattle.link65.specs.declared.parts.ValueFault.TheVariants.{Unresolved}
 use Rattle.link65.specs.Files.{AddsArea, AddsAreas, IsAreaFile, IsImage, RowPiece, file_name, with_bytes}
-use Rattle.link65.specs.Values.{row_bytes, linkage_of, needs_of, module_bindings, AreExports, Exports, Linkage, exports_through, in_table, linkage}
-use Rattle.link65.specs.Links.{IsFinished, IsImaged, IsPlacedLink, IsProgramLink, LinkOf, check_result, names_once, placement_result, as_placement, no_name_again, none_unresolved}
+use Rattle.link65.specs.Values.{row_bytes, linkage_of, needs_of, module_bindings, AreExports, Exports, Linkage, exports_to_depth, table_exports, linkage}
+use Rattle.link65.specs.Links.{IsEvaluatedLink, IsSuccessfulLink, IsPlacedLink, IsProgramLink, LinkOf, check_result, check_unique_names, placement_result, as_placement, none_duplicate, none_unresolved}
 use Rattle.link65.specs.Texts.{map_text, warnings_of_rows}
 use Rattle.link65.specs.Programs.{Module, Program, program_of}
-use Rattle.link65.proofs.Tries.{exports_grow, settles_once}
+use Rattle.link65.proofs.Attempts.{exports_grow, settles_once}
 use Rattle.std.proofs.lemmas.Grind.{common_steps}
 use Rattle.std.proofs.lemmas.List.{map-append}
 use Rattle.std.proofs.lemmas.List.Folds.{list_any-append}
@@ -28,12 +28,12 @@ use Rattle.script65.specs.Placing.{place_of}
 use Rattle.script65.specs.declared.script.Symbol.{Symbol}
 use Rattle.script65.specs.declared.script.SymbolKind.TheVariants as kind
 use Rattle.link65.specs.declared.parts.ScriptSymbol.{ScriptSymbol}
-use Rattle.link65.specs.declared.parts.Exported.{Exported}
+use Rattle.link65.specs.declared.parts.ModuleExport.{ModuleExport}
 use Rattle.link65.specs.declared.parts.Provider.{Provider}
 use Rattle.link65.specs.declared.parts.LinkedModule.{LinkedModule}
-use Rattle.link65.specs.declared.parts.Resolved.{Resolved}
-use Rattle.link65.specs.Names.{by_definition, defined_at, each_once, first_again, given_names, provider_of, is_among, is_given, references, unresolved_names, script_definitions, symbol_imports, weak_symbols, SameImages, is_used, with_weak}
-use Rattle.link65.specs.Laws.{UnusedWeakLaw, UnusedWeakLinks}
+use Rattle.link65.specs.declared.parts.ModuleBindings.{ModuleBindings}
+use Rattle.link65.specs.Names.{script_provider_or, index_of_definition, distinct_names, first_duplicate, strong_names, provider_of, is_among, is_defined_name, references, unresolved_names, script_definitions, symbol_imports, weak_symbols, HaveSameImages, is_used, with_weak}
+use Rattle.link65.specs.Laws.{UnusedWeakNamePreservesImages, LinkExistsWithUnusedWeakName}
 
 -- ---- A link has one outcome.
 
@@ -63,7 +63,7 @@ areas_once output IsFile once (x ∷ rest) k before a b (m, hm, h) (n, hn, g) =
     let P : List OutputFile → Type 0 = λ z. AddsAreas output IsFile (k + 1) rest z a in
     areas_once output IsFile once rest (k + 1) n a b (subst P same h) g
 
-imaged_once : (output : List ℕ) (s : Script) (p : Program) (placement : Placement) (l : Linkage) (exports : Exports) (warnings : List ℕ) (r q : Result Linked LinkFault) → IsImaged output s p placement l exports warnings r → IsImaged output s p placement l exports warnings q → r ≡ q
+imaged_once : (output : List ℕ) (s : Script) (p : Program) (placement : Placement) (l : Linkage) (exports : Exports) (warnings : List ℕ) (r q : Result Linked LinkFault) → IsSuccessfulLink output s p placement l exports warnings r → IsSuccessfulLink output s p placement l exports warnings q → r ≡ q
 imaged_once output s p placement l exports warnings r q (a, ha, e) (b, hb, f) =
     let same : a ≡ b = areas_once output (IsAreaFile s.rows placement (row_bytes l exports p.segments)) (λ k x i j hi hj. image_once _ _ _ i j hi hj) s.areas 0 [] a b ha hb in
     let made : List OutputFile → Result Linked LinkFault = λ fs. Ok (record { files = fs; warnings = warnings_of_rows s.rows p.segments ++ warnings; map = map_text s p placement l exports }) in
@@ -73,17 +73,17 @@ tables_once : (l : Linkage) (t u : List (Result ℤ ValueFault)) → AreExports 
 tables_once l t u h k =
     same_list t u (Err Unresolved) (h.long ∙ sym k.long)
     (λ x lt. let inside : x < length l.exports = omega (arith, h.long) in
-    settles_once (λ n. exports_through l n x) (in_table t x) (in_table u x) (λ n. exports_grow l n x) (h.each x inside) (k.each x inside))
+    settles_once (λ n. exports_to_depth l n x) (table_exports t x) (table_exports u x) (λ n. exports_grow l n x) (h.each x inside) (k.each x inside))
 
-finished_once : (output : List ℕ) (s : Script) (p : Program) (placement : Placement) (l : Linkage) (exports : Exports) (r q : Result Linked LinkFault) → IsFinished output s p placement l exports r → IsFinished output s p placement l exports q → r ≡ q
+finished_once : (output : List ℕ) (s : Script) (p : Program) (placement : Placement) (l : Linkage) (exports : Exports) (r q : Result Linked LinkFault) → IsEvaluatedLink output s p placement l exports r → IsEvaluatedLink output s p placement l exports q → r ≡ q
 finished_once output s p placement l exports r q h k =
-    first_once (check_result s p l exports) (IsImaged output s p placement l exports) r q (λ w. imaged_once output s p placement l exports w r q) h k
+    first_once (check_result s p l exports) (IsSuccessfulLink output s p placement l exports) r q (λ w. imaged_once output s p placement l exports w r q) h k
 
 placed_once : (output : List ℕ) (s : Script) (p : Program) (placement : Placement) (r q : Result Linked LinkFault) → IsPlacedLink output s p placement r → IsPlacedLink output s p placement q → r ≡ q
 placed_once output s p placement r q (t, ht, h) (u, hu, k) =
     let same : t ≡ u = tables_once (linkage_of s p placement) t u ht hu in
-    let P : List (Result ℤ ValueFault) → Type 0 = λ z. IsFinished output s p placement (linkage_of s p placement) (in_table z) r in
-    finished_once output s p placement (linkage_of s p placement) (in_table u) r q (subst P same h) k
+    let P : List (Result ℤ ValueFault) → Type 0 = λ z. IsEvaluatedLink output s p placement (linkage_of s p placement) (table_exports z) r in
+    finished_once output s p placement (linkage_of s p placement) (table_exports u) r q (subst P same h) k
 
 program_once : (output : List ℕ) (s : Script) (p : Program) (r q : Result Linked LinkFault) → IsProgramLink output s p r → IsProgramLink output s p q → r ≡ q
 program_once output s p r q h k = first_once (placement_result s p) (IsPlacedLink output s p) r q (λ x. placed_once output s p x r q) h k
@@ -126,7 +126,7 @@ choice : (b : Bool) (xs ys : List (List ℕ)) (name : List ℕ) → is_among xs 
 choice true xs ys name e f = e
 choice false xs ys name e f = f
 
-once_without : (names before : List (List ℕ)) (name : List ℕ) → is_among before name ≡ false → is_among names name ≡ false → is_among (each_once before names) name ≡ false
+once_without : (names before : List (List ℕ)) (name : List ℕ) → is_among before name ≡ false → is_among names name ≡ false → is_among (distinct_names before names) name ≡ false
 once_without [] before name e f = e
 once_without (n ∷ names) before name e f =
     let two : (bytes_eq n name ≡ false) × (is_among names name ≡ false) = others names n name f in
@@ -134,7 +134,7 @@ once_without (n ∷ names) before name e f =
     (choice (is_among before n) before (before ++ n ∷ []) name e (with_other before n name e two.0))
     two.1
 
--- ---- What is the same at each name but one.
+-- ---- Functions that agree at each name but one.
 
 -- f and g agree at each name but this
 abbrev AgreeBut : {A : Type 0} → List ℕ → (List ℕ → A) → (List ℕ → A) → Type 0
@@ -158,7 +158,7 @@ filter_same f g name same (n ∷ names) e =
     step true false h x y rest = cc
     step false true h x y rest = cc
 
--- ---- Who gives a name, with one more definition behind the script's weak ones.
+-- ---- The provider of a name, with one more definition after the weak ones.
 
 found_before : (p : List ℕ → Bool) (i : ℕ) (names : List (List ℕ)) (name : List ℕ) → p name ≡ false → position_from p i (names ++ name ∷ []) ≡ position_from p i names
 found_before p i [] name e = rw e refl
@@ -173,25 +173,25 @@ get_before [] more i lt = absurd (omega arith)
 get_before (d ∷ ds) more zero lt = refl
 get_before (d ∷ ds) more (suc i) lt = get_before ds more i (omega arith)
 
-by_same : (ds : List ScriptSymbol) (d : ScriptSymbol) (o : Option ℕ) (other : Provider) → ((k : ℕ) → o ≡ Some k → k < length ds) → by_definition (ds ++ d ∷ []) o other ≡ by_definition ds o other
+by_same : (ds : List ScriptSymbol) (d : ScriptSymbol) (o : Option ℕ) (other : Provider) → ((k : ℕ) → o ≡ Some k → k < length ds) → script_provider_or (ds ++ d ∷ []) o other ≡ script_provider_or ds o other
 by_same ds d x other inside = grind (arith, common_steps, get_before)
 
 length_names : (ds : List ScriptSymbol) → length (map (λ d. d.name) ds) ≡ length ds
 length_names [] = refl
 length_names (d ∷ ds) = ap suc (length_names ds)
 
-at_same : (ds : List ScriptSymbol) (d : ScriptSymbol) (n : List ℕ) → bytes_eq n d.name ≡ false → defined_at (ds ++ d ∷ []) n ≡ defined_at ds n
+at_same : (ds : List ScriptSymbol) (d : ScriptSymbol) (n : List ℕ) → bytes_eq n d.name ≡ false → index_of_definition (ds ++ d ∷ []) n ≡ index_of_definition ds n
 at_same ds d n e = grind (arith, common_steps, map-append, found_before, nat_list_eq_equiv)
 
-at_inside : (ds : List ScriptSymbol) (n : List ℕ) (k : ℕ) → defined_at ds n ≡ Some k → k < length ds
+at_inside : (ds : List ScriptSymbol) (n : List ℕ) (k : ℕ) → index_of_definition ds n ≡ Some k → k < length ds
 at_inside ds n k e = grind (arith, common_steps, found_inside, length_names)
 
-provider_same : (own : List ScriptSymbol) (exports : List Exported) (ds : List ScriptSymbol) (d : ScriptSymbol) → AgreeBut d.name (provider_of own exports (ds ++ d ∷ [])) (provider_of own exports ds)
-provider_same own exports ds d n e = grind (arith, common_steps, at_same, by_same, at_inside)
+provider_same : (script_symbols : List ScriptSymbol) (exports : List ModuleExport) (ds : List ScriptSymbol) (d : ScriptSymbol) → AgreeBut d.name (provider_of script_symbols exports (ds ++ d ∷ [])) (provider_of script_symbols exports ds)
+provider_same script_symbols exports ds d n e = grind (arith, common_steps, at_same, by_same, at_inside)
 
--- ---- What the script gives, and who gives each import.
+-- ---- The definitions of the script, and the provider of each import.
 
-given_same : (s : Script) (p : Program) (name : List ℕ) (value : ℕ) → given_names (with_weak s name value) p ≡ given_names s p
+given_same : (s : Script) (p : Program) (name : List ℕ) (value : ℕ) → strong_names (with_weak s name value) p ≡ strong_names s p
 given_same s p name value = grind (arith, common_steps)
 
 definitions_same : (s : Script) (pl : Placement) (name : List ℕ) (value : ℕ) → script_definitions (with_weak s name value) pl ≡ script_definitions s pl
@@ -204,18 +204,18 @@ or_false false = refl
 weak_among : (symbols : List Symbol) (name : List ℕ) (value : ℕ) → AgreeBut name (is_among (map (λ d. d.name) (weak_symbols (symbols ++ symbol name value ∷ [])))) (is_among (map (λ d. d.name) (weak_symbols symbols)))
 weak_among symbols name value n e = grind (arith, common_steps, weak_more, map-append, list_any-append, nat_list_eq_equiv, or_false)
 
-is_given_same : (s : Script) (p : Program) (name : List ℕ) (value : ℕ) → AgreeBut name (is_given (with_weak s name value) p) (is_given s p)
+is_given_same : (s : Script) (p : Program) (name : List ℕ) (value : ℕ) → AgreeBut name (is_defined_name (with_weak s name value) p) (is_defined_name s p)
 is_given_same s p name value n e = grind (arith, common_steps, given_same, weak_among)
 
 unresolved_same : (s : Script) (p : Program) (name : List ℕ) (value : ℕ) → is_used s p name ≡ false → unresolved_names (with_weak s name value) p ≡ unresolved_names s p
 unresolved_same s p name value e =
-    ap (λ names. filter (λ n. not (is_given (with_weak s name value) p n)) (each_once [] (names ++ flat_map (λ m. m.imports) p.members))) (imports_same s.symbols name value)
-    ∙ filter_same (λ n. not (is_given (with_weak s name value) p n)) (λ n. not (is_given s p n)) name (λ n f. ap not (is_given_same s p name value n f)) (references s p) (once_without (symbol_imports s.symbols ++ flat_map (λ m. m.imports) p.members) [] name refl e)
+    ap (λ names. filter (λ n. not (is_defined_name (with_weak s name value) p n)) (distinct_names [] (names ++ flat_map (λ m. m.imports) p.members))) (imports_same s.symbols name value)
+    ∙ filter_same (λ n. not (is_defined_name (with_weak s name value) p n)) (λ n. not (is_defined_name s p n)) name (λ n f. ap not (is_given_same s p name value n f)) (references s p) (once_without (symbol_imports s.symbols ++ flat_map (λ m. m.imports) p.members) [] name refl e)
 
 resolved_same : (s : Script) (p : Program) (pl : Placement) (name : List ℕ) (value : ℕ) (m : LinkedModule) → is_among m.imports name ≡ false → module_bindings (with_weak s name value) p pl m ≡ module_bindings s p pl m
 resolved_same s p pl name value m e = grind (arith, common_steps, map_same, definitions_same, weak_more, provider_same)
 
-members_same : (f g : LinkedModule → Resolved) (name : List ℕ) → ((m : LinkedModule) → is_among m.imports name ≡ false → f m ≡ g m) → (members : List LinkedModule) → is_among (flat_map (λ m. m.imports) members) name ≡ false → map f members ≡ map g members
+members_same : (f g : LinkedModule → ModuleBindings) (name : List ℕ) → ((m : LinkedModule) → is_among m.imports name ≡ false → f m ≡ g m) → (members : List LinkedModule) → is_among (flat_map (λ m. m.imports) members) name ≡ false → map f members ≡ map g members
 members_same f g name same [] e = refl
 members_same f g name same (m ∷ members) e =
     let two : (is_among m.imports name ≡ false) × (is_among (flat_map (λ y. y.imports) members) name ≡ false) = either_part m.imports (flat_map (λ y. y.imports) members) name e in
@@ -226,38 +226,38 @@ linkage_same s p pl name value e =
     let two : (is_among (symbol_imports s.symbols) name ≡ false) × (is_among (flat_map (λ m. m.imports) p.members) name ≡ false) = either_part (symbol_imports s.symbols) (flat_map (λ m. m.imports) p.members) name e in
     ap (λ ms. linkage ms p.exports) (members_same (module_bindings (with_weak s name value) p pl) (module_bindings s p pl) name (resolved_same s p pl name value) p.members two.1)
 
-names_once_same : (s : Script) (p : Program) (name : List ℕ) (value : ℕ) → names_once (with_weak s name value) p ≡ names_once s p
-names_once_same s p name value = ap (λ names. no_name_again (first_again [] names)) (given_same s p name value)
+names_once_same : (s : Script) (p : Program) (name : List ℕ) (value : ℕ) → check_unique_names (with_weak s name value) p ≡ check_unique_names s p
+names_once_same s p name value = ap (λ names. none_duplicate (first_duplicate [] names)) (given_same s p name value)
 
 placed_same : (s : Script) (p : Program) (name : List ℕ) (value : ℕ) → is_used s p name ≡ false → placement_result (with_weak s name value) p ≡ placement_result s p
 placed_same s p name value e = ap (λ names. none_unresolved names >>= (λ u. as_placement (place_of s (needs_of p)))) (unresolved_same s p name value e)
 
--- ---- Where a script links, it links with the weak name to the same.
+-- ---- A link without the weak name has one with it, with the same images.
 
 -- what answers so, and has the same images
 abbrev LinksAlike : (Result Linked LinkFault → Type 0) → Result Linked LinkFault → Type 0
-LinksAlike Answers r = (q : Result Linked LinkFault) × Answers q × SameImages r q
+LinksAlike Answers r = (q : Result Linked LinkFault) × Answers q × HaveSameImages r q
 
 first_alike : {A : Type 0} (head : Result A LinkFault) (Next Other : A → Result Linked LinkFault → Type 0) (r : Result Linked LinkFault) → ((x : A) → Next x r → LinksAlike (Other x) r) → AndThen head Next r → LinksAlike (AndThen head Other) r
 first_alike (Ok x) Next Other r step h = step x h
 first_alike (Err e) Next Other r step h = grind (arith, common_steps)
 
-imaged_alike : (output : List ℕ) (s : Script) (name : List ℕ) (value : ℕ) (p : Program) (pl : Placement) (l : Linkage) (exports : Exports) (warnings : List ℕ) (r : Result Linked LinkFault) → IsImaged output s p pl l exports warnings r → LinksAlike (IsImaged output (with_weak s name value) p pl l exports warnings) r
+imaged_alike : (output : List ℕ) (s : Script) (name : List ℕ) (value : ℕ) (p : Program) (pl : Placement) (l : Linkage) (exports : Exports) (warnings : List ℕ) (r : Result Linked LinkFault) → IsSuccessfulLink output s p pl l exports warnings r → LinksAlike (IsSuccessfulLink output (with_weak s name value) p pl l exports warnings) r
 imaged_alike output s name value p pl l exports warnings r (files, h, e) =
     let made : Linked = record { files = files; warnings = warnings_of_rows s.rows p.segments ++ warnings; map = map_text (with_weak s name value) p pl l exports } in
-    let P : Result Linked LinkFault → Type 0 = λ z. SameImages z (Ok made) in
+    let P : Result Linked LinkFault → Type 0 = λ z. HaveSameImages z (Ok made) in
     (Ok made, (files, h, refl), subst P (sym e) (refl, refl))
 
 placed_alike : (output : List ℕ) (s : Script) (name : List ℕ) (value : ℕ) (p : Program) (pl : Placement) (r : Result Linked LinkFault) → is_used s p name ≡ false → IsPlacedLink output s p pl r → LinksAlike (IsPlacedLink output (with_weak s name value) p pl) r
-placed_alike output s name value p pl r unused (table, are, h) = go (first_alike (check_result s p (linkage_of s p pl) (in_table table)) (IsImaged output s p pl (linkage_of s p pl) (in_table table)) (IsImaged output (with_weak s name value) p pl (linkage_of s p pl) (in_table table)) r (λ w. imaged_alike output s name value p pl (linkage_of s p pl) (in_table table) w r) h)
+placed_alike output s name value p pl r unused (table, are, h) = go (first_alike (check_result s p (linkage_of s p pl) (table_exports table)) (IsSuccessfulLink output s p pl (linkage_of s p pl) (table_exports table)) (IsSuccessfulLink output (with_weak s name value) p pl (linkage_of s p pl) (table_exports table)) r (λ w. imaged_alike output s name value p pl (linkage_of s p pl) (table_exports table) w r) h)
   where
     same : linkage_of s p pl ≡ linkage_of (with_weak s name value) p pl
     same = sym (linkage_same s p pl name value unused)
 
-    go : LinksAlike (IsFinished output (with_weak s name value) p pl (linkage_of s p pl) (in_table table)) r → LinksAlike (IsPlacedLink output (with_weak s name value) p pl) r
+    go : LinksAlike (IsEvaluatedLink output (with_weak s name value) p pl (linkage_of s p pl) (table_exports table)) r → LinksAlike (IsPlacedLink output (with_weak s name value) p pl) r
     go (q, k, alike) =
         let P : Linkage → Type 0 = λ l. AreExports l table in
-        let Q : Linkage → Type 0 = λ l. IsFinished output (with_weak s name value) p pl l (in_table table) q in
+        let Q : Linkage → Type 0 = λ l. IsEvaluatedLink output (with_weak s name value) p pl l (table_exports table) q in
         (q, (table, subst P same are, subst Q same k), alike)
 
 program_alike : (output : List ℕ) (s : Script) (name : List ℕ) (value : ℕ) (p : Program) (r : Result Linked LinkFault) → is_used s p name ≡ false → IsProgramLink output s p r → LinksAlike (IsProgramLink output (with_weak s name value) p) r
@@ -266,17 +266,17 @@ program_alike output s name value p r unused h =
     subst P (sym (placed_same s p name value unused))
     (first_alike (placement_result s p) (IsPlacedLink output s p) (IsPlacedLink output (with_weak s name value) p) r (λ pl. placed_alike output s name value p pl r unused) h)
 
-link_alike : (output : List ℕ) (s : Script) (name : List ℕ) (value : ℕ) (p : Program) (r : Result Linked LinkFault) → is_used s p name ≡ false → AndThen (names_once s p) (λ u. IsProgramLink output s p) r → LinksAlike (AndThen (names_once (with_weak s name value) p) (λ u. IsProgramLink output (with_weak s name value) p)) r
+link_alike : (output : List ℕ) (s : Script) (name : List ℕ) (value : ℕ) (p : Program) (r : Result Linked LinkFault) → is_used s p name ≡ false → AndThen (check_unique_names s p) (λ u. IsProgramLink output s p) r → LinksAlike (AndThen (check_unique_names (with_weak s name value) p) (λ u. IsProgramLink output (with_weak s name value) p)) r
 link_alike output s name value p r unused h =
     let P : Result (Unit {0}) LinkFault → Type 0 = λ z. LinksAlike (AndThen z (λ u. IsProgramLink output (with_weak s name value) p)) r in
     subst P (sym (names_once_same s p name value))
-    (first_alike (names_once s p) (λ u. IsProgramLink output s p) (λ u. IsProgramLink output (with_weak s name value) p) r (λ u. program_alike output s name value p r unused) h)
+    (first_alike (check_unique_names s p) (λ u. IsProgramLink output s p) (λ u. IsProgramLink output (with_weak s name value) p) r (λ u. program_alike output s name value p r unused) h)
 
-pub unused_weak_links : UnusedWeakLinks
+pub unused_weak_links : LinkExistsWithUnusedWeakName
 unused_weak_links output s name value modules r unused h = link_alike output s name value (program_of modules) r unused h
 
-pub unused_weak_same : UnusedWeakLaw
+pub unused_weak_same : UnusedWeakNamePreservesImages
 unused_weak_same output s name value modules r q unused h k = go (unused_weak_links output s name value modules r unused h)
   where
-    go : LinksAlike (LinkOf output (with_weak s name value) modules) r → SameImages r q
-    go (other, links, alike) = subst (SameImages r) (link_once output (with_weak s name value) modules other q links k) alike
+    go : LinksAlike (LinkOf output (with_weak s name value) modules) r → HaveSameImages r q
+    go (other, links, alike) = subst (HaveSameImages r) (link_once output (with_weak s name value) modules other q links k) alike

@@ -6,9 +6,9 @@ use native.Mathlib.Nat.{div-div-eq-div-mul}
 use Rattle.std.proofs.lemmas.List.{length-append}
 use Rattle.link65.specs.Texts.{hex_digit, hex_digits, is_data}
 use Rattle.std.specs.List.{flat_map, list_any}
-use Rattle.script65.proofs.Eaches.{drop_item}
+use Rattle.script65.proofs.ListLemmas.{drop_item}
 use Rattle.std.specs.Prelude.{codes, encode_utf8, encode_utf8_all, not, replicate}
-use Rattle.script65.proofs.Walks.{take_more}
+use Rattle.script65.proofs.AreaLemmas.{take_more}
 use Rattle.link65.specs.Faults.{comma_separated, separator_after}
 use Rattle.std.proofs.lemmas.Bool.Decides.{nat_tests}
 use Rattle.link65.specs.declared.parts.SegmentPiece.{SegmentPiece}

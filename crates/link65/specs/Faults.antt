@@ -1,15 +1,15 @@
--- Faults in words, and which of them a call answers.
+-- Errors of the linker: their texts, and which of them a call can return.
 use Rattle.std.specs.Prelude.{ℕ, Bool, true, false, List, [], ◌∷◌, ◌++◌, codes, encode_utf8_all, if◌then◌else◌, ◌≡◌, not, ◌||◌, Result, IfErr}
 use Rattle.object65.specs.declared.fault.ObjectFault.{ObjectFault}
 use Rattle.script65.specs.declared.placement.PlaceFault.{PlaceFault}
-use Rattle.object65.specs.Record.{fault_text as object_words, is_memory as is_object_memory}
+use Rattle.object65.specs.Record.{fault_text as object_fault_text, is_memory as is_object_memory}
 use Rattle.script65.specs.Faults.{is_place_system_error, place_fault_text}
 use Rattle.link65.specs.declared.fault.LinkFault.{LinkFault}
 use Rattle.link65.specs.declared.fault.LinkFault.TheVariants.{FailedBefore, OutOfMemory, Malformed, DuplicateExport, Unresolved, Place, Circular, OutOfRange, NoValue, Assertion, IndexDisagrees}
 use Rattle.object65.specs.declared.fault.ObjectFault.TheVariants.{CutShort}
 use Rattle.link65.specs.declared.fault.LinkFault.TheVariants as fault
 
--- ---- Why nothing is linked: in words, and whether memory ran out.
+-- ---- The texts of errors, and which is *out of memory*.
 
 abbrev pub is_memory : LinkFault → Bool
 is_memory OutOfMemory = true
@@ -23,7 +23,7 @@ of_object f = if is_object_memory f then OutOfMemory else Malformed f
 abbrev pub of_place : PlaceFault → LinkFault
 of_place f = if is_place_system_error f then OutOfMemory else Place f
 
--- names between commas and blanks
+-- names separated by commas and blanks
 abbrev pub comma_separated : List (List ℕ) → List ℕ
 comma_separated [] = []
 comma_separated (name ∷ []) = name
@@ -32,7 +32,7 @@ comma_separated (name ∷ other ∷ names) = name ++ codes ", " ++ comma_separat
 abbrev pub fault_text : LinkFault → List ℕ
 fault_text FailedBefore = codes "failed before"
 fault_text OutOfMemory = codes "out of memory"
-fault_text (Malformed f) = object_words f
+fault_text (Malformed f) = object_fault_text f
 fault_text (DuplicateExport name) = codes "duplicate export: " ++ name
 fault_text (Unresolved names) = codes "unresolved: " ++ comma_separated names
 fault_text (Place f) = place_fault_text f
@@ -42,14 +42,14 @@ fault_text (NoValue s) = codes "zero divisor or bad shift count"
 fault_text (Assertion s text) = text
 fault_text IndexDisagrees = codes "index disagrees with member"
 
--- the same as characters: each byte of a name or of an assertion's text is the character of its code
+-- the text for printing: each byte of a name or of an assertion's text is the character of its code
 abbrev pub display_text : LinkFault → List ℕ
 display_text (DuplicateExport name) = codes "duplicate export: " ++ encode_utf8_all name
 display_text (Unresolved names) = codes "unresolved: " ++ encode_utf8_all (comma_separated names)
 display_text (Assertion s text) = encode_utf8_all text
 display_text FailedBefore = codes "failed before"
 display_text OutOfMemory = codes "out of memory"
-display_text (Malformed f) = object_words f
+display_text (Malformed f) = object_fault_text f
 display_text (Place f) = place_fault_text f
 display_text (Circular s) = codes "circular definition"
 display_text (OutOfRange s) = codes "out of range"
@@ -61,30 +61,30 @@ abbrev pub separator_after : List (List ℕ) → List ℕ
 separator_after [] = []
 separator_after (name ∷ names) = codes ", "
 
--- ---- Which faults a call of a linker answers at all, where none before it was refused.
+-- ---- The errors that a call of a linker can return, if no call before it failed.
 
 -- an error is *out of memory* or one of the call's own
-abbrev pub RefusesBy : {A : Type 0} → (LinkFault → Bool) → Result A LinkFault → Type 0
-RefusesBy is_own r = IfErr r (λ e. (is_memory e || is_own e) ≡ true)
+abbrev pub HasExpectedError : {A : Type 0} → (LinkFault → Bool) → Result A LinkFault → Type 0
+HasExpectedError is_own r = IfErr r (λ e. (is_memory e || is_own e) ≡ true)
 
--- a record that doesn't go on with its module
-abbrev pub is_of_record : LinkFault → Bool
-is_of_record (fault.Malformed f) = not (is_object_memory f)
-is_of_record _ = false
+-- a record that is invalid after the records before it
+abbrev pub is_record_fault : LinkFault → Bool
+is_record_fault (fault.Malformed f) = not (is_object_memory f)
+is_record_fault _ = false
 
--- a module whose END didn't come, that isn't what its library's index says, or that gives a name again
-abbrev pub is_of_end : LinkFault → Bool
-is_of_end (fault.Malformed CutShort) = true
-is_of_end fault.IndexDisagrees = true
-is_of_end (fault.DuplicateExport name) = true
-is_of_end _ = false
+-- a module without its END, one that its library's index disagrees with, or one that defines a name again
+abbrev pub is_end_fault : LinkFault → Bool
+is_end_fault (fault.Malformed CutShort) = true
+is_end_fault fault.IndexDisagrees = true
+is_end_fault (fault.DuplicateExport name) = true
+is_end_fault _ = false
 
--- undefined names, segments that aren't placed, and errors of values and assertions
-abbrev pub is_of_finish : LinkFault → Bool
-is_of_finish (fault.Unresolved names) = true
-is_of_finish (fault.Place f) = true
-is_of_finish (fault.Circular site) = true
-is_of_finish (fault.OutOfRange site) = true
-is_of_finish (fault.NoValue site) = true
-is_of_finish (fault.Assertion site text) = true
-is_of_finish _ = false
+-- undefined names, segments that can't be placed, and errors of values and assertions
+abbrev pub is_finish_fault : LinkFault → Bool
+is_finish_fault (fault.Unresolved names) = true
+is_finish_fault (fault.Place f) = true
+is_finish_fault (fault.Circular location) = true
+is_finish_fault (fault.OutOfRange location) = true
+is_finish_fault (fault.NoValue location) = true
+is_finish_fault (fault.Assertion location text) = true
+is_finish_fault _ = false

@@ -11,23 +11,23 @@ use Rattle.script65.specs.declared.placement.AreaPlacement.{AreaPlacement}
 use Rattle.script65.specs.declared.placement.Placement.{Placement}
 use Rattle.script65.specs.declared.placement.RowPlacement.{RowPlacement}
 
--- ---- What lies in an area's file.
+-- ---- The contents of an area's file.
 
 -- bytes, and their offset in the file
 pub record RowPiece : Type 0 where
   pub offset : ℕ
   pub bytes : List ℕ
 
--- a row and where it is placed
+-- a row and its placement
 pub record PlacedRow : Type 0 where
   pub row : SegmentRow
   pub placement : RowPlacement
 
--- whether a row's bytes are in the file of the area at a place of the script
+-- whether a row's bytes are in the file of the area at an index of the script
 abbrev pub is_loaded : ℕ → SegmentRow → Bool
 is_loaded k r = r.load == k && is_written r.access
 
--- the rows of which that is so, in the script's order
+-- the rows in the file of the area at an index of the script, in the script's order
 abbrev pub loaded_in : ℕ → List SegmentRow → List RowPlacement → List PlacedRow
 loaded_in k (r ∷ rs) (p ∷ ps) = if is_loaded k r then record { row = r; placement = p } ∷ loaded_in k rs ps else loaded_in k rs ps
 loaded_in k [] ps = []
@@ -41,7 +41,7 @@ offset_of start p = p.placement.load - start
 abbrev pub RowBytes : Type 0
 RowBytes = SegmentRow → List ℕ
 
--- those of rows that are written; no file holds any other row
+-- the bytes of a row that is written, none of any other row
 abbrev pub written_row_bytes : RowBytes → RowBytes
 written_row_bytes bytes r = if is_written r.access then bytes r else []
 
@@ -49,51 +49,51 @@ abbrev pub area_pieces : ℕ → RowBytes → List PlacedRow → List RowPiece
 area_pieces start bytes [] = []
 area_pieces start bytes (p ∷ ps) = record { offset = offset_of start p; bytes = bytes p.row } ∷ area_pieces start bytes ps
 
--- the end of the last row of a size above 0; unchanged if there is none
+-- the offset after the last row of a size above 0; unchanged if there is none
 abbrev pub end_after : ℕ → ℕ → List PlacedRow → ℕ
 end_after start before [] = before
 end_after start before (p ∷ ps) = end_after start (if p.placement.size == 0 then before else offset_of start p + p.placement.size) ps
 
--- the length of the file of an area that is placed so
+-- the length of the file of an area with this placement and these rows
 abbrev pub file_len : MemoryArea → AreaPlacement → List PlacedRow → ℕ
 file_len a placement ps = if a.fill then placement.size else end_after placement.start 0 ps
 
--- whether a place is one of bytes that begin at another
+-- whether an offset is within bytes that begin at another offset
 abbrev pub is_inside : ℕ → ℕ → List ℕ → Bool
 is_inside i at bytes = nat_le at i && nat_lt i (at + length bytes)
 
-abbrev pub laid_over : ℕ → ℕ → List ℕ → ℕ → ℕ
-laid_over i at bytes before = if is_inside i at bytes then get_or bytes (i - at) 0 else before
+abbrev pub overlaid_byte : ℕ → ℕ → List ℕ → ℕ → ℕ
+overlaid_byte i at bytes before = if is_inside i at bytes then get_or bytes (i - at) 0 else before
 
--- the byte at a place: that of the last piece which covers it, and what was there before where none does
-abbrev pub byte_over : List RowPiece → ℕ → ℕ → ℕ
-byte_over [] i before = before
-byte_over (p ∷ ps) i before = byte_over ps i (laid_over i p.offset p.bytes before)
+-- the byte at an offset: that of the last piece that covers it, or the byte before if none does
+abbrev pub image_byte : List RowPiece → ℕ → ℕ → ℕ
+image_byte [] i before = before
+image_byte (p ∷ ps) i before = image_byte ps i (overlaid_byte i p.offset p.bytes before)
 
 -- a file of this length: the bytes of the pieces, and the fill value in gaps
 pub record IsImage (len fill : ℕ) (pieces : List RowPiece) (image : List ℕ) : Type 0 where
   pub size : length image ≡ len
-  pub bytes : (i : ℕ) → i < len → get_or image i 0 ≡ byte_over pieces i fill
+  pub bytes : (i : ℕ) → i < len → get_or image i 0 ≡ image_byte pieces i fill
 
 -- The file of a placed area, from the rows that are loaded there: its byte i is that at the address i after
 -- the area's start.
 abbrev pub IsFileBy : RowBytes → MemoryArea → AreaPlacement → List PlacedRow → List ℕ → Type 0
 IsFileBy bytes a placement ps image = IsImage (file_len a placement ps) a.fill_value (area_pieces placement.start bytes ps) image
 
-abbrev pub nowhere : AreaPlacement
-nowhere = record { start = 0; size = 0; last = 0 }
+abbrev pub zero_placement : AreaPlacement
+zero_placement = record { start = 0; size = 0; last = 0 }
 
--- where the area at a place of the script is placed
+-- the placement of the area at an index of the script; all 0 if there is none
 abbrev pub area_at : Placement → ℕ → AreaPlacement
-area_at p k = unwrap_or (slice_get p.areas k) nowhere
+area_at p k = unwrap_or (slice_get p.areas k) zero_placement
 
--- that of the area at a place of the script
+-- the file of the area at an index of the script
 abbrev pub IsAreaFile : List SegmentRow → Placement → RowBytes → ℕ → MemoryArea → List ℕ → Type 0
 IsAreaFile rows p bytes k a image = IsFileBy bytes a (area_at p k) (loaded_in k rows p.rows) image
 
 -- ---- Files by name.
 
--- the name of an area's file, where the linker's output has a name; a script's names are all UTF-8
+-- the name of an area's file, given that of the linker's output; a script's names are all UTF-8
 abbrev pub file_name : List ℕ → AreaOutput → List ℕ
 file_name output file.Output = output
 file_name output (file.Named name) = if is_utf8 name then name else []

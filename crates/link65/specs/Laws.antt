@@ -14,19 +14,19 @@ use Rattle.link65.specs.Faults.{is_memory}
 use Rattle.link65.specs.Files.{AddsAreas, IsAreaFile, RowBytes}
 use Rattle.link65.specs.Links.{LinkOf}
 use Rattle.link65.specs.Programs.{Module, program_of}
-use Rattle.link65.specs.Values.{ComesTo, Linkage}
-use Rattle.link65.specs.Names.{SameImages, is_used, with_weak}
+use Rattle.link65.specs.Values.{FormEvaluatesTo, Linkage}
+use Rattle.link65.specs.Names.{HaveSameImages, is_used, with_weak}
 
--- *out of memory*, also while segments are placed
+-- *out of memory*, of the link or of placement
 abbrev pub is_system_error : LinkFault → Bool
 is_system_error (fault.Place f) = is_place_system_error f
 is_system_error e = is_memory e
 
--- a link has one outcome
+-- modules and a script have at most one outcome
 abbrev pub LinkOutcomeIsUnique : Type 0
 LinkOutcomeIsUnique = (output : List ℕ) (s : Script) (modules : List Module) (r q : Result Linked LinkFault) → LinkOf output s modules r → LinkOf output s modules q → r ≡ q
 
--- and there is an outcome that isn't *out of memory*
+-- any modules and script have an outcome, which is no system error
 abbrev pub LinkOutcomeExists : Type 0
 LinkOutcomeExists =
     (output : List ℕ) (s : Script) (modules : List Module) →
@@ -34,31 +34,32 @@ LinkOutcomeExists =
 
 -- a form has at most one result
 abbrev pub LinkValueIsUnique : Type 0
-LinkValueIsUnique = (l : Linkage) (owner : ℕ) (f : Form) (r q : Result ℤ ValueFault) → ComesTo l owner f r → ComesTo l owner f q → r ≡ q
+LinkValueIsUnique = (l : Linkage) (owner : ℕ) (f : Form) (r q : Result ℤ ValueFault) → FormEvaluatesTo l owner f r → FormEvaluatesTo l owner f q → r ≡ q
 
--- and to some answer, also where it is circular
+-- any form has a result: its value, or an error, which may be that it is circular
 abbrev pub LinkValueExists : Type 0
 LinkValueExists =
-    (l : Linkage) (owner : ℕ) (f : Form) → (r : Result ℤ ValueFault) × ComesTo l owner f r
+    (l : Linkage) (owner : ℕ) (f : Form) → (r : Result ℤ ValueFault) × FormEvaluatesTo l owner f r
 
--- wherever areas and rows are placed, and whatever bytes rows have, there are files of these
+-- for any placement of areas and rows, and any bytes of the rows, the areas have files
 abbrev pub FilesExist : Type 0
 FilesExist =
     (output : List ℕ) (s : Script) (placement : Placement) (bytes : RowBytes) →
     (files : List OutputFile)
     × AddsAreas output (IsAreaFile s.rows placement bytes) 0 s.areas [] files
 
--- a weak name that nothing uses changes no image: a script links with it to what it links to without it
-abbrev pub UnusedWeakLaw : Type 0
-UnusedWeakLaw =
+-- a weak name that nothing imports changes no image: links with it and without it have the same files
+-- and warnings, or the same error
+abbrev pub UnusedWeakNamePreservesImages : Type 0
+UnusedWeakNamePreservesImages =
     (output : List ℕ) (s : Script) (name : List ℕ) (value : ℕ) (modules : List Module) →
     (r q : Result Linked LinkFault) → is_used s (program_of modules) name ≡ false →
-    LinkOf output s modules r → LinkOf output (with_weak s name value) modules q → SameImages r q
+    LinkOf output s modules r → LinkOf output (with_weak s name value) modules q → HaveSameImages r q
 
--- and there is such a link wherever there is one without it
-abbrev pub UnusedWeakLinks : Type 0
-UnusedWeakLinks =
+-- if there is a link without an unused weak name, there is one with it, with the same image
+abbrev pub LinkExistsWithUnusedWeakName : Type 0
+LinkExistsWithUnusedWeakName =
     (output : List ℕ) (s : Script) (name : List ℕ) (value : ℕ) (modules : List Module) →
     (r : Result Linked LinkFault) → is_used s (program_of modules) name ≡ false →
     LinkOf output s modules r →
-    (q : Result Linked LinkFault) × LinkOf output (with_weak s name value) modules q × SameImages r q
+    (q : Result Linked LinkFault) × LinkOf output (with_weak s name value) modules q × HaveSameImages r q

@@ -1,4 +1,4 @@
--- Names: those that a script and modules give, none of them twice, and who gives a name.
+-- Names: those that a script and modules define, none of them twice, and the provider of a name.
 use Rattle.std.specs.Prelude.{ℕ, List, [], ◌∷◌, ◌++◌, map, codes, if◌then◌else◌, pos, Bool, not, ◌||◌, filter, slice_get, Option, Some, None, ◌≡◌, Result, Ok, Err}
 use Rattle.std.specs.Int.{w64, cast_signed}
 use Rattle.std.specs.List.{flat_map, list_any}
@@ -16,13 +16,13 @@ use Rattle.link65.specs.declared.parts.ScriptSymbol.{ScriptSymbol}
 use Rattle.link65.specs.Programs.{flat_zip, position_in, Program}
 use Rattle.std.specs.Option.{option_map_or}
 use Rattle.std.specs.Str.{bytes_eq}
-use Rattle.link65.specs.declared.parts.Exported.{Exported}
+use Rattle.link65.specs.declared.parts.ModuleExport.{ModuleExport}
 use Rattle.link65.specs.declared.parts.Provider.{Provider}
 use Rattle.link65.specs.declared.parts.Provider.TheVariants.{ByModule, ByScript, Nobody}
 use Rattle.link65.specs.declared.fault.LinkFault.{LinkFault}
 use Rattle.link65.specs.declared.linking.Linked.{Linked}
 
--- ---- The names that a script gives.
+-- ---- The names that a script defines.
 
 abbrev pub attribute_symbol : List ℕ → List ℕ → ℕ → ScriptSymbol
 attribute_symbol name word n = record { name = attribute_name name word; value = cast_signed w64 n }
@@ -64,11 +64,11 @@ import_name (kind.Weak n) name = []
 abbrev pub symbol_exports : List Symbol → List ScriptSymbol
 symbol_exports symbols = flat_map (λ s. export_definition s.kind s.name) symbols
 
--- the symbols that it defines where nothing else does
+-- the weak symbols of a script, which it defines if nothing else does
 abbrev pub weak_symbols : List Symbol → List ScriptSymbol
 weak_symbols symbols = flat_map (λ s. weak_definition s.kind s.name) symbols
 
--- the symbols that it needs to be defined
+-- the symbols that a script imports
 abbrev pub symbol_imports : List Symbol → List (List ℕ)
 symbol_imports symbols = flat_map (λ s. import_name s.kind s.name) symbols
 
@@ -76,7 +76,7 @@ symbol_imports symbols = flat_map (λ s. import_name s.kind s.name) symbols
 abbrev pub script_definitions : Script → Placement → List ScriptSymbol
 script_definitions s p = areas_definitions s.areas p.areas ++ rows_definitions s.rows p.rows ++ symbol_exports s.symbols
 
--- ---- The names alone, which are known before anything is placed.
+-- ---- The names alone, which are known before placement.
 
 abbrev pub area_names : MemoryArea → List (List ℕ)
 area_names a =
@@ -91,68 +91,68 @@ row_names r =
 abbrev pub script_names : Script → List (List ℕ)
 script_names s = flat_map area_names s.areas ++ flat_map row_names s.rows ++ map (λ d. d.name) (symbol_exports s.symbols)
 
--- ---- Names given twice.
+-- ---- Names that are defined twice.
 
 abbrev pub is_among : List (List ℕ) → List ℕ → Bool
 is_among names name = list_any (λ n. bytes_eq n name) names
 
--- the first name that equals one before it
-abbrev pub first_again : List (List ℕ) → List (List ℕ) → Option (List ℕ)
-first_again before [] = None
-first_again before (name ∷ names) = if is_among before name then Some name else first_again (before ++ name ∷ []) names
+-- the first name that equals an earlier one
+abbrev pub first_duplicate : List (List ℕ) → List (List ℕ) → Option (List ℕ)
+first_duplicate before [] = None
+first_duplicate before (name ∷ names) = if is_among before name then Some name else first_duplicate (before ++ name ∷ []) names
 
 abbrev pub export_names : Program → List (List ℕ)
 export_names p = map (λ e. e.name) p.exports
 
--- the names of which none may be given twice: the script's, then the modules' exports
-abbrev pub given_names : Script → Program → List (List ℕ)
-given_names s p = script_names s ++ export_names p
+-- the names of which none may be defined twice: the script's without weak ones, then the modules' exports
+abbrev pub strong_names : Script → Program → List (List ℕ)
+strong_names s p = script_names s ++ export_names p
 
--- ---- Names that nobody gives.
+-- ---- Names that nobody defines.
 
-abbrev pub is_given : Script → Program → List ℕ → Bool
-is_given s p name = is_among (given_names s p) name || is_among (map (λ d. d.name) (weak_symbols s.symbols)) name
+abbrev pub is_defined_name : Script → Program → List ℕ → Bool
+is_defined_name s p name = is_among (strong_names s p) name || is_among (map (λ d. d.name) (weak_symbols s.symbols)) name
 
 -- each name once, at its first occurrence
-abbrev pub each_once : List (List ℕ) → List (List ℕ) → List (List ℕ)
-each_once before [] = before
-each_once before (name ∷ names) = each_once (if is_among before name then before else before ++ name ∷ []) names
+abbrev pub distinct_names : List (List ℕ) → List (List ℕ) → List (List ℕ)
+distinct_names before [] = before
+distinct_names before (name ∷ names) = distinct_names (if is_among before name then before else before ++ name ∷ []) names
 
 -- the names that have to be defined, in order of first reference: the script's imports, then those of the
 -- modules
 abbrev pub references : Script → Program → List (List ℕ)
-references s p = each_once [] (symbol_imports s.symbols ++ flat_map (λ m. m.imports) p.members)
+references s p = distinct_names [] (symbol_imports s.symbols ++ flat_map (λ m. m.imports) p.members)
 
 abbrev pub unresolved_names : Script → Program → List (List ℕ)
-unresolved_names s p = filter (λ name. not (is_given s p name)) (references s p)
+unresolved_names s p = filter (λ name. not (is_defined_name s p name)) (references s p)
 
--- the names that are needed and that neither the script nor a module defines so far, weak names left aside:
+-- the names that are imported and that neither the script nor a module defines so far, weak names aside;
 -- libraries are searched for them
 abbrev pub open_names : Script → Program → List (List ℕ)
-open_names s p = filter (λ name. not (is_among (given_names s p) name)) (references s p)
+open_names s p = filter (λ name. not (is_among (strong_names s p) name)) (references s p)
 
--- ---- Who gives a name.
+-- ---- The provider of a name.
 
-abbrev pub by_definition : List ScriptSymbol → Option ℕ → Provider → Provider
-by_definition ds (Some i) other = ByScript (option_map_or (λ d. d.value) (slice_get ds i) (pos 0))
-by_definition ds None other = other
+abbrev pub script_provider_or : List ScriptSymbol → Option ℕ → Provider → Provider
+script_provider_or ds (Some i) other = ByScript (option_map_or (λ d. d.value) (slice_get ds i) (pos 0))
+script_provider_or ds None other = other
 
-abbrev pub by_export : Option ℕ → Provider → Provider
-by_export (Some i) other = ByModule i
-by_export None other = other
+abbrev pub module_provider_or : Option ℕ → Provider → Provider
+module_provider_or (Some i) other = ByModule i
+module_provider_or None other = other
 
--- the place of the first definition of a name
-abbrev pub defined_at : List ScriptSymbol → List ℕ → Option ℕ
-defined_at ds name = position_in (map (λ d. d.name) ds) name
+-- the index of the first definition of a name
+abbrev pub index_of_definition : List ScriptSymbol → List ℕ → Option ℕ
+index_of_definition ds name = position_in (map (λ d. d.name) ds) name
 
-abbrev pub exported_at : List Exported → List ℕ → Option ℕ
-exported_at exports name = position_in (map (λ e. e.name) exports) name
+abbrev pub index_of_export : List ModuleExport → List ℕ → Option ℕ
+index_of_export exports name = position_in (map (λ e. e.name) exports) name
 
--- By the script's own definitions, the exports of modules and the script's weak names; an export is named by its
--- place. No name is given twice among the first two.
-abbrev pub provider_of : List ScriptSymbol → List Exported → List ScriptSymbol → List ℕ → Provider
-provider_of own exports weak name =
-    by_definition own (defined_at own name) (by_export (exported_at exports name) (by_definition weak (defined_at weak name) Nobody))
+-- The provider of a name: the script's own definition, else an export, by its index, else a weak name of the
+-- script. No name is defined twice among the first two.
+abbrev pub provider_of : List ScriptSymbol → List ModuleExport → List ScriptSymbol → List ℕ → Provider
+provider_of script_symbols exports weak name =
+    script_provider_or script_symbols (index_of_definition script_symbols name) (module_provider_or (index_of_export exports name) (script_provider_or weak (index_of_definition weak name) Nobody))
 
 -- ---- A script with one more weak name, and links with the same images.
 
@@ -168,9 +168,9 @@ with_weak s name value = record {
 abbrev pub is_used : Script → Program → List ℕ → Bool
 is_used s p name = is_among (symbol_imports s.symbols ++ flat_map (λ m. m.imports) p.members) name
 
--- the same files and the same warnings, whatever the maps say, or the same fault
-abbrev pub SameImages : Result Linked LinkFault → Result Linked LinkFault → Type 0
-SameImages (Ok a) (Ok b) = (a.files ≡ b.files) × (a.warnings ≡ b.warnings)
-SameImages (Err e) (Err f) = e ≡ f
-SameImages (Ok a) (Err f) = ⊥
-SameImages (Err e) (Ok b) = ⊥
+-- the same files and warnings, whatever the maps are, or the same error
+abbrev pub HaveSameImages : Result Linked LinkFault → Result Linked LinkFault → Type 0
+HaveSameImages (Ok a) (Ok b) = (a.files ≡ b.files) × (a.warnings ≡ b.warnings)
+HaveSameImages (Err e) (Err f) = e ≡ f
+HaveSameImages (Ok a) (Err f) = ⊥
+HaveSameImages (Err e) (Ok b) = ⊥

@@ -8,22 +8,22 @@ use Rattle.link65.specs.declared.evaluation.ExportState.{ExportState}
 use Rattle.link65.specs.declared.evaluation.ExportState.TheVariants.{Untouched, BeingEvaluated, Found}
 use Rattle.link65.specs.declared.evaluation.EvalBlocked.{EvalBlocked}
 use Rattle.link65.specs.declared.evaluation.EvalBlocked.TheVariants.{Fault, Needs}
-use Rattle.link65.specs.declared.parts.Exported.{Exported}
+use Rattle.link65.specs.declared.parts.ModuleExport.{ModuleExport}
 use Rattle.link65.specs.declared.parts.Provider.{Provider}
 use Rattle.link65.specs.declared.parts.Provider.TheVariants.{ByModule, ByScript, Nobody}
-use Rattle.link65.specs.declared.parts.Resolved.{Resolved}
+use Rattle.link65.specs.declared.parts.ModuleBindings.{ModuleBindings}
 use Rattle.link65.specs.declared.parts.ValueFault.{ValueFault}
 use Rattle.link65.specs.declared.parts.ValueFault.TheVariants.{Circular, NoValue, Unresolved}
-use Rattle.link65.specs.Values.{ExportComesTo, Linkage, base_of, provider_at, AreExports, Exports, in_table, linkage, value_by, linkage_of, cell_bytes, or_zero, row_bytes}
+use Rattle.link65.specs.Values.{ExportEvaluatesTo, Linkage, base_of, provider_at, AreExports, Exports, table_exports, linkage, value_of_form, linkage_of, cell_bytes, or_zero, row_bytes}
 use Rattle.std.specs.Str.{bytes_eq}
 use Rattle.indexmap.specs.IndexMap.{IndexMap, get_by}
 use Rattle.base65.specs.declared.seed.Seed.{Seed}
 use Rattle.std.specs.Borrow.{Bor}
 use Rattle.std.specs.Option.{option_or}
-use Rattle.link65.specs.declared.parts.SectionPlace.{SectionPlace}
+use Rattle.link65.specs.declared.parts.SectionPosition.{SectionPosition}
 use Rattle.link65.specs.declared.resolving.DefinedSymbols.{DefinedSymbols}
 use Rattle.link65.specs.declared.parts.LinkedModule.{LinkedModule}
-use Rattle.link65.specs.Names.{by_definition, defined_at, exported_at, provider_of, script_definitions, weak_symbols}
+use Rattle.link65.specs.Names.{script_provider_or, index_of_definition, index_of_export, provider_of, script_definitions, weak_symbols}
 use Rattle.link65.specs.Programs.{flat_zip, Program, Cell, Segment}
 use Rattle.std.specs.Int.{w64, cast_signed, cast_unsigned}
 use Rattle.std.specs.List.{flat_map}
@@ -44,117 +44,117 @@ use Rattle.link65.specs.Texts.{definition_line, map_text, member_lines, row_line
 
 -- ---- The states of exports during their evaluation.
 
--- the value that was found, or why there is none
-abbrev pub as_found : Result ℤ ValueFault → Result ℤ EvalBlocked
-as_found (Ok v) = Ok v
-as_found (Err e) = Err (Fault e)
+-- the value that was found, or its error
+abbrev pub known_result : Result ℤ ValueFault → Result ℤ EvalBlocked
+known_result (Ok v) = Ok v
+known_result (Err e) = Err (Fault e)
 
--- an export that is met again while it is evaluated is circular
+-- the result of an export, if it is known; an export that is being evaluated is circular
 abbrev pub circular_if_active : ℕ → Option ExportState → Result ℤ EvalBlocked
 circular_if_active x None = Err (Fault Unresolved)
 circular_if_active x (Some Untouched) = Err (Needs x)
 circular_if_active x (Some BeingEvaluated) = Err (Fault Circular)
-circular_if_active x (Some (Found r)) = as_found r
+circular_if_active x (Some (Found r)) = known_result r
 
-abbrev pub import_tried : List ExportState → Provider → Result ℤ EvalBlocked
-import_tried marks (ByModule x) = circular_if_active x (slice_get marks x)
-import_tried marks (ByScript v) = Ok v
-import_tried marks Nobody = Err (Fault Unresolved)
+abbrev pub import_attempt : List ExportState → Provider → Result ℤ EvalBlocked
+import_attempt states (ByModule x) = circular_if_active x (slice_get states x)
+import_attempt states (ByScript v) = Ok v
+import_attempt states Nobody = Err (Fault Unresolved)
 
--- a form's value as far as exports are known, or what it needs first
-abbrev pub form_attempt : Option Resolved → List ExportState → Form → Result ℤ EvalBlocked
-form_attempt m marks f = value_in (Fault NoValue) (base_of m) (λ j. import_tried marks (provider_at m j)) f
+-- a form's result with the exports known so far, or an export that it needs first
+abbrev pub form_attempt : Option ModuleBindings → List ExportState → Form → Result ℤ EvalBlocked
+form_attempt m states f = value_in (Fault NoValue) (base_of m) (λ j. import_attempt states (provider_at m j)) f
 
 -- the values found so far are those of the exports
-abbrev pub AreTrue : Linkage → List ExportState → Type 0
-AreTrue l marks = (x : ℕ) (r : Result ℤ ValueFault) → slice_get marks x ≡ Some (Found r) → ExportComesTo l x r
+abbrev pub AreCorrect : Linkage → List ExportState → Type 0
+AreCorrect l states = (x : ℕ) (r : Result ℤ ValueFault) → slice_get states x ≡ Some (Found r) → ExportEvaluatesTo l x r
 
 abbrev pub attempt_of : Result ℤ EvalBlocked → Attempt
-attempt_of (Ok v) = attempt.Settled (Ok v)
-attempt_of (Err (Fault e)) = attempt.Settled (Err e)
+attempt_of (Ok v) = attempt.Completed (Ok v)
+attempt_of (Err (Fault e)) = attempt.Completed (Err e)
 attempt_of (Err (Needs x)) = attempt.Needs x
 
-abbrev pub export_tried : List Resolved → List ExportState → Option Exported → Attempt
-export_tried modules marks None = attempt.Settled (Err Unresolved)
-export_tried modules marks (Some e) = attempt_of (form_attempt (slice_get modules e.owner) marks e.form)
+abbrev pub export_attempt : List ModuleBindings → List ExportState → Option ModuleExport → Attempt
+export_attempt modules states None = attempt.Completed (Err Unresolved)
+export_attempt modules states (Some e) = attempt_of (form_attempt (slice_get modules e.owner) states e.form)
 
 abbrev pub IsFound : List ExportState → ℕ → Type 0
-IsFound marks x = (r : Result ℤ ValueFault) × (slice_get marks x ≡ Some (Found r))
+IsFound states x = (r : Result ℤ ValueFault) × (slice_get states x ≡ Some (Found r))
 
--- a mark for each export, none of which is being evaluated, and what was found is true
-pub record AreSettled (l : Linkage) (marks : List ExportState) : Type 0 where
-  pub long : length marks ≡ length l.exports
-  pub all_true : AreTrue l marks
-  pub at_rest : (x : ℕ) → slice_get marks x ≢ Some BeingEvaluated
+-- each export has a state, none is being evaluated, and the values found so far are those of the exports
+pub record ExportStatesInvariant (l : Linkage) (states : List ExportState) : Type 0 where
+  pub long : length states ≡ length l.exports
+  pub all_correct : AreCorrect l states
+  pub at_rest : (x : ℕ) → slice_get states x ≢ Some BeingEvaluated
 
--- all that was found stays found
-abbrev pub KeepsFound : List ExportState → List ExportState → Type 0
-KeepsFound old new = (x : ℕ) → IsFound old x → IsFound new x
+-- exports that were found stay found
+abbrev pub PreservesResults : List ExportState → List ExportState → Type 0
+PreservesResults old new = (x : ℕ) → IsFound old x → IsFound new x
 
 -- ---- All exports.
 
 abbrev pub AllFound : List ExportState → Type 0
-AllFound marks = (x : ℕ) → x < length marks → IsFound marks x
+AllFound states = (x : ℕ) → x < length states → IsFound states x
 
--- all is found, and true
-pub record AreAllFound (l : Linkage) (marks : List ExportState) : Type 0 where
-  pub settled : AreSettled l marks
-  pub found : AllFound marks
+-- all exports are found, with their values
+pub record AreFinalStates (l : Linkage) (states : List ExportState) : Type 0 where
+  pub settled : ExportStatesInvariant l states
+  pub found : AllFound states
 
-abbrev pub outcome_of : ExportState → Result ℤ ValueFault
-outcome_of Untouched = Err Unresolved
-outcome_of BeingEvaluated = Err Circular
-outcome_of (Found r) = r
+abbrev pub state_result : ExportState → Result ℤ ValueFault
+state_result Untouched = Err Unresolved
+state_result BeingEvaluated = Err Circular
+state_result (Found r) = r
 
--- the values of the exports, in order
-abbrev pub table_of : List ExportState → List (Result ℤ ValueFault)
-table_of marks = map outcome_of marks
+-- the results of the exports, in order
+abbrev pub export_results : List ExportState → List (Result ℤ ValueFault)
+export_results states = map state_result states
 
 -- the result of an attempt that needs nothing else
-abbrev pub as_outcome : Result ℤ EvalBlocked → Result ℤ ValueFault
-as_outcome (Ok v) = Ok v
-as_outcome (Err (Fault e)) = Err e
-as_outcome (Err (Needs x)) = Err Circular
+abbrev pub final_result : Result ℤ EvalBlocked → Result ℤ ValueFault
+final_result (Ok v) = Ok v
+final_result (Err (Fault e)) = Err e
+final_result (Err (Needs x)) = Err Circular
 
--- ---- Names, as the code holds them.
+-- ---- The representation of names.
 
--- the definition found of a name
+-- the item of a name in a table, if there is one
 abbrev pub provider_found : {A S : Type 0} → IndexMap (Bor (List ℕ)) A S → List ℕ → Option A
 provider_found table name = get_by (λ k. bytes_eq name k.now) table
 
--- names added to a table: those that have an index get what is at that index, others keep what they had
+-- names added to a table: a name with an index gets the item of that index, any other keeps its item
 abbrev pub ExtendsTable : {A S : Type 0} → (ℕ → A) → (List ℕ → Option ℕ) → IndexMap (Bor (List ℕ)) A S → IndexMap (Bor (List ℕ)) A S → Type 0
-ExtendsTable given at old new = (name : List ℕ) → provider_found new name ≡ option_or (option_map given (at name)) (provider_found old name)
+ExtendsTable provided at old new = (name : List ℕ) → provider_found new name ≡ option_or (option_map provided (at name)) (provider_found old name)
 
 abbrev pub definition_at : List ScriptSymbol → ℕ → Provider
-definition_at ds i = by_definition ds (Some i) Nobody
+definition_at ds i = script_provider_or ds (Some i) Nobody
 
 abbrev pub AddsDefinitions : {S : Type 0} → List ScriptSymbol → IndexMap (Bor (List ℕ)) Provider S → IndexMap (Bor (List ℕ)) Provider S → Type 0
-AddsDefinitions ds old new = ExtendsTable (definition_at ds) (defined_at ds) old new
+AddsDefinitions ds old new = ExtendsTable (definition_at ds) (index_of_definition ds) old new
 
-abbrev pub AddsExports : {S : Type 0} → List Exported → IndexMap (Bor (List ℕ)) Provider S → IndexMap (Bor (List ℕ)) Provider S → Type 0
-AddsExports exports old new = ExtendsTable ByModule (exported_at exports) old new
+abbrev pub AddsExports : {S : Type 0} → List ModuleExport → IndexMap (Bor (List ℕ)) Provider S → IndexMap (Bor (List ℕ)) Provider S → Type 0
+AddsExports exports old new = ExtendsTable ByModule (index_of_export exports) old new
 
 abbrev pub provider_in : DefinedSymbols → List ℕ → Provider
-provider_in n name = unwrap_or (provider_found n.defined name) (unwrap_or (provider_found n.weakly name) Nobody)
+provider_in n name = unwrap_or (provider_found n.defined name) (unwrap_or (provider_found n.weak_providers name) Nobody)
 
--- each name is given as it is by what the script and the modules define
-pub record AreNames (n : DefinedSymbols) : Type 0 where
-  pub defined : (name : List ℕ) → is_some (provider_found n.defined name) ≡ (is_some (defined_at n.own.now name) || is_some (exported_at n.exports.now name))
-  pub given : (name : List ℕ) → provider_in n name ≡ provider_of n.own.now n.exports.now n.weak.now name
+-- the provider of each name follows from the definitions of the script and the modules
+pub record HasCorrectProviders (n : DefinedSymbols) : Type 0 where
+  pub defined : (name : List ℕ) → is_some (provider_found n.defined name) ≡ (is_some (index_of_definition n.script_symbols.now name) || is_some (index_of_export n.exports.now name))
+  pub provided : (name : List ℕ) → provider_in n name ≡ provider_of n.script_symbols.now n.exports.now n.weak.now name
 
--- where the row of a name runs, and a section of it
+-- the run addresses of rows by their names, and of sections
 abbrev pub RunAddresses : Type 0
 RunAddresses = IndexMap (Bor (List ℕ)) ℕ Seed
 
 abbrev pub run_in : RunAddresses → List ℕ → ℕ
 run_in runs name = unwrap_or (provider_found runs name) 0
 
-abbrev pub address_in : RunAddresses → SectionPlace → ℤ
+abbrev pub address_in : RunAddresses → SectionPosition → ℤ
 address_in runs p = cast_signed w64 ((run_in runs p.segment + p.offset) % 2 ^ 64)
 
-abbrev pub resolved_by : DefinedSymbols → RunAddresses → LinkedModule → Resolved
-resolved_by n runs m = record { bases = map (address_in runs) m.sections; providers = map (provider_in n) m.imports }
+abbrev pub bindings_in : DefinedSymbols → RunAddresses → LinkedModule → ModuleBindings
+bindings_in n runs m = record { bases = map (address_in runs) m.sections; providers = map (provider_in n) m.imports }
 
 -- ---- A placed program with resolved exports, as the code stores it, and its link except for the files.
 
@@ -162,7 +162,7 @@ abbrev pub linkage_in : PlacedProgram → Linkage
 linkage_in p = linkage p.modules.now p.exports.now
 
 abbrev pub exports_in : PlacedProgram → Exports
-exports_in p = in_table (table_of p.marks.now)
+exports_in p = table_exports (export_results p.states.now)
 
 abbrev pub segments_in : PlacedProgram → List Segment
 segments_in p = segments_from p.contents.now
@@ -174,47 +174,47 @@ program_in p = record { members = p.members.now; segments = segments_in p; expor
 abbrev pub check_in : PlacedProgram → ValueFixup → Result (Unit {0}) LinkFault
 check_in p = check_fixup (linkage_in p) p.members.now (exports_in p)
 
--- the check of an export, and its value, where it has been found to have one
-abbrev pub check_export_in : PlacedProgram → Exported → Result (Unit {0}) LinkFault
+-- the check of an export, and its value, which is 0 if it has none
+abbrev pub check_export_in : PlacedProgram → ModuleExport → Result (Unit {0}) LinkFault
 check_export_in p = check_export (linkage_in p) p.members.now (exports_in p)
 
-abbrev pub exported_value : Linkage → Exports → Exported → ℤ
-exported_value l exports e = or_zero (value_by l exports e.owner e.form)
+abbrev pub exported_value : Linkage → Exports → ModuleExport → ℤ
+exported_value l exports e = or_zero (value_of_form l exports e.owner e.form)
 
 abbrev pub values_in : PlacedProgram → List ℤ
 values_in p = map (exported_value (linkage_in p) (exports_in p)) p.exports.now
 
--- an export in the map, by its value
-abbrev pub value_line : Exported → ℤ → List ℕ
+-- the line of an export in the map, given its value
+abbrev pub value_line : ModuleExport → ℤ → List ℕ
 value_line e v = symbol_line e.name (cast_unsigned w64 v)
 
--- all symbols, by the values of exports
-abbrev pub lines_by : List ScriptSymbol → List ScriptSymbol → List Exported → List ℤ → List ℕ
-lines_by own weak exports values =
-    concat_texts (flat_map definition_line own ∷ flat_zip value_line exports values ∷ flat_map (weak_line own exports) weak ∷ [])
+-- the lines of all symbols, given the values of exports
+abbrev pub symbol_lines_from : List ScriptSymbol → List ScriptSymbol → List ModuleExport → List ℤ → List ℕ
+symbol_lines_from script_symbols weak exports values =
+    concat_texts (flat_map definition_line script_symbols ∷ flat_zip value_line exports values ∷ flat_map (weak_line script_symbols exports) weak ∷ [])
 
--- the map, by the lines of its symbols
-abbrev pub map_by : List LinkedModule → List SegmentRow → List RowPlacement → List ℕ → List ℕ
-map_by members rows placements symbols =
+-- the text of the map, given the lines of its symbols
+abbrev pub map_from_lines : List LinkedModule → List SegmentRow → List RowPlacement → List ℕ → List ℕ
+map_from_lines members rows placements symbols =
     concat_texts (codes "MODULES\n" ∷ flat_map member_lines members ∷ codes "SEGMENTS\n" ∷ row_lines rows placements ∷ codes "SYMBOLS\n" ∷ symbols ∷ [])
 
--- the bytes of a cell, by the fill value of its row, and those of rows
+-- the bytes of a cell, given the fill value of its row; and those of rows
 abbrev pub cell_in : PlacedProgram → ℕ → Cell → List ℕ
 cell_in p fill = cell_bytes (linkage_in p) (exports_in p) fill
 
 abbrev pub bytes_in : PlacedProgram → RowBytes
 bytes_in p = row_bytes (linkage_in p) (exports_in p) (segments_in p)
 
--- all exports are found, and each segment by its name
+-- all exports are found, and the names are those of the segments
 pub record IsReady (p : PlacedProgram) : Type 0 where
-  pub found : AllFound p.marks.now
+  pub found : AllFound p.states.now
   pub named : map (λ n. n.items) p.names.now.keys ≡ map (λ c. c.name) p.contents.now
 
 -- the names are those of the script and of the program
-pub record AreOf (s : Script) (placement : Placement) (n : DefinedSymbols) (p : PlacedProgram) : Type 0 where
+pub record HasMatchingNames (s : Script) (placement : Placement) (n : DefinedSymbols) (p : PlacedProgram) : Type 0 where
   pub ready : IsReady p
-  pub names : AreNames n
-  pub own : n.own.now ≡ script_definitions s placement
+  pub names : HasCorrectProviders n
+  pub script_symbols : n.script_symbols.now ≡ script_definitions s placement
   pub weak : n.weak.now ≡ weak_symbols s.symbols
   pub exports : n.exports.now ≡ p.exports.now
 
@@ -226,10 +226,10 @@ ChecksSucceed s p placement l exports warnings (Ok x) =
     × (x.map ≡ map_text s p placement l exports)
 ChecksSucceed s p placement l exports warnings (Err e) = ⊥
 
--- the same, or the first fault
-abbrev pub IsPassed : Script → Program → Placement → Linkage → Exports → Result CheckedLink LinkFault → Type 0
-IsPassed s p placement l exports r = AndThen (check_result s p l exports) (ChecksSucceed s p placement l exports) r
+-- the results of a placed program that passes all checks, or the first error
+abbrev pub IsCheckedLink : Script → Program → Placement → Linkage → Exports → Result CheckedLink LinkFault → Type 0
+IsCheckedLink s p placement l exports r = AndThen (check_result s p l exports) (ChecksSucceed s p placement l exports) r
 
-abbrev pub IsPlacedPassed : Script → Program → Placement → Result CheckedLink LinkFault → Type 0
-IsPlacedPassed s p placement r =
-    (table : List (Result ℤ ValueFault)) × AreExports (linkage_of s p placement) table × IsPassed s p placement (linkage_of s p placement) (in_table table) r
+abbrev pub IsPlacedCheckedLink : Script → Program → Placement → Result CheckedLink LinkFault → Type 0
+IsPlacedCheckedLink s p placement r =
+    (table : List (Result ℤ ValueFault)) × AreExports (linkage_of s p placement) table × IsCheckedLink s p placement (linkage_of s p placement) (table_exports table) r

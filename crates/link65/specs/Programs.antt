@@ -10,14 +10,14 @@ use Rattle.object65.specs.declared.object.Fragment.TheVariants.{Literal, Fill, V
 use Rattle.object65.specs.Objects.{section_len}
 use Rattle.script65.specs.Placing.{rounded_up}
 use Rattle.link65.specs.declared.parts.ValueFixup.{ValueFixup}
-use Rattle.link65.specs.declared.parts.SectionPlace.{SectionPlace}
+use Rattle.link65.specs.declared.parts.SectionPosition.{SectionPosition}
 use Rattle.object65.specs.declared.object.Assert.{Assert}
 use Rattle.object65.specs.declared.object.Export.{Export}
-use Rattle.link65.specs.declared.parts.Asserted.{Asserted}
-use Rattle.link65.specs.declared.parts.Exported.{Exported}
+use Rattle.link65.specs.declared.parts.ModuleAssertion.{ModuleAssertion}
+use Rattle.link65.specs.declared.parts.ModuleExport.{ModuleExport}
 use Rattle.link65.specs.declared.parts.LinkedModule.{LinkedModule}
 
--- ---- Lists beside each other, and places by name.
+-- ---- Lists item by item, and indices by name.
 
 -- the concatenated results for the items of two lists at equal indices
 abbrev pub flat_zip : {A B C : Type 0} → (A → B → List C) → List A → List B → List C
@@ -25,26 +25,26 @@ flat_zip f (x ∷ xs) (y ∷ ys) = f x y ++ flat_zip f xs ys
 flat_zip f [] ys = []
 flat_zip f (x ∷ xs) [] = []
 
--- the place of the first name that equals one
+-- the index of the first of the names that equals a name
 abbrev pub position_in : List (List ℕ) → List ℕ → Option ℕ
 position_in names name = position_from (λ n. bytes_eq n name) 0 names
 
--- ---- What is linked.
+-- ---- Modules.
 
--- an object and the name by which it was given
+-- an object, and the name of its module
 pub record Module : Type 0 where
   pub name : List ℕ
   pub object : Object
 
 -- ---- The contents of segments: each module's section after those of the modules before it.
 
--- a byte of a segment: one that is known, one of the fill value, or one of a value that needs addresses
+-- a part of a segment: a byte that is known, a byte of the fill value, or a value that needs addresses
 pub data Cell : Type 0 where
   known : ℕ → Cell
   filled : Cell
-  waits : ValueFixup → Cell
+  deferred : ValueFixup → Cell
 
--- a segment's size, the largest alignment of its sections, and what lies in it from its start on
+-- a segment's size, the largest alignment of its sections, and its contents from its start on
 pub record Segment : Type 0 where
   pub name : List ℕ
   pub size : ℕ
@@ -54,16 +54,16 @@ pub record Segment : Type 0 where
 abbrev pub empty_segment : List ℕ → Segment
 empty_segment name = record { name = name; size = 0; align = 1; cells = [] }
 
--- the bytes that a fragment of the module at an index puts into its segment
+-- the cells of a fragment of the module at an index, in its segment
 abbrev pub fragment_cells : ℕ → Fragment → List Cell
 fragment_cells owner (Literal bytes) = map known bytes
 fragment_cells owner (Fill n) = replicate n filled
-fragment_cells owner (Value width origin form) = waits (record { owner = owner; width = width; origin = origin; form = form }) ∷ []
+fragment_cells owner (Value width origin form) = deferred (record { owner = owner; width = width; origin = origin; form = form }) ∷ []
 
 abbrev pub align_of : Section → ℕ
 align_of s = 2 ^ s.align
 
--- a section begins at the least multiple of its own alignment that isn't below the end before it
+-- the offset of a section: the least multiple of its alignment that isn't below the end before it
 abbrev pub begin_after : ℕ → Section → ℕ
 begin_after end s = rounded_up end (align_of s)
 
@@ -93,36 +93,36 @@ abbrev pub end_of : List Segment → List ℕ → ℕ
 end_of gs name = option_map_or (λ g. g.size) (segment_of gs name) 0
 
 -- the position of a section in its segment, after the earlier sections
-abbrev pub section_place : List Segment → Section → SectionPlace
-section_place gs s = record { segment = s.name; offset = begin_after (end_of gs s.name) s; size = section_len s }
+abbrev pub section_position : List Segment → Section → SectionPosition
+section_position gs s = record { segment = s.name; offset = begin_after (end_of gs s.name) s; size = section_len s }
 
-abbrev pub section_places : ℕ → List Segment → List Section → List SectionPlace
-section_places owner gs [] = []
-section_places owner gs (s ∷ ss) = section_place gs s ∷ section_places owner (with_section owner gs s) ss
+abbrev pub section_positions : ℕ → List Segment → List Section → List SectionPosition
+section_positions owner gs [] = []
+section_positions owner gs (s ∷ ss) = section_position gs s ∷ section_positions owner (with_section owner gs s) ss
 
 -- ---- The modules before placement: all that a link needs of them.
 
--- A member is a module's name, the places of its sections in their segments, the names that it imports, and those of its files. An
--- owner is a member's place.
+-- A member has a module's name, the positions of its sections in their segments, the names that it imports, and those
+-- of its files. An owner is a member's index.
 pub record Program : Type 0 where
   pub members : List LinkedModule
   pub segments : List Segment
-  pub exports : List Exported
-  pub asserts : List Asserted
+  pub exports : List ModuleExport
+  pub asserts : List ModuleAssertion
 
 abbrev pub no_program : Program
 no_program = record { members = []; segments = []; exports = []; asserts = [] }
 
-abbrev pub linked_export : ℕ → Export → Exported
+abbrev pub linked_export : ℕ → Export → ModuleExport
 linked_export owner e = record { owner = owner; name = e.name; origin = e.origin; form = e.form }
 
-abbrev pub linked_assertion : ℕ → Assert → Asserted
+abbrev pub linked_assertion : ℕ → Assert → ModuleAssertion
 linked_assertion owner a = record { owner = owner; action = a.action; origin = a.origin; text = a.text; form = a.form }
 
 abbrev pub member : Program → Module → LinkedModule
 member p m = record {
   name = m.name;
-  sections = section_places (length p.members) p.segments m.object.sections;
+  sections = section_positions (length p.members) p.segments m.object.sections;
   imports = m.object.imports;
   files = m.object.files;
 }

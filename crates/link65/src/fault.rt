@@ -1,4 +1,4 @@
-//! Why nothing is linked.
+//! Errors of the linker, and their texts.
 
 ghost use Rattle.std.specs.Prelude.{◌≡◌, Some};
 ghost use Rattle.link65.specs.Faults.{of_object, of_place};
@@ -20,20 +20,20 @@ pub struct ModuleLocation {
     pub line: u32,
 }
 
-/// Why nothing is linked.
+/// An error of the linker.
 #[derive(Debug, Drop)]
 pub enum LinkFault {
     FailedBefore,
     OutOfMemory,
     /// A module that isn't an object.
     Malformed(ObjectFault),
-    /// A name that is given twice.
+    /// A name that is defined twice.
     DuplicateExport(ListVec<u8>),
-    /// All names that nobody gives, in order of first reference.
+    /// All names that nobody defines, in order of first reference.
     Unresolved(ListVec<ListVec<u8>>),
-    /// Segments that aren't placed.
+    /// Segments that can't be placed.
     Place(PlaceFault),
-    /// A value that needs itself.
+    /// A value that depends on itself.
     Circular(ModuleLocation),
     /// A value that doesn't fit.
     OutOfRange(ModuleLocation),
@@ -41,7 +41,7 @@ pub enum LinkFault {
     NoValue(ModuleLocation),
     /// An assertion that fails, and its text.
     Assertion(ModuleLocation, ListVec<u8>),
-    /// A member of a library whose names aren't those that the index has.
+    /// A member of a library whose names aren't those in the index.
     IndexDisagrees,
 }
 
@@ -78,7 +78,7 @@ impl fmt::Display for LinkFault {
 
 impl Error for LinkFault {}
 
-/// Names as they are printed, between commas and blanks.
+/// Names for printing, separated by commas and blanks.
 #[derive(Clone, Copy)]
 struct NameList<'a>(&'a [ListVec<u8>]);
 

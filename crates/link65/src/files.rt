@@ -1,8 +1,8 @@
-//! The files of areas: the rows of each, laid into its bytes.
+//! The files of memory areas, made of the bytes of their rows.
 
 ghost use Rattle.std.specs.Prelude.{◌≡◌, ◌<◌, ◌++◌, ◌∷◌, ◌==◌, [], ℕ, List, Some, IfOk, OnOk, length, map, slice_get, if◌then◌else◌, true};
 ghost use Rattle.std.specs.Option.{option_map};
-ghost use Rattle.link65.specs.Internal.Loads.{HoldsLoads, IsFileOf, piece_at, placed_in, view, AreFileNames, IsWhole, LaysAll, OverlaysBytes};
+ghost use Rattle.link65.specs.Internal.Loads.{HasRowImages, IsFileOf, piece_at, placed_row_of, view, AreFileNames, IsSinglePiece, OverlaysPieces, OverlaysBytes};
 ghost use Rattle.link65.specs.Files.{RowBytes, is_loaded, written_row_bytes, end_after, file_len, AddsArea, AddsAreas, IsAreaFile, area_at, file_name, with_bytes};
 ghost use Rattle.base65.specs.declared.output.OutputFile.{OutputFile};
 
@@ -14,7 +14,7 @@ use script65::{
 use std::alloc::{AllocError, Global};
 use std::mem;
 
-/// A row, where it is placed, and its bytes.
+/// A row, its placement, and its bytes.
 #[derive(Drop)]
 pub struct RowImage<'a> {
     pub row: &'a SegmentRow,
@@ -22,7 +22,7 @@ pub struct RowImage<'a> {
     pub bytes: ListVec<u8>,
 }
 
-/// An area, where it is placed, and the rows of its file.
+/// An area, its placement, and the rows of its file.
 #[derive(Drop)]
 pub struct AreaImage<'b, 'a> {
     pub area: &'b MemoryArea,
@@ -30,9 +30,9 @@ pub struct AreaImage<'b, 'a> {
     pub loads: ListVec<RowImage<'a>>,
 }
 
-/// Takes out the list at an index.
-fn take_at<T: Drop>(alloc: Global, all: &mut Vec<ListVec<T>>, i: usize) -> ListVec<T>
-    ensures taken { (x : List T) → slice_get all.old.items i ≡ Some x → result ≡ x }
+/// Moves out the list at an index. The lists after it are unchanged.
+fn move_out<T: Drop>(alloc: Global, all: &mut Vec<ListVec<T>>, i: usize) -> ListVec<T>
+    ensures accepted { (x : List T) → slice_get all.old.items i ≡ Some x → result ≡ x }
     ensures others { (j : ℕ) → i < j → slice_get all.new.items j ≡ slice_get all.old.items j }
 {
     if i >= all.len() {
@@ -41,7 +41,7 @@ fn take_at<T: Drop>(alloc: Global, all: &mut Vec<ListVec<T>>, i: usize) -> ListV
     mem::replace(&mut all[i], ListVec::new(alloc))
 }
 
-/// As many empty sequences as there are areas.
+/// Returns an empty list of rows for each area.
 fn no_loads<'a>(alloc: Global, areas: usize) -> Result<Vec<ListVec<RowImage<'a>>>, AllocError>
     ensures { IfOk result (λ v. (k : ℕ) → k < areas → slice_get v.items k ≡ Some []) }
 {
@@ -64,7 +64,7 @@ fn add_row<'a>(loads: &mut Vec<ListVec<RowImage<'a>>>, load: RowImage<'a>) -> Re
     Ok(())
 }
 
-/// The rows of each area's file, in order, each with its bytes.
+/// Returns the rows of each area's file, in order, each with its bytes.
 fn loads_of<'a>(
     alloc: Global,
     areas: usize,
@@ -72,11 +72,11 @@ fn loads_of<'a>(
     placements: &[RowPlacement],
     mut contents: Vec<ListVec<u8>>,
 ) -> Result<Vec<ListVec<RowImage<'a>>>, AllocError>
-    ensures { IfOk result (λ v. (bytes : RowBytes) → contents.items ≡ map (written_row_bytes bytes) rows.entry.now → (k : ℕ) → k < areas → HoldsLoads bytes k rows.entry.now placements.now (slice_get v.items k)) }
+    ensures { IfOk result (λ v. (bytes : RowBytes) → contents.items ≡ map (written_row_bytes bytes) rows.entry.now → (k : ℕ) → k < areas → HasRowImages bytes k rows.entry.now placements.now (slice_get v.items k)) }
 {
     let mut loads = no_loads(alloc, areas)?;
     for (i, row) in rows.iter().enumerate() {
-        let bytes = take_at(alloc, &mut contents, i);
+        let bytes = move_out(alloc, &mut contents, i);
         match placements.get(i).copied() {
             Some(placement) => add_row(
                 &mut loads,
@@ -92,20 +92,20 @@ fn loads_of<'a>(
     Ok(loads)
 }
 
-/// Lays bytes into an image, as many as it takes.
+/// Copies bytes into an image at an offset. Bytes past the end of the image are dropped.
 fn overlay(image: &mut [u8], at: usize, bytes: &[u8])
     ensures { OverlaysBytes image.old at bytes.now image.new }
 {
     if at < image.len() {
-        let capacity = image.len() - at;
-        let len = bytes.len().min(capacity);
+        let remaining = image.len() - at;
+        let len = bytes.len().min(remaining);
         image[at..at + len].copy_from_slice(&bytes[..len]);
     }
 }
 
-/// Lays the bytes of each row into the image of their area.
-fn lay_rows(image: &mut [u8], start: u64, loads: &[RowImage<'_>])
-    ensures { LaysAll (map (piece_at start) (map view loads.now)) image.old image.new }
+/// Copies the bytes of each row, in order, into the image of their area.
+fn overlay_rows(image: &mut [u8], start: u64, loads: &[RowImage<'_>])
+    ensures { OverlaysPieces (map (piece_at start) (map view loads.now)) image.old image.new }
 {
     for load in loads {
         let offset = load.placement.load.saturating_sub(start);
@@ -113,9 +113,9 @@ fn lay_rows(image: &mut [u8], start: u64, loads: &[RowImage<'_>])
     }
 }
 
-/// Behind the last row of a size above 0.
+/// Returns the offset after the last row of a size above 0; 0 if there is none.
 fn end_of(start: u64, loads: &[RowImage<'_>]) -> u128
-    ensures { result ≡ end_after start 0 (map placed_in loads.now) }
+    ensures { result ≡ end_after start 0 (map placed_row_of loads.now) }
 {
     let mut end = 0;
     for load in loads {
@@ -127,9 +127,9 @@ fn end_of(start: u64, loads: &[RowImage<'_>]) -> u128
     end
 }
 
-/// The length of an area's file.
+/// Returns the length of an area's file.
 fn file_len(filled: &AreaImage<'_, '_>) -> u128
-    ensures { result ≡ file_len filled.now.area.now filled.now.placement (map placed_in filled.now.loads) }
+    ensures { result ≡ file_len filled.now.area.now filled.now.placement (map placed_row_of filled.now.loads) }
 {
     if filled.area.fill {
         u128::from(filled.placement.size)
@@ -138,9 +138,9 @@ fn file_len(filled: &AreaImage<'_, '_>) -> u128
     }
 }
 
-/// Returns whether the first row's bytes are the whole file of this length.
-fn is_whole(len: usize, start: u64, loads: &[RowImage<'_>]) -> bool
-    ensures { result ≡ true → IsWhole len (map (piece_at start) (map view loads.now)) }
+/// Returns true only if the bytes of a single row are the whole file of this length.
+fn is_single_piece(len: usize, start: u64, loads: &[RowImage<'_>]) -> bool
+    ensures { result ≡ true → IsSinglePiece len (map (piece_at start) (map view loads.now)) }
 {
     match loads {
         [load] => load.placement.load <= start && load.bytes.len() == len,
@@ -148,8 +148,8 @@ fn is_whole(len: usize, start: u64, loads: &[RowImage<'_>]) -> bool
     }
 }
 
-/// The bytes of an area's file, of which memory has to take all: those of rows, and the fill between them. Where one
-/// row's are all of them, they aren't copied.
+/// Returns the bytes of an area's file, all in memory: those of rows, and the fill value in gaps. If one row is the
+/// whole file, its bytes aren't copied.
 fn area_file(alloc: Global, filled: AreaImage<'_, '_>) -> Result<ListVec<u8>, AllocError>
     ensures { IfOk result (λ image. IsFileOf filled.entry.area.now filled.entry.placement (map view filled.entry.loads) image) }
 {
@@ -159,15 +159,15 @@ fn area_file(alloc: Global, filled: AreaImage<'_, '_>) -> Result<ListVec<u8>, Al
     let start = filled.placement.start;
     let mut loads = filled.loads.into_vec();
     loads.retain(|load| load.bytes.len() != 0);
-    if is_whole(len, start, loads.as_slice()) {
+    if is_single_piece(len, start, loads.as_slice()) {
         return Ok(mem::replace(&mut loads[0].bytes, ListVec::new(alloc)));
     }
     let mut image = vec![in alloc; filled.area.fill_value; len]?;
-    lay_rows(image.as_mut_slice(), start, loads.as_slice());
+    overlay_rows(image.as_mut_slice(), start, loads.as_slice());
     Ok(ListVec::from_vec(image))
 }
 
-/// The name of an area's file, where the linker's output has a name.
+/// Returns the name of an area's file, given the name of the linker's output.
 fn file_name<'a>(output: &'a str, file: &'a AreaOutput) -> &'a str
     ensures { result.now ≡ file_name output.entry.now file.entry.now }
 {
@@ -206,7 +206,7 @@ impl<'a> OutputFiles<'a> {
         Ok(())
     }
 
-    /// Adds an area, if its file has a name.
+    /// Adds the file of an area, if it has a name.
     fn add_area(
         &mut self,
         alloc: Global,
@@ -225,7 +225,7 @@ impl<'a> OutputFiles<'a> {
     }
 }
 
-/// Where the area at a place of the script is placed.
+/// Returns the placement of the area at an index of the script; all 0 if there is none.
 fn area_at(placement: &Placement, k: usize) -> AreaPlacement
     ensures { result ≡ area_at placement.now k }
 {
@@ -239,8 +239,8 @@ fn area_at(placement: &Placement, k: usize) -> AreaPlacement
     }
 }
 
-/// The files of all areas, by the places of the script's areas and rows, and by the bytes of the rows that are written;
-/// a row that isn't has none.
+/// Returns the files of all areas, given the placement of the script's areas and rows, and the bytes of the rows, none
+/// of one that isn't written.
 pub fn files_of(
     alloc: Global,
     output: &str,
@@ -268,7 +268,7 @@ pub fn files_of(
         let filled = AreaImage {
             area,
             placement: area_at(placement, k),
-            loads: take_at(alloc, &mut loads, k),
+            loads: move_out(alloc, &mut loads, k),
         };
         files.add_area(alloc, name, filled)?;
     }

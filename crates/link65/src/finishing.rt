@@ -4,10 +4,10 @@ ghost use Rattle.std.specs.Prelude.{◌≡◌, ◌++◌, IfOk, OnOk, Some, map};
 ghost use Rattle.std.specs.List.{flat_map};
 ghost use Rattle.base65.specs.Outcome.{Refines, RefinesProp};
 ghost use Rattle.link65.specs.Files.{written_row_bytes};
-ghost use Rattle.link65.specs.Links.{each_passes, fixups_by_row, fixups_of, check_result};
+ghost use Rattle.link65.specs.Links.{check_each, fixups_by_row, fixups_of, check_result};
 ghost use Rattle.link65.specs.CodeInvariants.{piece_cells, piece_fixups};
 ghost use Rattle.link65.specs.Faults.{is_memory};
-ghost use Rattle.link65.specs.Placed.{AllFound, IsReady, bytes_in, cell_in, check_in, exports_in, linkage_in, segments_in, AreOf, IsPassed, program_in, values_in};
+ghost use Rattle.link65.specs.Placed.{AllFound, IsReady, bytes_in, cell_in, check_in, exports_in, linkage_in, segments_in, HasMatchingNames, IsCheckedLink, program_in, values_in};
 ghost use Rattle.link65.specs.Programs.{segment_of};
 
 use crate::fault::LinkFault;
@@ -21,7 +21,7 @@ use object65::put;
 use script65::{Placement, Script, SegmentRow};
 use std::alloc::{AllocError, Global};
 
-/// Adds the bytes of a piece, or refuses one whose value is missing or doesn't fit.
+/// Appends the bytes of a piece. Rejects a piece whose value is missing or doesn't fit.
 fn add_piece(
     alloc: Global,
     program: &PlacedProgram<'_>,
@@ -29,8 +29,8 @@ fn add_piece(
     piece: &SegmentPiece,
     bytes: &mut Vec<u8>,
 ) -> Result<(), LinkFault>
-    requires { AllFound program.now.marks.now }
-    ensures checked { Refines is_memory (λ u. u) result (each_passes (check_in program.now) (piece_fixups piece.now)) }
+    requires { AllFound program.now.states.now }
+    ensures checked { Refines is_memory (λ u. u) result (check_each (check_in program.now) (piece_fixups piece.now)) }
     ensures bytes { OnOk result (bytes.new.items ≡ bytes.old.items ++ flat_map (cell_in program.now fill) (piece_cells piece.now)) }
 {
     match piece {
@@ -39,38 +39,38 @@ fn add_piece(
             Some(len) => Ok(bytes.resize(len, fill)?),
             None => Err(LinkFault::OutOfMemory),
         },
-        SegmentPiece::Waits(fixup) => {
+        SegmentPiece::Deferred(fixup) => {
             let value = datum_value(alloc, program, fixup)?;
             Ok(bytes.extend_from_slice(put(fixup.width, value).as_slice())?)
         }
     }
 }
 
-/// Refuses the first of pieces whose value is missing or doesn't fit.
+/// Rejects the first piece whose value is missing or doesn't fit.
 fn check_pieces(
     alloc: Global,
     program: &PlacedProgram<'_>,
     pieces: &[SegmentPiece],
 ) -> Result<(), LinkFault>
-    requires { AllFound program.now.marks.now }
-    ensures { Refines is_memory (λ u. u) result (each_passes (check_in program.now) (flat_map piece_fixups pieces.now)) }
+    requires { AllFound program.now.states.now }
+    ensures { Refines is_memory (λ u. u) result (check_each (check_in program.now) (flat_map piece_fixups pieces.now)) }
 {
     for piece in pieces {
-        if let SegmentPiece::Waits(fixup) = piece {
+        if let SegmentPiece::Deferred(fixup) = piece {
             datum_value(alloc, program, fixup)?;
         }
     }
     Ok(())
 }
 
-/// The bytes of a row, where it is written, or the first fault of its values.
+/// Returns the bytes of a row, none if it isn't written; or the first error of its values.
 fn bytes_of_row(
     alloc: Global,
     program: &PlacedProgram<'_>,
     row: &SegmentRow,
 ) -> Result<ListVec<u8>, LinkFault>
     requires { IsReady program.now }
-    ensures checked { Refines is_memory (λ _. tt) result (each_passes (check_in program.now) (fixups_of (segment_of (segments_in program.now) row.now.name))) }
+    ensures checked { Refines is_memory (λ _. tt) result (check_each (check_in program.now) (fixups_of (segment_of (segments_in program.now) row.now.name))) }
     ensures bytes { IfOk result (λ bytes. bytes ≡ written_row_bytes (bytes_in program.now) row.now) }
 {
     let Some(content) = content_of(program, row.name.as_slice()) else {
@@ -88,15 +88,15 @@ fn bytes_of_row(
     Ok(ListVec::from_vec(bytes))
 }
 
-/// The bytes of each row that is written, and none of any other. The first value that is missing or doesn't fit is
-/// refused, by row, module and fragment, whether its row is written or not.
+/// Returns the bytes of each row, none of one that isn't written. Rejects the first value that is missing or
+/// doesn't fit, in the order of rows, modules and fragments, whether its row is written or not.
 fn rows_of(
     alloc: Global,
     program: &PlacedProgram<'_>,
     rows: &[SegmentRow],
 ) -> Result<Vec<ListVec<u8>>, LinkFault>
     requires { IsReady program.now }
-    ensures checked { Refines is_memory (λ _. tt) result (each_passes (check_in program.now) (fixups_by_row rows.now (segments_in program.now))) }
+    ensures checked { Refines is_memory (λ _. tt) result (check_each (check_in program.now) (fixups_by_row rows.now (segments_in program.now))) }
     ensures bytes { IfOk result (λ all. all.items ≡ map (written_row_bytes (bytes_in program.now)) rows.now) }
 {
     let mut all = Vec::with_capacity(alloc, rows.len())?;
@@ -119,7 +119,7 @@ pub struct CheckedLink {
 
 /// The results of checking data, exports and assertions, in this order.
 #[derive(Drop)]
-pub struct Checked {
+pub struct CheckResults {
     /// The bytes of each row that is written.
     pub rows: Vec<ListVec<u8>>,
     /// The values of exports.
@@ -133,7 +133,7 @@ fn check_all(
     alloc: Global,
     script: &Script,
     program: &PlacedProgram<'_>,
-) -> Result<Checked, LinkFault>
+) -> Result<CheckResults, LinkFault>
     requires { IsReady program.now }
     ensures checked { Refines is_memory (λ x. x.assertions) result (check_result script.now (program_in program.now) (linkage_in program.now) (exports_in program.now)) }
     ensures values { IfOk result (λ x. x.values.items ≡ values_in program.now) }
@@ -142,7 +142,7 @@ fn check_all(
     let rows = rows_of(alloc, program, script.rows.as_slice())?;
     let values = export_values(alloc, program)?;
     let assertions = check_assertions(alloc, program, program.asserts)?;
-    Ok(Checked {
+    Ok(CheckResults {
         rows,
         values,
         assertions,
@@ -157,8 +157,8 @@ pub fn check_and_emit(
     names: &DefinedSymbols<'_>,
     program: &PlacedProgram<'_>,
 ) -> Result<CheckedLink, LinkFault>
-    requires { AreOf script.now placement.now names.now program.now }
-    ensures { RefinesProp is_memory (IsPassed script.now (program_in program.now) placement.now (linkage_in program.now) (exports_in program.now)) result }
+    requires { HasMatchingNames script.now placement.now names.now program.now }
+    ensures { RefinesProp is_memory (IsCheckedLink script.now (program_in program.now) placement.now (linkage_in program.now) (exports_in program.now)) result }
 {
     let checked = check_all(alloc, script, program)?;
     let mut warnings = warnings_of(alloc, program, script.rows.as_slice())?;

@@ -1,17 +1,17 @@
-//! Linking: a linker that is fed modules record by record, and what is done once all modules are known.
+//! The linker, which is fed modules record by record and links them once all are known.
 #![tactic(auto)]
 
+mod building;
 mod evaluation;
 mod fault;
-mod feeding;
 mod files;
 mod finishing;
-mod given;
-mod growing;
 pub mod laws;
 mod linker;
 mod linking;
 mod mapping;
+mod module_reader;
+mod name_checks;
 mod naming;
 mod parts;
 mod resolving;

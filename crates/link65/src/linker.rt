@@ -2,19 +2,19 @@
 
 ghost use Rattle.std.specs.Prelude.{◌≡◌, ◌+◌, [], Err, IfErr, IfOk, OnErr, OnOk, map, true, false};
 ghost use Rattle.std.specs.Option.{option_map};
-ghost use Rattle.object65.specs.Record.{entry_of, is_version};
+ghost use Rattle.object65.specs.Record.{raw_record, is_version};
 ghost use Rattle.base65.specs.Outcome.{Refines};
-ghost use Rattle.link65.specs.Faults.{is_memory, RefusesBy, is_of_end, is_of_finish, is_of_record};
-ghost use Rattle.link65.specs.Links.{names_once};
+ghost use Rattle.link65.specs.Faults.{is_memory, HasExpectedError, is_end_fault, is_finish_fault, is_record_fault};
+ghost use Rattle.link65.specs.Links.{check_unique_names};
 ghost use Rattle.link65.specs.Programs.{program_of};
-ghost use Rattle.link65.specs.Names.{given_names, open_names};
-ghost use Rattle.link65.specs.Representation.{AreNames, BeginsModule, AddsRecord, EndsModule, IsFed, IsRefused, ConfigFrame, LinksModules, is_open, values_in};
+ghost use Rattle.link65.specs.Names.{strong_names, open_names};
+ghost use Rattle.link65.specs.Representation.{RefinesNames, BeginsModule, AddsRecord, EndsModule, RepresentsModules, FailureFrame, ConfigFrame, LinksModules, is_open, values_in};
 
+use crate::building::{ProgramBuilder, empty_builder};
 use crate::fault::LinkFault;
-use crate::feeding::{OpenModule, close_module, open_module, take_record};
-use crate::given::{DefinedNames, copy_of, missing_names};
-use crate::growing::{ProgramBuilder, no_module};
 use crate::linking::{Linked, link};
+use crate::module_reader::{OpenModule, add_record, close_module, open_module};
+use crate::name_checks::{DefinedNames, copy_of, missing_names};
 use base65::{PathString, Seed};
 use library65::{Entry, Names};
 use object65::Record;
@@ -22,17 +22,17 @@ use script65::Script;
 use std::alloc::Global;
 use std::marker::Model;
 
-/// A linker, which stands for the modules that were fed and the records so far of the one that is open. It keeps
-/// what they put into segments, exports and assertions, and no module or record.
+/// A linker, which represents the modules that were fed and the records of the open module so far. It stores their
+/// contributions to segments, exports and assertions, but no object or record.
 #[derive(Drop)]
 pub struct Linker {
     script: Script,
-    /// The name of the file that is linked.
+    /// The name of the output file.
     output: PathString,
-    growing: ProgramBuilder,
-    given: DefinedNames,
+    program_builder: ProgramBuilder,
+    provided: DefinedNames,
     opened: Option<OpenModule>,
-    /// The number of values taken.
+    /// The number of values that were fed.
     pending: usize,
     failed: bool,
 }
@@ -42,50 +42,51 @@ impl Model for Linker {
     ghost use Rattle.std.specs.Coded.{codes};
     ghost use Rattle.object65.specs.Form.{form_code};
     ghost use Rattle.link65.specs.Representation.{names_in, LinkerView};
-    ghost use Rattle.link65.specs.CodeInvariants.{NamesResolve, growth_in};
+    ghost use Rattle.link65.specs.CodeInvariants.{NamesResolve, partial_program_in};
     ghost use Rattle.link65.specs.Internal.Fields.{opened_in};
 
     ghost Value = { LinkerView };
 
     ghost coded = { Prim.hlevel (codes, form_code) };
 
-    ghost view = { λ l. record { script = l.script; output = l.output; growth = growth_in l.growing; given = names_in l.given; opened = opened_in l.opened; pending = l.pending; failed = l.failed } };
+    ghost view = { λ l. record { script = l.script; output = l.output; partial = partial_program_in l.program_builder; provided = names_in l.provided; opened = opened_in l.opened; pending = l.pending; failed = l.failed } };
 
-    ghost invariant = { λ l. l.failed ≡ false → NamesResolve l.growing };
+    ghost invariant = { λ l. l.failed ≡ false → NamesResolve l.program_builder };
 }
 
 impl Linker {
-    /// A linker that no module was fed to. The output is the name of the file that is linked.
+    /// Returns a linker without modules. `output` is the name of the output file. Rejects a script that defines a name
+    /// twice.
     pub fn new(alloc: Global, script: Script, output: &str) -> Result<Self, LinkFault>
-        ensures fed { IfOk result (λ l. IsFed l []) }
+        ensures fed { IfOk result (λ l. RepresentsModules l []) }
         ensures script { IfOk result (λ l. l.script ≡ script) }
         ensures output { IfOk result (λ l. l.output ≡ output.now) }
         ensures pending { IfOk result (λ l. l.pending ≡ 0) }
-        ensures names { Refines is_memory (λ _. tt) result (names_once script (program_of [])) }
+        ensures names { Refines is_memory (λ _. tt) result (check_unique_names script (program_of [])) }
     {
         Linker::seeded(alloc, Seed::default(), script, output)
     }
 
-    /// The same, whose tables of names begin with a seed.
+    /// Returns a linker without modules, like `new`, whose hash tables of names use this seed.
     pub fn seeded(
         alloc: Global,
         seed: Seed,
         script: Script,
         output: &str,
     ) -> Result<Self, LinkFault>
-        ensures fed { IfOk result (λ l. IsFed l []) }
+        ensures fed { IfOk result (λ l. RepresentsModules l []) }
         ensures script { IfOk result (λ l. l.script ≡ script) }
         ensures output { IfOk result (λ l. l.output ≡ output.now) }
         ensures pending { IfOk result (λ l. l.pending ≡ 0) }
-        ensures names { Refines is_memory (λ _. tt) result (names_once script (program_of [])) }
+        ensures names { Refines is_memory (λ _. tt) result (check_unique_names script (program_of [])) }
     {
-        let given = DefinedNames::of(alloc, &script)?;
+        let provided = DefinedNames::of(alloc, &script)?;
         let output = PathString::copy_of(alloc, output)?;
         Ok(Linker {
             script,
             output,
-            growing: no_module(alloc, seed),
-            given,
+            program_builder: empty_builder(alloc, seed),
+            provided,
             opened: None,
             pending: 0,
             failed: false,
@@ -99,43 +100,43 @@ impl Linker {
         self.opened.is_some()
     }
 
-    /// Returns the number of values taken.
+    /// Returns the number of values that were fed.
     pub fn pending(&self) -> usize
         ensures { result ≡ self.now.pending }
     {
         self.pending
     }
 
-    /// The names that the script or a module that has ended needs and neither gives, in order of first reference; weak
-    /// names give nothing here, nor does a module that is open.
+    /// Returns the names that the script or a module that has ended imports and none of these defines, in order of
+    /// first reference. Weak names and an open module define nothing here.
     pub fn open_names(&self) -> Result<Names, LinkFault>
-        ensures open { AreNames (λ names. map (λ n. n.items) names.keys) open_names self.now result }
+        ensures open { RefinesNames (λ names. map (λ n. n.items) names.keys) open_names self.now result }
         ensures memory { self.now.failed ≡ false → IfErr result (λ e. is_memory e ≡ true) }
-        ensures again { self.now.failed ≡ true → result ≡ Err LinkFault.FailedBefore }
+        ensures failed_before { self.now.failed ≡ true → result ≡ Err LinkFault.FailedBefore }
     {
         if self.failed {
             return Err(LinkFault::FailedBefore);
         }
         let symbols = self.script.symbols.as_slice();
-        let members = self.growing.members.as_slice();
-        Ok(missing_names(&self.given, symbols, members)?)
+        let members = self.program_builder.members.as_slice();
+        Ok(missing_names(&self.provided, symbols, members)?)
     }
 
-    /// The names that the script and the modules that have ended give, but for weak ones.
+    /// Returns the names that the script and the modules that have ended define, except weak ones.
     pub fn defined_names(&self) -> Result<Names, LinkFault>
-        ensures defined { AreNames (λ names. map (λ n. n.items) names.keys) given_names self.now result }
+        ensures defined { RefinesNames (λ names. map (λ n. n.items) names.keys) strong_names self.now result }
         ensures memory { self.now.failed ≡ false → IfErr result (λ e. is_memory e ≡ true) }
-        ensures again { self.now.failed ≡ true → result ≡ Err LinkFault.FailedBefore }
+        ensures failed_before { self.now.failed ≡ true → result ≡ Err LinkFault.FailedBefore }
     {
         if self.failed {
             return Err(LinkFault::FailedBefore);
         }
-        Ok(copy_of(&self.given)?)
+        Ok(copy_of(&self.provided)?)
     }
 
-    /// Opens a module of this name and of an object of this version, where none is open; a member of a library comes
-    /// with the entry of its index, whose names are compared with the member's where it ends. After a refusal each call
-    /// answers that it failed before.
+    /// Opens a module of this name, of an object of this version. No module may be open. A member of a library has its
+    /// index entry, whose names are compared with the member's when it ends. After an error every call returns
+    /// `FailedBefore`.
     pub fn begin_module(
         &mut self,
         name: &[u8],
@@ -149,13 +150,13 @@ impl Linker {
         ensures opened { OnOk result (is_open self.new ≡ true) }
         ensures pending { OnOk result (self.new.pending ≡ self.old.pending) }
         ensures keeps { ConfigFrame self.old self.new }
-        ensures refused { OnErr result (IsRefused self.old self.new) }
-        ensures again { self.old.failed ≡ true → result ≡ Err LinkFault.FailedBefore }
+        ensures refused { OnErr result (FailureFrame self.old self.new) }
+        ensures failed_before { self.old.failed ≡ true → result ≡ Err LinkFault.FailedBefore }
     {
         if self.failed {
             return Err(LinkFault::FailedBefore);
         }
-        match open_module(&self.growing, name, version, entry) {
+        match open_module(&self.program_builder, name, version, entry) {
             Ok(opened) => {
                 self.opened = Some(opened);
                 Ok(())
@@ -167,24 +168,24 @@ impl Linker {
         }
     }
 
-    /// Takes the next record of the module that is open, which has to be one. After a refusal each call answers that
-    /// it failed before.
+    /// Adds the next record of the open module. A module must be open. After an error every call returns
+    /// `FailedBefore`.
     pub fn record(&mut self, next: &Record) -> Result<(), LinkFault>
         requires { is_open self.old ≡ true }
-        ensures taken { AddsRecord (entry_of next.now) self.old self.new result }
-        ensures faults { self.old.failed ≡ false → RefusesBy is_of_record result }
+        ensures accepted { AddsRecord (raw_record next.now) self.old self.new result }
+        ensures faults { self.old.failed ≡ false → HasExpectedError is_record_fault result }
         ensures opened { is_open self.new ≡ true }
-        ensures pending { OnOk result (self.new.pending ≡ self.old.pending + values_in (entry_of next.now)) }
+        ensures pending { OnOk result (self.new.pending ≡ self.old.pending + values_in (raw_record next.now)) }
         ensures keeps { ConfigFrame self.old self.new }
-        ensures refused { OnErr result (IsRefused self.old self.new) }
-        ensures again { self.old.failed ≡ true → result ≡ Err LinkFault.FailedBefore }
+        ensures refused { OnErr result (FailureFrame self.old self.new) }
+        ensures failed_before { self.old.failed ≡ true → result ≡ Err LinkFault.FailedBefore }
     {
         if self.failed {
             return Err(LinkFault::FailedBefore);
         }
         match &mut self.opened {
             Some(opened) => {
-                match take_record(&mut self.growing, opened, &mut self.pending, next) {
+                match add_record(&mut self.program_builder, opened, &mut self.pending, next) {
                     Ok(()) => Ok(()),
                     Err(e) => {
                         self.failed = true;
@@ -196,24 +197,28 @@ impl Linker {
         }
     }
 
-    /// Ends the module that is open, which has to be one. The first of these is the refusal: it is cut short where its
-    /// END did not come, a library's index disagrees with it, or it exports a name that is given already. After a
-    /// refusal each call answers that it failed before.
+    /// Ends the open module. A module must be open. The error is the first of these: the module is cut short, without
+    /// an END; a library's index disagrees with it; or it exports a name that is already defined. After an error every
+    /// call returns `FailedBefore`.
     pub fn end_module(&mut self) -> Result<(), LinkFault>
         requires { is_open self.old ≡ true }
         ensures ended { EndsModule self.old self.new result }
-        ensures faults { self.old.failed ≡ false → RefusesBy is_of_end result }
+        ensures faults { self.old.failed ≡ false → HasExpectedError is_end_fault result }
         ensures opened { OnOk result (is_open self.new ≡ false) }
         ensures pending { OnOk result (self.new.pending ≡ self.old.pending) }
         ensures keeps { ConfigFrame self.old self.new }
-        ensures refused { OnErr result (IsRefused self.old self.new) }
-        ensures again { self.old.failed ≡ true → result ≡ Err LinkFault.FailedBefore }
+        ensures refused { OnErr result (FailureFrame self.old self.new) }
+        ensures failed_before { self.old.failed ≡ true → result ≡ Err LinkFault.FailedBefore }
     {
         if self.failed {
             return Err(LinkFault::FailedBefore);
         }
         match &mut self.opened {
-            Some(opened) => match close_module(&mut self.growing, &mut self.given, opened) {
+            Some(opened) => match close_module(
+                &mut self.program_builder,
+                &mut self.provided,
+                opened,
+            ) {
                 Ok(()) => {
                     self.opened = None;
                     Ok(())
@@ -232,14 +237,14 @@ impl Linker {
     pub fn finish(self) -> Result<Linked, LinkFault>
         requires { is_open self ≡ false }
         ensures linked { LinksModules self result }
-        ensures faults { self.failed ≡ false → RefusesBy is_of_finish result }
-        ensures again { self.failed ≡ true → result ≡ Err LinkFault.FailedBefore }
+        ensures faults { self.failed ≡ false → HasExpectedError is_finish_fault result }
+        ensures failed_before { self.failed ≡ true → result ≡ Err LinkFault.FailedBefore }
     {
         let Linker {
             script,
             output,
-            growing,
-            given,
+            program_builder,
+            provided,
             opened: _,
             pending: _,
             failed,
@@ -247,6 +252,6 @@ impl Linker {
         if failed {
             return Err(LinkFault::FailedBefore);
         }
-        link(output.as_str(), &script, growing, given)
+        link(output.as_str(), &script, program_builder, provided)
     }
 }

@@ -1,23 +1,23 @@
-//! From a program and a script to what is linked.
+//! Links a program by a script.
 
 ghost use Rattle.std.specs.Prelude.{◌≡◌, IfOk, map};
 ghost use Rattle.link65.specs.CodeInvariants.{segments_from, NamesResolve, program_in};
 ghost use Rattle.link65.specs.Values.{need_of, needs_of};
 ghost use Rattle.base65.specs.Outcome.{RefinesProp, Refines};
-ghost use Rattle.link65.specs.Faults.{RefusesBy, is_memory, is_of_finish};
+ghost use Rattle.link65.specs.Faults.{HasExpectedError, is_memory, is_finish_fault};
 ghost use Rattle.link65.specs.Links.{IsProgramLink, placement_result};
-ghost use Rattle.link65.specs.Names.{given_names, weak_symbols};
+ghost use Rattle.link65.specs.Names.{strong_names, weak_symbols};
 ghost use Rattle.link65.specs.Representation.{names_in};
-ghost use Rattle.link65.specs.Placed.{IsPlacedPassed};
+ghost use Rattle.link65.specs.Placed.{IsPlacedCheckedLink};
 
-use crate::evaluation::settle_all;
+use crate::building::ProgramBuilder;
+use crate::evaluation::evaluate_exports;
 use crate::fault::LinkFault;
 use crate::files::files_of;
 use crate::finishing::{CheckedLink, check_and_emit};
-use crate::given::{DefinedNames, check_names};
-use crate::growing::ProgramBuilder;
+use crate::name_checks::{DefinedNames, check_names};
 use crate::naming::{definitions_of, weak_symbols};
-use crate::parts::{Resolved, SegmentContent};
+use crate::parts::{ModuleBindings, SegmentContent};
 use crate::resolving::{DefinedSymbols, resolve_all, runs_of};
 use crate::values::PlacedProgram;
 use base65::{ListVec, OutputFile};
@@ -29,7 +29,7 @@ use std::alloc::{AllocError, Global};
 pub struct Linked {
     /// The files of areas, in the order in which they are written.
     pub files: ListVec<OutputFile>,
-    /// The warnings, a line each.
+    /// The warnings, one per line.
     pub warnings: ListVec<u8>,
     /// The map's text.
     pub map: ListVec<u8>,
@@ -52,24 +52,30 @@ fn needs_of(alloc: Global, contents: &[SegmentContent]) -> Result<ListVec<Segmen
 
 /// Computes the results of a placed program except its files, or the first error. Consumes the
 /// program.
-fn pass_placed(
+fn check_placed_program(
     script: &Script,
     placement: &Placement,
     program: ProgramBuilder,
 ) -> Result<CheckedLink, LinkFault>
     requires { NamesResolve program }
-    ensures { RefinesProp is_memory (IsPlacedPassed script.now (program_in program) placement.now) result }
+    ensures { RefinesProp is_memory (IsPlacedCheckedLink script.now (program_in program) placement.now) result }
 {
     let alloc = program.alloc;
-    let own = definitions_of(alloc, script, placement)?;
+    let script_symbols = definitions_of(alloc, script, placement)?;
     let weak = weak_symbols(alloc, script.symbols.as_slice())?;
     let exports = program.exports.as_slice();
     let seed = *program.names.hasher();
-    let names = DefinedSymbols::of(alloc, seed, own.as_slice(), exports, weak.as_slice())?;
+    let names = DefinedSymbols::of(
+        alloc,
+        seed,
+        script_symbols.as_slice(),
+        exports,
+        weak.as_slice(),
+    )?;
     let runs = runs_of(alloc, script.rows.as_slice(), placement.rows.as_slice())?;
     let all = resolve_all(alloc, &names, &runs, program.members.as_slice())?;
     let modules = all.as_slice();
-    let marks = settle_all(alloc, modules, exports)?;
+    let states = evaluate_exports(alloc, modules, exports)?;
     let placed = PlacedProgram {
         members: program.members.as_slice(),
         names: &program.names,
@@ -77,46 +83,46 @@ fn pass_placed(
         exports,
         asserts: program.asserts.as_slice(),
         modules,
-        marks: marks.as_slice(),
+        states: states.as_slice(),
     };
     check_and_emit(alloc, script, placement, &names, &placed)
 }
 
-/// Where a program's segments are placed, each of whose names has to be given.
+/// Places a program's segments. Rejects imported names that nobody defines.
 fn placement_of(
     script: &Script,
     program: &ProgramBuilder,
-    given: DefinedNames,
+    provided: DefinedNames,
 ) -> Result<Placement, LinkFault>
-    ensures placed { names_in given ≡ given_names script.now (program_in program.now) →
+    ensures placed { names_in provided ≡ strong_names script.now (program_in program.now) →
         Refines is_memory (λ p. p) result (placement_result script.now (program_in program.now)) }
-    ensures faults { RefusesBy is_of_finish result }
+    ensures faults { HasExpectedError is_finish_fault result }
 {
-    check_names(given, script, program.members.as_slice())?;
+    check_names(provided, script, program.members.as_slice())?;
     let needs = needs_of(program.alloc, program.contents.as_slice())?;
     Ok(place(program.alloc, script, needs.as_slice())?)
 }
 
-/// Links a program by a script, whose names are these, none of them defined twice. Returns the
-/// files, the warnings and the map, or the first error.
+/// Links a program by a script. `provided` has the names that these define, none of them twice.
+/// Returns the files, the warnings and the map, or the first error.
 pub fn link(
     output: &str,
     script: &Script,
     program: ProgramBuilder,
-    given: DefinedNames,
+    provided: DefinedNames,
 ) -> Result<Linked, LinkFault>
     requires { NamesResolve program }
-    ensures linked { names_in given ≡ given_names script.now (program_in program) →
+    ensures linked { names_in provided ≡ strong_names script.now (program_in program) →
         RefinesProp is_memory (IsProgramLink output.now script.now (program_in program)) result }
-    ensures faults { RefusesBy is_of_finish result }
+    ensures faults { HasExpectedError is_finish_fault result }
 {
     let alloc = program.alloc;
-    let placement = placement_of(script, &program, given)?;
+    let placement = placement_of(script, &program, provided)?;
     let CheckedLink {
         rows,
         warnings,
         map,
-    } = pass_placed(script, &placement, program)?;
+    } = check_placed_program(script, &placement, program)?;
     let files = files_of(alloc, output, script, rows, &placement)?;
     Ok(Linked {
         files,

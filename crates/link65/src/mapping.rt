@@ -1,15 +1,15 @@
-//! The map.
+//! The text of the map.
 
 ghost use Rattle.std.specs.Prelude.{◌≡◌, ◌≤◌, ◌%◌, ◌++◌, IfOk, OnOk};
 ghost use Rattle.std.specs.List.{flat_map};
-ghost use Rattle.link65.specs.Placed.{lines_by, map_by, value_line, AreNames};
+ghost use Rattle.link65.specs.Placed.{symbol_lines_from, map_from_lines, value_line, HasCorrectProviders};
 ghost use Rattle.link65.specs.Programs.{flat_zip};
 ghost use Rattle.link65.specs.Texts.{address_text, definition_line, hex_digit, hex_digits, member_lines, row_line, row_lines, section_line, symbol_line, weak_line};
 
-use crate::parts::{Exported, LinkedModule, ScriptSymbol, SectionPlace};
+use crate::parts::{LinkedModule, ModuleExport, ScriptSymbol, SectionPosition};
 use crate::resolving::DefinedSymbols;
 use arrayvec::ArrayVec;
-use base65::{ListVec, add_all, join};
+use base65::{ListVec, append_all, join};
 use script65::{Placement, RowPlacement, Script, SegmentRow};
 use std::alloc::{AllocError, Global};
 
@@ -27,15 +27,16 @@ fn hex_digits(count: u32, number: u64) -> ArrayVec<u8, 16>
     ensures { result.items ≡ hex_digits count number }
 {
     let mut digits = ArrayVec::new();
-    let mut left = count;
-    'digits: while left > 0 {
-        left -= 1;
-        digits.push(hex_digit(number >> (4 * left)));
+    let mut remaining = count;
+    'digits: while remaining > 0 {
+        remaining -= 1;
+        digits.push(hex_digit(number >> (4 * remaining)));
     }
     digits
 }
 
-/// Eight digits, or nine of what doesn't fit.
+/// Returns the last hex digits of a number: eight, or
+/// nine if it isn't below 2 ^ 32.
 fn address_text(number: u64) -> ArrayVec<u8, 16>
     ensures { result.items ≡ address_text number }
 {
@@ -43,17 +44,17 @@ fn address_text(number: u64) -> ArrayVec<u8, 16>
     hex_digits(count, number)
 }
 
-/// `  segment offset size`
-fn add_section_line(text: &mut ListVec<u8>, placement: &SectionPlace) -> Result<(), AllocError>
-    ensures { OnOk result (text.new ≡ text.old ++ section_line placement.now) }
+/// Appends the line `  segment offset size`.
+fn add_section_line(text: &mut ListVec<u8>, section: &SectionPosition) -> Result<(), AllocError>
+    ensures { OnOk result (text.new ≡ text.old ++ section_line section.now) }
 {
-    let offset = address_text(placement.offset);
-    let size = address_text(placement.size);
-    add_all(
+    let offset = address_text(section.offset);
+    let size = address_text(section.size);
+    append_all(
         text,
         &[
             b"  ",
-            placement.segment.as_slice(),
+            section.segment.as_slice(),
             b" ",
             offset.as_slice(),
             b" ",
@@ -63,18 +64,18 @@ fn add_section_line(text: &mut ListVec<u8>, placement: &SectionPlace) -> Result<
     )
 }
 
-/// A module's name, and its sections below it.
+/// Appends a module's name and its section lines.
 fn add_member_lines(text: &mut ListVec<u8>, member: &LinkedModule) -> Result<(), AllocError>
     ensures { OnOk result (text.new ≡ text.old ++ member_lines member.now) }
 {
-    add_all(text, &[member.name.as_slice(), b"\n"])?;
-    for placement in member.sections.as_slice() {
-        add_section_line(text, placement)?;
+    append_all(text, &[member.name.as_slice(), b"\n"])?;
+    for section in member.sections.as_slice() {
+        add_section_line(text, section)?;
     }
     Ok(())
 }
 
-/// The modules and their sections.
+/// Returns the lines of modules and their sections.
 fn members_text(alloc: Global, members: &[LinkedModule]) -> Result<ListVec<u8>, AllocError>
     ensures { IfOk result (λ text. text ≡ flat_map member_lines members.now) }
 {
@@ -85,7 +86,7 @@ fn members_text(alloc: Global, members: &[LinkedModule]) -> Result<ListVec<u8>, 
     Ok(text)
 }
 
-/// `name run load size`
+/// Appends the line `name run load size`.
 fn add_row_line(
     text: &mut ListVec<u8>,
     row: &SegmentRow,
@@ -96,7 +97,7 @@ fn add_row_line(
     let run = address_text(placement.run);
     let load = address_text(placement.load);
     let size = address_text(placement.size);
-    add_all(
+    append_all(
         text,
         &[
             row.name.as_slice(),
@@ -111,7 +112,7 @@ fn add_row_line(
     )
 }
 
-/// The rows and where they are placed.
+/// Returns the lines of rows and their placements.
 fn rows_text(
     alloc: Global,
     rows: &[SegmentRow],
@@ -126,12 +127,12 @@ fn rows_text(
     Ok(text)
 }
 
-/// `name value`
+/// Appends `name value`, the value as 16 hex digits.
 fn add_symbol_line(text: &mut ListVec<u8>, name: &[u8], bits: u64) -> Result<(), AllocError>
     ensures { OnOk result (text.new ≡ text.old ++ symbol_line name.now bits) }
 {
     let digits = hex_digits(16, bits);
-    add_all(text, &[name, b" ", digits.as_slice(), b"\n"])
+    append_all(text, &[name, b" ", digits.as_slice(), b"\n"])
 }
 
 fn add_definition_line(text: &mut ListVec<u8>, definition: &ScriptSymbol) -> Result<(), AllocError>
@@ -153,7 +154,7 @@ fn definition_lines(alloc: Global, definitions: &[ScriptSymbol]) -> Result<ListV
 
 fn export_lines(
     alloc: Global,
-    exports: &[Exported],
+    exports: &[ModuleExport],
     values: &[i64],
 ) -> Result<ListVec<u8>, AllocError>
     ensures { IfOk result (λ text. text ≡ flat_zip value_line exports.now values.now) }
@@ -165,10 +166,11 @@ fn export_lines(
     Ok(text)
 }
 
-/// The weak names that nothing else defines.
+/// Returns the lines of the weak names that nothing
+/// else defines.
 fn weak_lines(alloc: Global, names: &DefinedSymbols<'_>) -> Result<ListVec<u8>, AllocError>
-    requires { AreNames names.now }
-    ensures { IfOk result (λ text. text ≡ flat_map (weak_line names.now.own.now names.now.exports.now) names.now.weak.now) }
+    requires { HasCorrectProviders names.now }
+    ensures { IfOk result (λ text. text ≡ flat_map (weak_line names.now.script_symbols.now names.now.exports.now) names.now.weak.now) }
 {
     let mut text = ListVec::new(alloc);
     for weak in names.weak {
@@ -179,25 +181,27 @@ fn weak_lines(alloc: Global, names: &DefinedSymbols<'_>) -> Result<ListVec<u8>, 
     Ok(text)
 }
 
-/// All symbols and their values, by those of exports.
+/// Returns the lines of all symbols, given the values
+/// of exports.
 pub fn symbols_text(
     alloc: Global,
     names: &DefinedSymbols<'_>,
     values: &[i64],
 ) -> Result<ListVec<u8>, AllocError>
-    requires { AreNames names.now }
-    ensures { IfOk result (λ text. text ≡ lines_by names.now.own.now names.now.weak.now names.now.exports.now values.now) }
+    requires { HasCorrectProviders names.now }
+    ensures { IfOk result (λ text. text ≡ symbol_lines_from names.now.script_symbols.now names.now.weak.now names.now.exports.now values.now) }
 {
-    let own = definition_lines(alloc, names.own)?;
+    let script_lines = definition_lines(alloc, names.script_symbols)?;
     let exports = export_lines(alloc, names.exports, values)?;
     let weak = weak_lines(alloc, names)?;
     join(
         alloc,
-        &[own.as_slice(), exports.as_slice(), weak.as_slice()],
+        &[script_lines.as_slice(), exports.as_slice(), weak.as_slice()],
     )
 }
 
-/// The map, by the lines of its symbols.
+/// Returns the text of the map, given the lines of
+/// its symbols.
 pub fn map_text(
     alloc: Global,
     script: &Script,
@@ -205,7 +209,7 @@ pub fn map_text(
     members: &[LinkedModule],
     symbols: &[u8],
 ) -> Result<ListVec<u8>, AllocError>
-    ensures { IfOk result (λ text. text ≡ map_by members.now script.now.rows placement.now.rows symbols.now) }
+    ensures { IfOk result (λ text. text ≡ map_from_lines members.now script.now.rows placement.now.rows symbols.now) }
 {
     let modules = members_text(alloc, members)?;
     let rows = rows_text(alloc, script.rows.as_slice(), placement.rows.as_slice())?;

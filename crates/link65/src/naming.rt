@@ -1,4 +1,4 @@
-//! The names that a script gives.
+//! The names that a script defines.
 
 ghost use Rattle.std.specs.Prelude.{◌≡◌, ◌++◌, IfOk, OnOk, map};
 ghost use Rattle.std.specs.Int.{w64, cast_signed};
@@ -13,14 +13,14 @@ use script65::{
 };
 use std::alloc::{AllocError, Global};
 
-/// `__N_PART__`
+/// Returns the name `__NAME_PART__`.
 fn attribute_name(alloc: Global, name: &[u8], part: &[u8]) -> Result<ListVec<u8>, AllocError>
     ensures { IfOk result (λ text. text ≡ attribute_name name.now part.now) }
 {
     join(alloc, &[b"__", name, b"_", part, b"__"])
 }
 
-/// A part of an area or of a row, by its name.
+/// Returns the symbol `__NAME_WORD__` of an area or of a row, with its value.
 fn attribute_symbol(
     alloc: Global,
     name: &[u8],
@@ -35,7 +35,7 @@ fn attribute_symbol(
     })
 }
 
-/// A symbol that has a value.
+/// Returns the symbol with this name and value.
 fn symbol_of(alloc: Global, name: &[u8], number: u32) -> Result<ScriptSymbol, AllocError>
     ensures { IfOk result (λ d. d ≡ record { name = name.now; value = cast_signed w64 number }) }
 {
@@ -45,7 +45,7 @@ fn symbol_of(alloc: Global, name: &[u8], number: u32) -> Result<ScriptSymbol, Al
     })
 }
 
-/// Adds what areas define.
+/// Adds the definitions of areas.
 fn add_areas(
     alloc: Global,
     definitions: &mut ListVec<ScriptSymbol>,
@@ -65,7 +65,7 @@ fn add_areas(
     Ok(())
 }
 
-/// Adds what rows define.
+/// Adds the definitions of rows.
 fn add_rows(
     alloc: Global,
     definitions: &mut ListVec<ScriptSymbol>,
@@ -101,7 +101,7 @@ fn add_exports(
     Ok(())
 }
 
-/// The symbols that the script defines where nothing else does.
+/// Returns the weak symbols of the script, which it defines if nothing else does.
 pub fn weak_symbols(alloc: Global, symbols: &[Symbol]) -> Result<ListVec<ScriptSymbol>, AllocError>
     ensures { IfOk result (λ ds. ds ≡ weak_symbols symbols.now) }
 {
@@ -139,7 +139,7 @@ pub fn definitions_of(
     Ok(definitions)
 }
 
-/// Adds the names that areas give.
+/// Adds the names that areas define.
 fn add_names_of_areas(
     alloc: Global,
     names: &mut ListVec<ListVec<u8>>,
@@ -158,7 +158,7 @@ fn add_names_of_areas(
     Ok(())
 }
 
-/// Adds the names that rows give.
+/// Adds the names that rows define.
 fn add_names_of_rows(
     alloc: Global,
     names: &mut ListVec<ListVec<u8>>,
@@ -177,7 +177,7 @@ fn add_names_of_rows(
     Ok(())
 }
 
-/// The names that a script gives by itself: of areas, of rows, and of the symbols that it exports.
+/// Returns the names that a script defines: of areas, of rows, and of the symbols that it exports.
 pub fn script_names(alloc: Global, script: &Script) -> Result<ListVec<ListVec<u8>>, AllocError>
     ensures { IfOk result (λ names. names ≡ script_names script.now) }
 {

@@ -3,25 +3,25 @@
 use base65::ListVec;
 use object65::{Action, Norm, Origin, Width};
 
-/// A module's name, where its sections lie in their segments, the names that it imports, and those of its files. Forms
-/// name sections and imports, and origins files, by their places here. An owner is a member's place among the members.
+/// A module: its name, the positions of its sections, the names that it imports, and those of its files. Forms refer
+/// to sections and imports, and origins to files, by their indices here. An `owner` is the index of a module.
 #[derive(Drop)]
 pub struct LinkedModule {
     pub name: ListVec<u8>,
-    pub sections: ListVec<SectionPlace>,
+    pub sections: ListVec<SectionPosition>,
     pub imports: ListVec<ListVec<u8>>,
     pub files: ListVec<ListVec<u8>>,
 }
 
 /// The position of a section: its offset from the start of its segment, and its size.
 #[derive(Drop)]
-pub struct SectionPlace {
+pub struct SectionPosition {
     pub segment: ListVec<u8>,
     pub offset: u64,
     pub size: u64,
 }
 
-/// A value of a module that is computed once all is placed.
+/// A value of a module that is computed after placement.
 #[derive(Drop)]
 pub struct ValueFixup {
     pub owner: usize,
@@ -31,9 +31,9 @@ pub struct ValueFixup {
     pub form: Norm,
 }
 
-/// A name that a module defines for others.
+/// A name that a module exports.
 #[derive(Drop)]
-pub struct Exported {
+pub struct ModuleExport {
     pub owner: usize,
     pub name: ListVec<u8>,
     pub origin: Origin,
@@ -42,7 +42,7 @@ pub struct Exported {
 
 /// An assertion of a module that the linker checks.
 #[derive(Drop)]
-pub struct Asserted {
+pub struct ModuleAssertion {
     pub owner: usize,
     pub action: Action,
     pub origin: Origin,
@@ -51,35 +51,35 @@ pub struct Asserted {
     pub form: Norm,
 }
 
-/// Who provides a name.
+/// The provider of a name.
 #[derive(Clone, Copy)]
 pub enum Provider {
-    /// A module: the place of its export among all exports.
+    /// A module: the index of its export among all exports.
     ByModule(usize),
-    /// The script, which says its value.
+    /// The script, with the value.
     ByScript(i64),
     Nobody,
 }
 
-/// The addresses of a module's sections, and who gives its imports.
+/// The addresses of a module's sections, and the providers of its imports.
 #[derive(Drop)]
-pub struct Resolved {
+pub struct ModuleBindings {
     pub bases: ListVec<i64>,
     pub providers: ListVec<Provider>,
 }
 
-/// Why a form has no value.
+/// The reason why a form has no value.
 #[derive(Clone, Copy)]
 pub enum ValueFault {
-    /// It needs itself.
+    /// It depends on itself.
     Circular,
     /// A zero divisor or a bad shift count.
     NoValue,
-    /// An import that nobody gives.
+    /// An import that nobody defines.
     Unresolved,
 }
 
-/// A name that the script gives, and its value.
+/// A name that the script defines, and its value.
 #[derive(Drop)]
 pub struct ScriptSymbol {
     pub name: ListVec<u8>,
@@ -94,7 +94,7 @@ pub enum SegmentPiece {
     /// This many bytes of the fill value.
     Filled(u32),
     /// The bytes of a value that needs addresses.
-    Waits(ValueFixup),
+    Deferred(ValueFixup),
 }
 
 /// The contents of a segment: its size in bytes, the largest alignment of its sections, and its

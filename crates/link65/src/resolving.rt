@@ -1,36 +1,38 @@
-//! Where sections lie and who gives imports, once all is placed.
+//! The addresses of sections and the providers of imports, after placement.
 
 ghost use Rattle.std.specs.Prelude.{◌≡◌, ℕ, List, IfOk, OnOk, map};
 ghost use Rattle.link65.specs.Values.{run_of};
-ghost use Rattle.link65.specs.Placed.{AddsDefinitions, AddsExports, AreNames, address_in, provider_in, resolved_by, run_in};
+ghost use Rattle.link65.specs.Placed.{AddsDefinitions, AddsExports, HasCorrectProviders, address_in, provider_in, bindings_in, run_in};
 
-use crate::parts::{Exported, LinkedModule, Provider, Resolved, ScriptSymbol, SectionPlace};
+use crate::parts::{
+    LinkedModule, ModuleBindings, ModuleExport, Provider, ScriptSymbol, SectionPosition,
+};
 use base65::{ListVec, Seed};
 use indexmap::IndexMap;
 use script65::{RowPlacement, SegmentRow};
 use std::alloc::{AllocError, Global};
 
-/// Who gives each name.
+/// The provider of each name.
 pub type Providers<'a> = IndexMap<&'a [u8], Provider, Seed>;
 
-/// The addresses at which rows run, by their names.
+/// The run addresses of rows, by their names.
 pub type Runs<'a> = IndexMap<&'a [u8], u64, Seed>;
 
-/// The definitions of the script and the modules, and who defines each name.
+/// The definitions of the script and the modules, and the provider of each name.
 #[derive(Drop)]
 pub struct DefinedSymbols<'a> {
     /// The definitions of the script.
-    pub own: &'a [ScriptSymbol],
-    pub exports: &'a [Exported],
+    pub script_symbols: &'a [ScriptSymbol],
+    pub exports: &'a [ModuleExport],
     /// The script's definitions of names that nothing else defines.
     pub weak: &'a [ScriptSymbol],
-    /// Who gives a name: the script by itself, or else a module.
+    /// The provider of a name, weak names aside: the script, or else a module.
     pub defined: Providers<'a>,
-    /// Who gives a name where none of these does.
-    pub weakly: Providers<'a>,
+    /// The provider of a weak name, for names that neither of these defines.
+    pub weak_providers: Providers<'a>,
 }
 
-/// Adds who gives the names of definitions. Of two of one name the first counts, so it comes last.
+/// Adds the providers of definitions. The first of a name counts, so it is inserted last.
 fn add_definitions<'a>(
     providers: &mut Providers<'a>,
     definitions: &'a [ScriptSymbol],
@@ -47,8 +49,11 @@ fn add_definitions<'a>(
     Ok(())
 }
 
-/// Adds who gives the names of exports, in the same way.
-fn add_exports<'a>(providers: &mut Providers<'a>, exports: &'a [Exported]) -> Result<(), AllocError>
+/// Adds the providers of exports. The first of a name counts, so it is inserted last.
+fn add_exports<'a>(
+    providers: &mut Providers<'a>,
+    exports: &'a [ModuleExport],
+) -> Result<(), AllocError>
     ensures { OnOk result (AddsExports exports.entry.now providers.old providers.new) }
 {
     for i in (0..exports.len()).rev() {
@@ -59,40 +64,40 @@ fn add_exports<'a>(providers: &mut Providers<'a>, exports: &'a [Exported]) -> Re
 }
 
 impl<'a> DefinedSymbols<'a> {
-    /// All names and who gives them: a script's own before exports.
+    /// Returns all definitions and the provider of each name. The script precedes the modules.
     pub fn of(
         alloc: Global,
         seed: Seed,
-        own: &'a [ScriptSymbol],
-        exports: &'a [Exported],
+        script_symbols: &'a [ScriptSymbol],
+        exports: &'a [ModuleExport],
         weak: &'a [ScriptSymbol],
     ) -> Result<Self, AllocError>
-        ensures names { IfOk result AreNames }
-        ensures own { IfOk result (λ n. n.own.now ≡ own.entry.now) }
+        ensures names { IfOk result HasCorrectProviders }
+        ensures own { IfOk result (λ n. n.script_symbols.now ≡ script_symbols.entry.now) }
         ensures exports { IfOk result (λ n. n.exports.now ≡ exports.entry.now) }
         ensures weak { IfOk result (λ n. n.weak.now ≡ weak.entry.now) }
     {
         let mut defined = IndexMap::with_hasher(alloc, seed);
         add_exports(&mut defined, exports)?;
-        add_definitions(&mut defined, own)?;
-        let mut weakly = IndexMap::with_hasher(alloc, seed);
-        add_definitions(&mut weakly, weak)?;
+        add_definitions(&mut defined, script_symbols)?;
+        let mut weak_providers = IndexMap::with_hasher(alloc, seed);
+        add_definitions(&mut weak_providers, weak)?;
         Ok(DefinedSymbols {
-            own,
+            script_symbols,
             exports,
             weak,
             defined,
-            weakly,
+            weak_providers,
         })
     }
 
-    /// Who gives a name.
+    /// Returns the provider of a name.
     fn provider(&self, name: &[u8]) -> Provider
         ensures { result ≡ provider_in self.now name.now }
     {
         match self.defined.get(name) {
             Some(provider) => *provider,
-            None => match self.weakly.get(name) {
+            None => match self.weak_providers.get(name) {
                 Some(provider) => *provider,
                 None => Provider::Nobody,
             },
@@ -100,7 +105,7 @@ impl<'a> DefinedSymbols<'a> {
     }
 }
 
-/// The addresses at which rows run. Of two of one name the first counts, so it comes last.
+/// Returns the run addresses of rows. The first row of a name counts, so it is inserted last.
 pub fn runs_of<'a>(
     alloc: Global,
     rows: &'a [SegmentRow],
@@ -121,19 +126,19 @@ pub fn runs_of<'a>(
 }
 
 /// Returns the run address of a section: its offset after the address of its row.
-fn address_of(runs: &Runs<'_>, placement: &SectionPlace) -> i64
-    ensures { result ≡ address_in runs.now placement.now }
+fn address_of(runs: &Runs<'_>, section: &SectionPosition) -> i64
+    ensures { result ≡ address_in runs.now section.now }
 {
-    match runs.get(placement.segment.as_slice()) {
-        Some(run) => run.wrapping_add(placement.offset).cast_signed(),
-        None => placement.offset.cast_signed(),
+    match runs.get(section.segment.as_slice()) {
+        Some(run) => run.wrapping_add(section.offset).cast_signed(),
+        None => section.offset.cast_signed(),
     }
 }
 
 fn bases_of(
     alloc: Global,
     runs: &Runs<'_>,
-    sections: &[SectionPlace],
+    sections: &[SectionPosition],
 ) -> Result<ListVec<i64>, AllocError>
     ensures { IfOk result (λ bases. bases ≡ map (address_in runs.now) sections.now) }
 {
@@ -158,18 +163,18 @@ fn providers_of(
     Ok(providers)
 }
 
-/// Where the sections of all modules lie, and who gives their imports.
+/// Returns the section addresses and the providers of imports of all modules.
 pub fn resolve_all(
     alloc: Global,
     names: &DefinedSymbols<'_>,
     runs: &Runs<'_>,
     members: &[LinkedModule],
-) -> Result<ListVec<Resolved>, AllocError>
-    ensures { IfOk result (λ all. all ≡ map (resolved_by names.now runs.now) members.now) }
+) -> Result<ListVec<ModuleBindings>, AllocError>
+    ensures { IfOk result (λ all. all ≡ map (bindings_in names.now runs.now) members.now) }
 {
     let mut all = ListVec::new(alloc);
     for member in members {
-        all.push(Resolved {
+        all.push(ModuleBindings {
             bases: bases_of(alloc, runs, member.sections.as_slice())?,
             providers: providers_of(alloc, names, member.imports.as_slice())?,
         })?;

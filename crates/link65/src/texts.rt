@@ -1,7 +1,7 @@
 //! The messages of the linker: texts of errors, and warnings of rows.
 
 ghost use Rattle.std.specs.Prelude.{◌≡◌, IfOk};
-ghost use Rattle.link65.specs.Texts.{location_name, absence_warning, align_words, alignment_warning, data_warning, is_data, row_warnings, segment_warning, warnings_of_rows};
+ghost use Rattle.link65.specs.Texts.{location_name, absence_warning, alignment_message, alignment_warning, data_warning, is_data, row_warnings, segment_warning, warnings_of_rows};
 ghost use Rattle.link65.specs.Faults.{fault_text, comma_separated};
 ghost use Rattle.std.specs.List.{list_any};
 ghost use Rattle.link65.specs.CodeInvariants.{piece_cells, segment_from};
@@ -16,7 +16,7 @@ use itoa::Buffer;
 use script65::SegmentRow;
 use std::alloc::{AllocError, Global};
 
-/// Names between commas and blanks.
+/// Returns names separated by commas and blanks.
 fn listed(alloc: Global, names: &[ListVec<u8>]) -> Result<ListVec<u8>, AllocError>
     ensures { IfOk result (λ text. text ≡ comma_separated names.now) }
 {
@@ -30,12 +30,12 @@ fn listed(alloc: Global, names: &[ListVec<u8>]) -> Result<ListVec<u8>, AllocErro
     Ok(text)
 }
 
-/// The module of a site, and the file in it where there is one: `module` or `module:file`.
-pub fn location_name(alloc: Global, site: &ModuleLocation) -> Result<ListVec<u8>, AllocError>
-    ensures { IfOk result (λ text. text ≡ location_name site.now) }
+/// Returns a location's module, and its file if it has one: `module` or `module:file`.
+pub fn location_name(alloc: Global, location: &ModuleLocation) -> Result<ListVec<u8>, AllocError>
+    ensures { IfOk result (λ text. text ≡ location_name location.now) }
 {
-    let module = site.module_name.as_slice();
-    match &site.file {
+    let module = location.module_name.as_slice();
+    match &location.file {
         Some(file) => join(alloc, &[module, b":", file.as_slice()]),
         None => join(alloc, &[module]),
     }
@@ -56,14 +56,14 @@ pub fn fault_text(alloc: Global, fault: &LinkFault) -> Result<ListVec<u8>, Alloc
     }
 }
 
-/// `ld65: Warning: segment name message`
+/// Returns the line `ld65: Warning: segment name message`.
 fn segment_warning(alloc: Global, name: &[u8], message: &[u8]) -> Result<ListVec<u8>, AllocError>
     ensures { IfOk result (λ text. text ≡ segment_warning name.now message.now) }
 {
     join(alloc, &[b"ld65: Warning: segment ", name, message, b"\n"])
 }
 
-/// A row whose segment the object lacks.
+/// Returns the warning of a row whose segment no module has; empty if the row is optional.
 fn absence_warning(alloc: Global, row: &SegmentRow) -> Result<ListVec<u8>, AllocError>
     ensures { IfOk result (λ text. text ≡ absence_warning row.now) }
 {
@@ -73,15 +73,15 @@ fn absence_warning(alloc: Global, row: &SegmentRow) -> Result<ListVec<u8>, Alloc
     segment_warning(alloc, row.name.as_slice(), b" does not exist")
 }
 
-fn align_words(alloc: Global, align: u32) -> Result<ListVec<u8>, AllocError>
-    ensures { IfOk result (λ text. text ≡ align_words align) }
+fn alignment_message(alloc: Global, align: u32) -> Result<ListVec<u8>, AllocError>
+    ensures { IfOk result (λ text. text ≡ alignment_message align) }
 {
     let mut buffer = Buffer::new();
     let number = buffer.format(align);
     join(alloc, &[b" needs alignment ", number.as_bytes()])
 }
 
-/// A row whose alignment is no multiple of its segment's.
+/// Returns a warning if a row's alignment is no multiple of its segment's; else empty.
 fn alignment_warning(
     alloc: Global,
     row: &SegmentRow,
@@ -95,22 +95,22 @@ fn alignment_warning(
     segment_warning(
         alloc,
         row.name.as_slice(),
-        align_words(alloc, content.align)?.as_slice(),
+        alignment_message(alloc, content.align)?.as_slice(),
     )
 }
 
-/// Returns whether a piece is more than room for the fill value.
+/// Returns whether a piece is data and not just bytes of the fill value.
 fn is_data(piece: &SegmentPiece) -> bool
     ensures { result ≡ list_any is_data (piece_cells piece.now) }
 {
     match piece {
         SegmentPiece::Known(bytes) => bytes.len() != 0,
         SegmentPiece::Filled(_) => false,
-        SegmentPiece::Waits(_) => true,
+        SegmentPiece::Deferred(_) => true,
     }
 }
 
-/// Returns whether a segment has more than room for the fill value.
+/// Returns whether a segment has data and not just bytes of the fill value.
 fn has_data(content: &SegmentContent) -> bool
     ensures { result ≡ list_any is_data (segment_from content.now).cells }
 {
@@ -122,7 +122,7 @@ fn has_data(content: &SegmentContent) -> bool
     false
 }
 
-/// Data in a row that is in no file.
+/// Returns a warning if a row has data but is in no file; else empty.
 fn data_warning(
     alloc: Global,
     row: &SegmentRow,
@@ -140,7 +140,7 @@ fn data_warning(
     )
 }
 
-/// Returns the warning of a row of a placed program.
+/// Returns the warnings of a row of a placed program.
 fn warnings_of_row(
     alloc: Global,
     program: &PlacedProgram<'_>,

@@ -5,18 +5,19 @@ ghost use Rattle.std.specs.Option.{option_map};
 ghost use Rattle.link65.specs.CodeInvariants.{segment_from};
 ghost use Rattle.link65.specs.Placed.{AllFound, exports_in, linkage_in, segments_in, check_export_in, check_in, values_in};
 ghost use Rattle.link65.specs.Programs.{segment_of};
-ghost use Rattle.link65.specs.Values.{value_by};
+ghost use Rattle.link65.specs.Values.{value_of_form};
 ghost use Rattle.base65.specs.Outcome.{Refines};
 ghost use Rattle.object65.specs.Objects.{fits_width};
-ghost use Rattle.link65.specs.Links.{each_passes, file_of, site, value_at, check_assert, check_asserts};
+ghost use Rattle.link65.specs.Links.{check_each, file_of, module_location, located_value, check_assert, check_asserts};
 ghost use Rattle.link65.specs.Faults.{is_memory};
 ghost use Rattle.link65.specs.Texts.{assertion_warning};
 
+use crate::building::{SegmentNames, segment_index};
 use crate::evaluation::{EvalBlocked, ExportState, try_form};
 use crate::fault::{LinkFault, ModuleLocation};
-use crate::growing::{SegmentNames, place_of};
 use crate::parts::{
-    Asserted, Exported, LinkedModule, Resolved, SegmentContent, ValueFault, ValueFixup,
+    LinkedModule, ModuleAssertion, ModuleBindings, ModuleExport, SegmentContent, ValueFault,
+    ValueFixup,
 };
 use crate::texts::location_name;
 use base65::{ListVec, join};
@@ -24,33 +25,33 @@ use itoa::Buffer;
 use object65::{Action, Norm, Origin, fits};
 use std::alloc::{AllocError, Global};
 
-/// A placed program whose exports are all found.
+/// A placed program whose exports are all evaluated.
 #[derive(Clone, Copy)]
 pub struct PlacedProgram<'a> {
     pub members: &'a [LinkedModule],
-    /// The names of the segments, by which their indices are found.
+    /// The names of the segments, for finding a segment's index.
     pub names: &'a SegmentNames,
     pub contents: &'a [SegmentContent],
-    pub exports: &'a [Exported],
-    pub asserts: &'a [Asserted],
-    /// Where each module's sections lie, and who gives its imports.
-    pub modules: &'a [Resolved],
-    /// The value of each export.
-    pub marks: &'a [ExportState],
+    pub exports: &'a [ModuleExport],
+    pub asserts: &'a [ModuleAssertion],
+    /// The section addresses and the providers of imports of each module.
+    pub modules: &'a [ModuleBindings],
+    /// The result of each export.
+    pub states: &'a [ExportState],
 }
 
-/// The segment of a name, if there is one.
+/// Returns the segment of a name, if there is one.
 pub fn content_of<'a>(program: &PlacedProgram<'a>, name: &[u8]) -> Option<&'a SegmentContent>
     requires { map (λ n. n.items) program.now.names.now.keys ≡ map (λ c. c.name) program.now.contents.now }
     ensures { option_map segment_from (option_copied result) ≡ segment_of (segments_in program.now) name.now }
 {
-    match place_of(program.names, name) {
+    match segment_index(program.names, name) {
         Some(index) => program.contents.get(index),
         None => None,
     }
 }
 
-/// A copy of the name of an origin's file, where its module names one.
+/// Returns a copy of the name of an origin's file, if its module names one.
 fn file_of(
     alloc: Global,
     member: &LinkedModule,
@@ -67,14 +68,14 @@ fn file_of(
     }
 }
 
-/// The module, the file and the line of a datum, an export or an assertion.
-fn site_of(
+/// Returns the module, the file and the line of a datum, an export or an assertion.
+fn module_location(
     alloc: Global,
     members: &[LinkedModule],
     owner: usize,
     origin: Origin,
 ) -> Result<ModuleLocation, AllocError>
-    ensures { IfOk result (λ s. s ≡ site members.now owner origin) }
+    ensures { IfOk result (λ s. s ≡ module_location members.now owner origin) }
 {
     let line = origin.line;
     match members.get(owner) {
@@ -93,76 +94,76 @@ fn site_of(
 
 /// Returns the value of a form of the module at an index; or why it has none, with the location of
 /// its statement.
-fn value_at(
+fn located_value(
     alloc: Global,
     program: &PlacedProgram<'_>,
     owner: usize,
     origin: Origin,
     form: &Norm,
 ) -> Result<i64, LinkFault>
-    requires { AllFound program.now.marks.now }
-    ensures { Refines is_memory (λ v. v) result (value_at (site program.now.members.now owner origin) (value_by (linkage_in program.now) (exports_in program.now) owner form.now)) }
+    requires { AllFound program.now.states.now }
+    ensures { Refines is_memory (λ v. v) result (located_value (module_location program.now.members.now owner origin) (value_of_form (linkage_in program.now) (exports_in program.now) owner form.now)) }
 {
-    match try_form(form, program.modules.get(owner), program.marks) {
+    match try_form(form, program.modules.get(owner), program.states) {
         Ok(value) => Ok(value),
         Err(EvalBlocked::Fault(ValueFault::NoValue)) => {
-            Err(LinkFault::NoValue(site_of(alloc, program.members, owner, origin)?))
+            Err(LinkFault::NoValue(module_location(alloc, program.members, owner, origin)?))
         }
         Err(EvalBlocked::Fault(ValueFault::Unresolved)) => {
             Err(LinkFault::Unresolved(ListVec::new(alloc)))
         }
         Err(EvalBlocked::Fault(ValueFault::Circular)) => {
-            Err(LinkFault::Circular(site_of(alloc, program.members, owner, origin)?))
+            Err(LinkFault::Circular(module_location(alloc, program.members, owner, origin)?))
         }
         Err(EvalBlocked::Needs(_)) => {
-            Err(LinkFault::Circular(site_of(alloc, program.members, owner, origin)?))
+            Err(LinkFault::Circular(module_location(alloc, program.members, owner, origin)?))
         }
     }
 }
 
-/// The value of a datum, or its fault: it has none, or one that doesn't fit.
+/// Returns the value of a datum. Rejects a datum that has no value, or one that doesn't fit.
 pub fn datum_value(
     alloc: Global,
     program: &PlacedProgram<'_>,
     fixup: &ValueFixup,
 ) -> Result<i64, LinkFault>
-    requires { AllFound program.now.marks.now }
+    requires { AllFound program.now.states.now }
     ensures checked { Refines is_memory (λ _. tt) result (check_in program.now fixup.now) }
-    ensures value { IfOk result (λ v. value_by (linkage_in program.now) (exports_in program.now) fixup.now.owner fixup.now.form ≡ Ok v) }
+    ensures value { IfOk result (λ v. value_of_form (linkage_in program.now) (exports_in program.now) fixup.now.owner fixup.now.form ≡ Ok v) }
     ensures fits { IfOk result (λ v. fits_width fixup.now.width v ≡ true) }
 {
-    let value = value_at(alloc, program, fixup.owner, fixup.origin, &fixup.form)?;
+    let value = located_value(alloc, program, fixup.owner, fixup.origin, &fixup.form)?;
     if !fits(fixup.width, value) {
-        let site = site_of(alloc, program.members, fixup.owner, fixup.origin)?;
-        return Err(LinkFault::OutOfRange(site));
+        let location = module_location(alloc, program.members, fixup.owner, fixup.origin)?;
+        return Err(LinkFault::OutOfRange(location));
     }
     Ok(value)
 }
 
-/// The value of each export. The first that has none is refused, used or not.
+/// Returns the value of each export. Rejects the first that has none, used or not.
 pub fn export_values(alloc: Global, program: &PlacedProgram<'_>) -> Result<Vec<i64>, LinkFault>
-    requires { AllFound program.now.marks.now }
-    ensures checked { Refines is_memory (λ _. tt) result (each_passes (check_export_in program.now) program.now.exports.now) }
+    requires { AllFound program.now.states.now }
+    ensures checked { Refines is_memory (λ _. tt) result (check_each (check_export_in program.now) program.now.exports.now) }
     ensures values { IfOk result (λ values. values.items ≡ values_in program.now) }
 {
     let mut values = Vec::with_capacity(alloc, program.exports.len())?;
     for export in program.exports {
-        values.push(value_at(alloc, program, export.owner, export.origin, &export.form)?)?;
+        values.push(located_value(alloc, program, export.owner, export.origin, &export.form)?)?;
     }
     Ok(values)
 }
 
-/// `module:line: Warning: text` or `module:file:line: Warning: text`
+/// Returns `module:line: Warning: text` or `module:file:line: Warning: text`, with a line end.
 fn assertion_warning(
     alloc: Global,
-    site: &ModuleLocation,
+    location: &ModuleLocation,
     text: &[u8],
 ) -> Result<ListVec<u8>, AllocError>
-    ensures { IfOk result (λ line. line ≡ assertion_warning site.now text.now) }
+    ensures { IfOk result (λ line. line ≡ assertion_warning location.now text.now) }
 {
     let mut buffer = Buffer::new();
-    let number = buffer.format(site.line);
-    let name = location_name(alloc, site)?;
+    let number = buffer.format(location.line);
+    let name = location_name(alloc, location)?;
     join(
         alloc,
         &[
@@ -176,24 +177,24 @@ fn assertion_warning(
     )
 }
 
-/// Returns the warning of an assertion, or its error.
+/// Returns the warning of an assertion, empty if it holds; or its error.
 fn check_assertion(
     alloc: Global,
     program: &PlacedProgram<'_>,
-    assert: &Asserted,
+    assert: &ModuleAssertion,
 ) -> Result<ListVec<u8>, LinkFault>
-    requires { AllFound program.now.marks.now }
+    requires { AllFound program.now.states.now }
     ensures { Refines is_memory (λ text. text) result (check_assert (linkage_in program.now) program.now.members.now (exports_in program.now) assert.now) }
 {
-    let value = value_at(alloc, program, assert.owner, assert.origin, &assert.form)?;
+    let value = located_value(alloc, program, assert.owner, assert.origin, &assert.form)?;
     if value != 0 {
         return Ok(ListVec::new(alloc));
     }
-    let site = site_of(alloc, program.members, assert.owner, assert.origin)?;
+    let location = module_location(alloc, program.members, assert.owner, assert.origin)?;
     let text = assert.text.as_slice();
     match assert.action {
-        Action::Warning => Ok(assertion_warning(alloc, &site, text)?),
-        Action::Error => Err(LinkFault::Assertion(site, ListVec::copy_of(alloc, text)?)),
+        Action::Warning => Ok(assertion_warning(alloc, &location, text)?),
+        Action::Error => Err(LinkFault::Assertion(location, ListVec::copy_of(alloc, text)?)),
     }
 }
 
@@ -201,9 +202,9 @@ fn check_assertion(
 pub fn check_assertions(
     alloc: Global,
     program: &PlacedProgram<'_>,
-    asserts: &[Asserted],
+    asserts: &[ModuleAssertion],
 ) -> Result<ListVec<u8>, LinkFault>
-    requires { AllFound program.now.marks.now }
+    requires { AllFound program.now.states.now }
     ensures { Refines is_memory (λ text. text) result (check_asserts (linkage_in program.now) program.now.members.now (exports_in program.now) asserts.now) }
 {
     let mut text = ListVec::new(alloc);

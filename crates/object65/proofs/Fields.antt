@@ -1,4 +1,4 @@
--- The fields of the bodies of records: what is read is spelled so, and what is spelled so is read.
+-- The fields of the bodies of records: decoding and encoding are inverse.
 use Rattle.std.proofs.lemmas.Grind.{common_steps}
 use Rattle.std.proofs.Common.{◌≡◌, ◌∙◌, ℕ, ℤ, zero, suc, ◌+◌, ◌<◌, ◌≤◌, ◌^◌, List, [], ◌∷◌, ◌++◌, length, take, drop, Bool, true, false, ◌&&◌, ◌||◌, not, nat_lt, ◌==◌, Option, Some, None, Result, Ok, Err, refl, sym, ap, subst, arith, append_assoc, length-append, ◌⊎◌, inl, inr, if◌then◌else◌}
 use Rattle.std.proofs.lemmas.Bool.Decides.{nat_tests}
@@ -26,10 +26,10 @@ use Rattle.object65.specs.Folding.{is_normal, folds1, folds2}
 use Rattle.object65.specs.Form.{Form, lit, sec, imp, prefix, binary, nodes}
 use Rattle.object65.specs.Objects.{FitsBits, OriginFits, has_file_by}
 use Rattle.object65.specs.Operators.{op1_of, op2_of, number2}
-use Rattle.object65.specs.Spelling.{code1, form_bytes, origin_bytes, width_code, action_code, value_entry, export_entry, assert_entry, fill_entry}
-use Rattle.object65.proofs.Goods.{left, right}
+use Rattle.object65.specs.Spelling.{code1, form_bytes, origin_bytes, width_code, action_code, value_record, export_record, assert_record, fill_record}
+use Rattle.object65.proofs.SmallParts.{left, right}
 use Rattle.object65.proofs.Numbers.{bytes_drop, front, back}
-use Rattle.object65.proofs.Trails.{bound, passes}
+use Rattle.object65.proofs.RecordSequences.{bound, passes}
 use borrow.Author.Tests.{ltb-false}
 
 abbrev Part : Type 0
@@ -51,7 +51,7 @@ other : {A : Type 0} (b : Bool) (x y : A) → b ≡ false → (if b then x else 
 other true x y e = cc
 other false x y e = refl
 
--- ---- Numbers and texts that are read.
+-- ---- Decoded numbers and texts.
 
 pub record ReadsNumber (n : ℕ) (bytes : List ℕ) (x : ℕ × List ℕ) : Type 0 where
   pub spelled : bytes ≡ little_bytes n x.0 ++ x.1
@@ -100,8 +100,8 @@ byte_reads (b ∷ bytes) x is e =
     let x_is : ◌≡◌ {A = ℕ × List ℕ} (b, bytes) x = ap (λ k. (k, bytes)) (sym same) ∙ cc (p.1) in
     rw (← x_is) (refl, is zero, λ i. is (suc i))
 
-counted_reads : (bytes : List ℕ) (x : List ℕ × List ℕ) → IsBytes bytes → Bodies.counted_at bytes ≡ Ok x → ReadsText bytes x
-unfolding Bodies.counted_at
+counted_reads : (bytes : List ℕ) (x : List ℕ × List ℕ) → IsBytes bytes → Bodies.counted_text_at bytes ≡ Ok x → ReadsText bytes x
+unfolding Bodies.counted_text_at
 counted_reads bytes x is e =
     let n = bound (Bodies.number_at 1 bytes) _ _ e in
     let byte = byte_reads bytes n.0 is n.1 in
@@ -120,9 +120,9 @@ counted_reads bytes x is e =
     length_front (suc n) [] h = absurd (omega arith)
     length_front (suc n) (x ∷ xs) h = omega (arith, length_front n xs (omega arith))
 
--- ---- Forms that are read.
+-- ---- Decoded forms.
 
--- the form stands at the front, and then the rest
+-- the bytes are the form, followed by the rest
 pub record ReadsForm (bytes : List ℕ) (x : Form × List ℕ) : Type 0 where
   pub spelled : bytes ≡ form_bytes x.0 ++ x.1
   pub fits : FitsBits x.0
@@ -267,7 +267,7 @@ all_reads bytes f is e =
     let last = kept (length x.0.1 == 0) x.0.0 f x.2 in
     (reads.spelled ∙ (λ i. form_bytes (last.1 i) ++ nothing_left x.0.1 last.0 i) ∙ nil (form_bytes f), subst FitsBits last.1 reads.fits)
 
--- ---- Bodies that are read.
+-- ---- Decoded bodies.
 
 pub fill_reads : (body : List ℕ) (n : ℕ) → IsBytes body → Bodies.fill_of body ≡ Ok n → (body ≡ little_bytes 4 n) × (n < 2 ^ 32) × (0 < n)
 fill_reads body n is e = grind (arith, common_steps)
@@ -278,7 +278,7 @@ width_spelled code w e = grind (arith, common_steps)
 action_spelled : (code : ℕ) (a : Action) → Bodies.action_of code ≡ Ok a → code ≡ action_code a
 action_spelled code a e = grind (arith, common_steps)
 
--- the origin stands at the front, and then the rest
+-- the bytes are the origin, followed by the rest
 record ReadsOrigin (bytes : List ℕ) (x : Origin × List ℕ) : Type 0 where
   pub spelled : bytes ≡ origin_bytes x.0 ++ x.1
   pub fits : OriginFits x.0
@@ -320,7 +320,7 @@ file_line_by : (v : ℕ) (bytes : List ℕ) (x : Origin × List ℕ) → (v == 1
 unfolding Bodies.file_line_at
 file_line_by v bytes x two e = grind (arith, common_steps)
 
--- an origin that is read has a file or none as its version says
+-- a decoded origin has a file exactly if its version has files
 origin_by : (v : ℕ) (bytes : List ℕ) (x : Origin × List ℕ) → Bodies.origin_at v bytes ≡ Ok x → has_file_by v x.0.file ≡ true
 origin_by v bytes x e = grind (arith, common_steps, line_by, file_line_by)
 
@@ -336,7 +336,7 @@ pub assert_by : (v : ℕ) (body : List ℕ) (x : Assert) → Bodies.assert_of v 
 unfolding Bodies.assert_of
 assert_by v body x e = grind (arith, common_steps, bound, origin_by)
 
-pub value_reads : (v : ℕ) (body : List ℕ) (x : Width × Origin × Form) → IsBytes body → Bodies.value_of v body ≡ Ok x → (body ≡ (value_entry x.0 x.1 x.2).body) × OriginFits x.1 × FitsBits x.2
+pub value_reads : (v : ℕ) (body : List ℕ) (x : Width × Origin × Form) → IsBytes body → Bodies.value_of v body ≡ Ok x → (body ≡ (value_record x.0 x.1 x.2).body) × OriginFits x.1 × FitsBits x.2
 unfolding Bodies.value_of
 value_reads v body x is e =
     let c = bound (Bodies.number_at 1 body) _ _ e in
@@ -353,10 +353,10 @@ value_reads v body x is e =
       form.1,
     )
 
-pub export_reads : (v : ℕ) (body : List ℕ) (x : Export) → IsBytes body → Bodies.export_of v body ≡ Ok x → (body ≡ (export_entry x).body) × OriginFits x.origin × FitsBits x.form
+pub export_reads : (v : ℕ) (body : List ℕ) (x : Export) → IsBytes body → Bodies.export_of v body ≡ Ok x → (body ≡ (export_record x).body) × OriginFits x.origin × FitsBits x.form
 unfolding Bodies.export_of
 export_reads v body x is e =
-    let t = bound (Bodies.counted_at body) _ _ e in
+    let t = bound (Bodies.counted_text_at body) _ _ e in
     let name = counted_reads body t.0 is t.1 in
     let l = bound (Bodies.origin_at v t.0.1) _ _ t.2 in
     let origin = origin_reads v t.0.1 l.0 name.rest l.1 in
@@ -370,7 +370,7 @@ export_reads v body x is e =
     )
 
 pub record ReadsAssert (body : List ℕ) (x : Assert) : Type 0 where
-  pub spelled : body ≡ (assert_entry x).body
+  pub spelled : body ≡ (assert_record x).body
   pub origin : OriginFits x.origin
   pub form : FitsBits x.form
   pub text : length x.text < 256
@@ -383,7 +383,7 @@ assert_reads v body x is e =
     let a = bound (Bodies.action_of c.0.0) _ _ c.2 in
     let l = bound (Bodies.origin_at v c.0.1) _ _ a.2 in
     let origin = origin_reads v c.0.1 l.0 code.2 l.1 in
-    let t = bound (Bodies.counted_at l.0.1) _ _ l.2 in
+    let t = bound (Bodies.counted_text_at l.0.1) _ _ l.2 in
     let text = counted_reads l.0.1 t.0 origin.rest t.1 in
     let f = bound (Bodies.form_of_all t.0.1) _ _ t.2 in
     let form = all_reads t.0.1 f.0 text.rest f.1 in
@@ -395,7 +395,7 @@ assert_reads v body x is e =
       text = text.short;
     })
 
--- ---- What is spelled is read.
+-- ---- Encoded fields are decoded.
 
 number_again : (n x : ℕ) (rest : List ℕ) → x < 256 ^ n → Bodies.number_at n (little_bytes n x ++ rest) ≡ Ok (x, rest)
 number_again n x rest fits =
@@ -410,8 +410,8 @@ byte_again b rest = grind (arith, common_steps)
 signed_again : (v : ℤ) (rest : List ℕ) → FitsSigned w64 v → Bodies.signed_at (little_bytes 8 (cast_unsigned w64 v) ++ rest) ≡ Ok (v, rest)
 signed_again v rest fits = grind (arith, common_steps)
 
-text_again : (text rest : List ℕ) → Bodies.counted_at (length text ∷ (text ++ rest)) ≡ Ok (text, rest)
-unfolding Bodies.counted_at
+text_again : (text rest : List ℕ) → Bodies.counted_text_at (length text ∷ (text ++ rest)) ≡ Ok (text, rest)
+unfolding Bodies.counted_text_at
 text_again text rest = grind (arith, common_steps)
 
 binary_code : (part : Part) (op : Op2) (bytes : List ℕ) → Bodies.form_of_code part (0x20 + number2 op) bytes ≡ Bodies.binary_at part op bytes
@@ -496,7 +496,7 @@ all_again f fits normal =
 fill_kept : (body : List ℕ) (n : ℕ) → length body ≡ 4 → little_number 4 body ≡ n → 0 < n → Bodies.fill_of body ≡ Ok n
 fill_kept body n len number some = grind (arith, common_steps)
 
-pub fill_again : (n : ℕ) → 0 < n → n < 2 ^ 32 → Bodies.fill_of (fill_entry n).body ≡ Ok n
+pub fill_again : (n : ℕ) → 0 < n → n < 2 ^ 32 → Bodies.fill_of (fill_record n).body ≡ Ok n
 fill_again n some fits = fill_kept (little_bytes 4 n) n (length-bytes_low_first 0 4 n) (ap (little_number 4) (sym (nil (little_bytes 4 n))) ∙ back 4 n [] (omega arith)) some
 
 width_again : (w : Width) → Bodies.width_of (width_code w) ≡ Ok w
@@ -516,15 +516,15 @@ file_line_again k line rest file within = grind (arith, common_steps)
 origin_again : (v : ℕ) (o : Origin) (rest : List ℕ) → has_file_by v o.file ≡ true → OriginFits o → Bodies.origin_at v (origin_bytes o ++ rest) ≡ Ok (o, rest)
 origin_again v o rest by fits = grind (arith, common_steps, chosen, line_again, other, file_line_again)
 
-pub value_again : (v : ℕ) (w : Width) (o : Origin) (f : Form) → has_file_by v o.file ≡ true → OriginFits o → FitsBits f → is_normal f ≡ true → Bodies.value_of v (value_entry w o f).body ≡ Ok (w, o, f)
+pub value_again : (v : ℕ) (w : Width) (o : Origin) (f : Form) → has_file_by v o.file ≡ true → OriginFits o → FitsBits f → is_normal f ≡ true → Bodies.value_of v (value_record w o f).body ≡ Ok (w, o, f)
 unfolding Bodies.value_of
 value_again v w o f by within fits normal =
     rw (byte_again (width_code w) (origin_bytes o ++ form_bytes f), width_again w, origin_again v o (form_bytes f) by within, all_again f fits normal) refl
 
-pub export_again : (v : ℕ) (x : Export) → has_file_by v x.origin.file ≡ true → OriginFits x.origin → FitsBits x.form → is_normal x.form ≡ true → Bodies.export_of v (export_entry x).body ≡ Ok x
+pub export_again : (v : ℕ) (x : Export) → has_file_by v x.origin.file ≡ true → OriginFits x.origin → FitsBits x.form → is_normal x.form ≡ true → Bodies.export_of v (export_record x).body ≡ Ok x
 unfolding Bodies.export_of
 export_again v x by within fits normal = grind (arith, common_steps, append_assoc, text_again, origin_again, all_again)
 
-pub assert_again : (v : ℕ) (x : Assert) → has_file_by v x.origin.file ≡ true → OriginFits x.origin → FitsBits x.form → is_normal x.form ≡ true → Bodies.assert_of v (assert_entry x).body ≡ Ok x
+pub assert_again : (v : ℕ) (x : Assert) → has_file_by v x.origin.file ≡ true → OriginFits x.origin → FitsBits x.form → is_normal x.form ≡ true → Bodies.assert_of v (assert_record x).body ≡ Ok x
 unfolding Bodies.assert_of
 assert_again v x by within fits normal = grind (arith, common_steps, byte_again, action_again, origin_again, text_again, all_again)

@@ -1,4 +1,4 @@
--- Folding keeps values, and what it gives is normal.
+-- Folding keeps values, and its results are normal.
 use Rattle.std.proofs.lemmas.Grind.{common_steps}
 use Rattle.std.proofs.Common.{◌≡◌, ◌∙◌, ℕ, ◌≤◌, ℤ, ◌+ℤ◌, ◌-ℤ◌, refl, sym, ap, arith, Result, Ok, Option, Bool, true, false, ◌&&◌, ◌||◌, not, nat_eq, nat_le, cond}
 use Rattle.std.proofs.lemmas.Bool.Decides.{nat_tests}
@@ -14,7 +14,7 @@ use Rattle.base65.specs.Values.{value1, wrap_signed}
 use Rattle.object65.specs.Folding
 use Rattle.object65.specs.Form.{Form, lit, sec, prefix, binary, nodes}
 use Rattle.object65.specs.FormValue.{or_none, value_in, value_of_one, value_of_two}
-use Rattle.object65.specs.Laws.{PrefixFoldLaw, BinaryFoldLaw, IsFolded, NormalLaw, StaysLaw}
+use Rattle.object65.specs.Laws.{PrefixFoldPreservesValue, BinaryFoldPreservesValue, IsFolded, FoldedIsNormal, FoldableIffFoldChanges}
 
 -- ---- Sums that wrap.
 
@@ -44,7 +44,7 @@ module _ {E : Type 0} (none : E) (bases : ℕ → ℤ) (imports : ℕ → Result
   one_kept : (op : Op1) (f h : Form) → Folding.fold1 op f ≡ Ok h → value_in none bases imports h ≡ value_of_one none bases imports op f
   one_kept x f h e = grind (arith, common_steps)
 
-  any_kept : (op : Op2) (f g h : Form) → Folding.fold_any op f g ≡ Ok h → value_in none bases imports h ≡ value_of_two none bases imports op f g
+  any_kept : (op : Op2) (f g h : Form) → Folding.fold_numbers op f g ≡ Ok h → value_in none bases imports h ≡ value_of_two none bases imports op f g
   any_kept op x y h e = grind (arith, common_steps)
 
   sum_kept : (f g h : Form) → Folding.fold_sum f g ≡ Ok h → value_in none bases imports h ≡ value_of_two none bases imports Add f g
@@ -52,7 +52,7 @@ module _ {E : Type 0} (none : E) (bases : ℕ → ℤ) (imports : ℕ → Result
   sum_kept (lit n) (sec k a) h e = let same : sec k (wrap_signed (a +ℤ n)) ≡ h = cc in ap (value_in none bases imports) (sym same) ∙ ap Ok (add_turned (bases k) a n)
   sum_kept f g h e = any_kept Add f g h e
 
-  sections_kept : (k m : ℕ) (a b : ℤ) (h : Form) (t : Bool) → nat_eq k m ≡ t → cond t (Ok (lit (wrap_signed (a -ℤ b)))) (Folding.fold_any Subtract (sec k a) (sec m b)) ≡ Ok h → value_in none bases imports h ≡ value_of_two none bases imports Subtract (sec k a) (sec m b)
+  sections_kept : (k m : ℕ) (a b : ℤ) (h : Form) (t : Bool) → nat_eq k m ≡ t → cond t (Ok (lit (wrap_signed (a -ℤ b)))) (Folding.fold_numbers Subtract (sec k a) (sec m b)) ≡ Ok h → value_in none bases imports h ≡ value_of_two none bases imports Subtract (sec k a) (sec m b)
   sections_kept k m a b h true t e =
       let same : lit (wrap_signed (a -ℤ b)) ≡ h = cc in
       let one : k ≡ m = grind (arith, nat_tests) in
@@ -65,13 +65,13 @@ module _ {E : Type 0} (none : E) (bases : ℕ → ℤ) (imports : ℕ → Result
   two_kept : (op : Op2) (f g h : Form) → Folding.fold2 op f g ≡ Ok h → value_in none bases imports h ≡ value_of_two none bases imports op f g
   two_kept x f g h e = grind (arith, common_steps, sum_kept, difference_kept, any_kept)
 
-pub prefix_fold_law : (E : Type 0) → PrefixFoldLaw E
+pub prefix_fold_law : (E : Type 0) → PrefixFoldPreservesValue E
 prefix_fold_law E none bases imports op f h e = one_kept none bases imports op f h e
 
-pub binary_fold_law : (E : Type 0) → BinaryFoldLaw E
+pub binary_fold_law : (E : Type 0) → BinaryFoldPreservesValue E
 binary_fold_law E none bases imports op f g h e = two_kept none bases imports op f g h e
 
--- ---- What folding gives.
+-- ---- The results of folding.
 
 one_normal : (op : Op1) (f h : Form) → IsFolded f → Folding.fold1 op f ≡ Ok h → IsFolded h
 one_normal x f h folded e = grind (arith, common_steps)
@@ -79,10 +79,10 @@ one_normal x f h folded e = grind (arith, common_steps)
 two_normal : (op : Op2) (f g h : Form) → IsFolded f → IsFolded g → Folding.fold2 op f g ≡ Ok h → IsFolded h
 two_normal x f g h folded_f folded_g e = grind (arith, common_steps)
 
-pub normal_law : NormalLaw
+pub normal_law : FoldedIsNormal
 normal_law = (one_normal, two_normal)
 
--- ---- What folding leaves as it stands.
+-- ---- Operations that folding doesn't change.
 
 prefix_only : (op : Op1) (f : Form) → Folding.fold_prefix op f ≡ Ok (prefix op f) → Folding.is_literal f ≡ false
 prefix_only op x e = grind (arith, common_steps)
@@ -102,5 +102,5 @@ two_alone x f g h alone = grind (arith, common_steps)
 two_only : (op : Op2) (f g : Form) → Folding.fold2 op f g ≡ Ok (binary op f g) → Folding.folds2 op f g ≡ false
 two_only x f g e = grind (arith, common_steps)
 
-pub stays_law : StaysLaw
+pub stays_law : FoldableIffFoldChanges
 stays_law = (λ op f h. (one_alone op f h, one_only op f), λ op f g h. (two_alone op f g h, two_only op f g))

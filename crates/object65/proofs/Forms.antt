@@ -1,4 +1,4 @@
--- How long a form is.
+-- The lengths of forms.
 use Rattle.std.proofs.lemmas.Grind.{common_steps}
 use Rattle.std.proofs.Common.{◌≡◌, ◌≤◌, ◌<◌, ℕ, zero, suc, [], ◌∷◌, ◌-◌, take, drop, get_or, ◌+◌, ◌*◌, ◌++◌, List, length, Bool, true, false, ◌&&◌, arith, ap, refl, length-append, Option}
 use Rattle.std.proofs.lemmas.Bool.Decides.{nat_tests}
@@ -46,7 +46,7 @@ small_export e small = let p = both (is_small_text e.name) (is_small_form e.form
 pub small_assert : (a : Assert) → is_small_assert a ≡ true → (length a.text < 256) × (length (form_bytes a.form) ≤ 3315)
 small_assert a small = let p = both (is_small_text a.text) (is_small_form a.form) small in (small_text a.text p.0, small_form a.form p.1)
 
--- how long a list is that something was added to
+-- the length of a list to which a piece was appended
 pub added_len : (old piece new : List ℕ) → new ≡ old ++ piece → length new ≡ length old + length piece
 added_len old piece new is = omega (arith, ap length is, length-append old piece)
 

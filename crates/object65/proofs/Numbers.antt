@@ -1,4 +1,5 @@
--- Numbers of several bytes, the low one first: no other bytes of the same length give the number.
+-- Numbers of several bytes, the low one first: no other bytes of the same length encode the same
+-- number.
 use Rattle.std.proofs.lemmas.Grind.{common_steps}
 use Rattle.std.proofs.Common.{◌≡◌, ◌∙◌, ℕ, zero, suc, ◌+◌, ◌*◌, ◌<◌, ◌≤◌, ◌^◌, List, [], ◌∷◌, ◌++◌, length, take, drop, refl, sym, ap, arith}
 use Rattle.std.proofs.Math.Nat.{mod-lt}
@@ -11,7 +12,7 @@ use Rattle.object65.specs.Record.{IsBytes}
 pub bytes_drop : (n : ℕ) (xs : List ℕ) → IsBytes xs → IsBytes (drop n xs)
 bytes_drop n xs is i = rw (get_or-drop n xs i 0) (is (n + i))
 
--- the first so many bytes
+-- the first n items are bytes, too
 pub bytes_take : (n : ℕ) (xs : List ℕ) → IsBytes xs → IsBytes (take n xs)
 bytes_take zero xs is i = omega arith
 bytes_take (suc n) [] is i = omega arith
@@ -25,7 +26,7 @@ bytes_of zero (suc n) x zero = mod-lt x (omega arith)
 bytes_of (suc i) (suc n) x zero = mod-lt _ (omega arith)
 bytes_of i (suc n) x (suc k) = bytes_of (suc i) n x k
 
--- no other bytes of that length give the number
+-- no other bytes of that length encode the number
 pub one_number : (n : ℕ) (a b : List ℕ) → IsBytes a → IsBytes b → length a ≡ n → length b ≡ n → little_number n a ≡ little_number n b → a ≡ b
 one_number zero [] [] is_a is_b la lb e = refl
 one_number zero [] (y ∷ b) is_a is_b la lb e = absurd (omega arith)

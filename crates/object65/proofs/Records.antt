@@ -1,4 +1,4 @@
--- Records that are read one after another, also among bytes that were read ahead.
+-- Records that are read one after another, also from bytes that were read ahead.
 use Rattle.std.proofs.lemmas.Grind.{common_steps}
 use Rattle.std.proofs.Common.{◌≡◌, ◌∙◌, ◌<◌, ◌≤◌, ℕ, zero, suc, ◌+◌, ◌-◌, List, [], length, take, Bool, true, false, if◌then◌else◌, Option, Some, None, Result, Ok, Err, refl, sym, ap, arith, ◌∷◌, ◌++◌, drop, nat_le, nat_lt}
 use Rattle.std.specs.Prelude.{IfSome, min}
@@ -8,12 +8,12 @@ use Rattle.base65.specs.Store.{Files, PropagatesIoError}
 use Rattle.object65.specs.declared.fault.ObjectFault.{ObjectFault}
 use Rattle.object65.specs.declared.fault.ObjectFault.TheVariants.{CutShort, FileError, FileNotFound}
 use Rattle.object65.specs.Record.{◌>>=◌, RefinesErr, is_memory, is_system_error, Refines, RawRecord}
-use Rattle.object65.specs.Reading.{head_at, head_of, record_at, end_at, in_file, front_of, body_or_cut_short, ending, bytes_before, IsRoomRead, records_at, object_at, IsAhead, RecordReaderView, from_place, has_record, record_in, record_len}
-use Rattle.object65.specs.Scanning.{State, start, after, object_of_state}
+use Rattle.object65.specs.Reading.{head_at, head_of, record_at, end_at, in_file, record_header, body_or_cut_short, record_with_end, bytes_between, IsLimitedRead, records_at, object_at, IsAhead, RecordReaderView, bytes_from, has_record, record_in, record_len}
+use Rattle.object65.specs.Scanning.{State, start, state_after_record, object_of_state}
 use Rattle.object65.specs.declared.object.Object.{Object}
 use Rattle.base65.specs.Outcome.{Unless}
-use Rattle.object65.proofs.Trails.{version_kept, passes, room_on}
-use Rattle.object65.proofs.Withins.{after_free}
+use Rattle.object65.proofs.RecordSequences.{version_kept, passes, room_on}
+use Rattle.object65.proofs.ItemLimits.{after_free}
 use Rattle.std.proofs.lemmas.Bool.Decides.{nat_tests}
 use Rattle.std.specs.FinMap.{get}
 use borrow.Author.Tests.{ltb-false}
@@ -28,7 +28,7 @@ cut v at limit bytes past = grind (arith, common_steps)
 pub seen : (known : Option Files) (read : Files → Result (RawRecord × ℕ) ObjectFault) (shown of_reader : RawRecord) (next : ℕ) → shown ≡ of_reader → IfSome known (λ m. read m ≡ Ok (of_reader, next)) → IfSome known (λ m. read m ≡ Ok (shown, next))
 seen known read shown of_reader next same h = rw same h
 
--- from here on the same is read as from the beginning
+-- reading on from here has the same result as from the beginning
 pub record Goes (v : ℕ) (bytes : List ℕ) (limit at next : ℕ) (s : State) : Type 0 where
   pub version : s.version ≡ v
   pub left : ℕ
@@ -42,36 +42,36 @@ unread : (left : ℕ) (s : State) (next limit : ℕ) (bytes : List ℕ) (f : Obj
 unread zero s next limit bytes f enough e = let is : CutShort ≡ f = cc (cut s.version next limit bytes (omega arith)) in ap Err is
 unread (suc left) s next limit bytes f enough e = rw e refl
 
-pub one : (left : ℕ) (s : State) (next limit : ℕ) (bytes : List ℕ) (r : RawRecord × ℕ) → length bytes ≤ next + left → record_at s.version next limit bytes ≡ Ok r → (k : ℕ) × (left ≡ suc k) × (records_at left s next limit bytes ≡ (after s r.0 >>= (λ t. if t.ended then Ok (t, r.1) else records_at k t r.1 limit bytes)))
+pub one : (left : ℕ) (s : State) (next limit : ℕ) (bytes : List ℕ) (r : RawRecord × ℕ) → length bytes ≤ next + left → record_at s.version next limit bytes ≡ Ok r → (k : ℕ) × (left ≡ suc k) × (records_at left s next limit bytes ≡ (state_after_record s r.0 >>= (λ t. if t.ended then Ok (t, r.1) else records_at k t r.1 limit bytes)))
 one zero s next limit bytes r enough e = cc (cut s.version next limit bytes (omega arith))
 one (suc left) s next limit bytes r enough e = (left, refl, rw e refl)
 
--- what is read of the version is read by the state's
+-- reading by the version is reading by the state's version
 by_state : (v : ℕ) (s : State) (next limit : ℕ) (bytes : List ℕ) (r : Result (RawRecord × ℕ) ObjectFault) → s.version ≡ v → record_at v next limit bytes ≡ r → record_at s.version next limit bytes ≡ r
 by_state v s next limit bytes r same e = ap (λ k. record_at k next limit bytes) same ∙ e
 
--- the four ways on
+-- the four ways to continue
 pub stops_reading : (v : ℕ) (bytes : List ℕ) (limit at next : ℕ) (s : State) (f : ObjectFault) → Goes v bytes limit at next s → record_at v next limit bytes ≡ Err f → records_at (length bytes) (start v) at limit bytes ≡ Err f
 stops_reading v bytes limit at next s f goes e = sym goes.same ∙ unread goes.left s next limit bytes f goes.enough (by_state v s next limit bytes _ goes.version e)
 
-pub stops_taking : (v : ℕ) (bytes : List ℕ) (limit at next : ℕ) (s : State) (r : RawRecord × ℕ) (f : ObjectFault) → Goes v bytes limit at next s → record_at v next limit bytes ≡ Ok r → after s r.0 ≡ Err f → records_at (length bytes) (start v) at limit bytes ≡ Err f
+pub stops_taking : (v : ℕ) (bytes : List ℕ) (limit at next : ℕ) (s : State) (r : RawRecord × ℕ) (f : ObjectFault) → Goes v bytes limit at next s → record_at v next limit bytes ≡ Ok r → state_after_record s r.0 ≡ Err f → records_at (length bytes) (start v) at limit bytes ≡ Err f
 stops_taking v bytes limit at next s r f goes e h =
     let k = one goes.left s next limit bytes r goes.enough (by_state v s next limit bytes _ goes.version e) in
     sym goes.same ∙ k.2 ∙ rw h refl
 
-pub ends : (v : ℕ) (bytes : List ℕ) (limit at next : ℕ) (s t : State) (r : RawRecord × ℕ) → Goes v bytes limit at next s → record_at v next limit bytes ≡ Ok r → after s r.0 ≡ Ok t → t.ended ≡ true → records_at (length bytes) (start v) at limit bytes ≡ Ok (t, r.1)
+pub ends : (v : ℕ) (bytes : List ℕ) (limit at next : ℕ) (s t : State) (r : RawRecord × ℕ) → Goes v bytes limit at next s → record_at v next limit bytes ≡ Ok r → state_after_record s r.0 ≡ Ok t → t.ended ≡ true → records_at (length bytes) (start v) at limit bytes ≡ Ok (t, r.1)
 ends v bytes limit at next s t r goes e h ended =
     let k = one goes.left s next limit bytes r goes.enough (by_state v s next limit bytes _ goes.version e) in
     sym goes.same ∙ k.2 ∙ rw (h, ended) refl
 
-pub goes_on : (v : ℕ) (bytes : List ℕ) (limit at next : ℕ) (s t : State) (r : RawRecord × ℕ) → Goes v bytes limit at next s → record_at v next limit bytes ≡ Ok r → next < r.1 → after s r.0 ≡ Ok t → t.ended ≡ false → Goes v bytes limit at r.1 t
+pub goes_on : (v : ℕ) (bytes : List ℕ) (limit at next : ℕ) (s t : State) (r : RawRecord × ℕ) → Goes v bytes limit at next s → record_at v next limit bytes ≡ Ok r → next < r.1 → state_after_record s r.0 ≡ Ok t → t.ended ≡ false → Goes v bytes limit at r.1 t
 goes_on v bytes limit at next s t r goes e later h ended = grind (arith, common_steps, one, by_state, version_kept)
 
--- the same where the files may not be known, and of a file that may not be there
+-- likewise if the files may be unknown, and the file may not exist
 abbrev pub GoesIn : ℕ → Option Files → List ℕ → ℕ → ℕ → ℕ → State → Type 0
 GoesIn v known name limit at next s = IfSome known (λ m. IfSome (map.get m name) (λ bytes. Goes v bytes limit at next s))
 
--- what is read in all of a file
+-- the result of reading the records of a file
 abbrev pub all_in : ℕ → Option (List ℕ) → ℕ → ℕ → Result (State × ℕ) ObjectFault
 all_in v file at limit = in_file file (λ bytes. records_at (length bytes) (start v) at limit bytes)
 
@@ -79,20 +79,21 @@ unless : (b : Bool) {P Q : Type 0} → (P → Q) → Unless b P → Unless b Q
 unless true h p = tt
 unless false h p = h p
 
--- a refusal for any cause but memory is one for any cause but memory and the store
+-- an error with the exception of *out of memory* is one with the exception of all
+-- system errors
 pub memory_outside : {A : Type 0} (e : ObjectFault) (r : Result A ObjectFault) → RefinesErr is_memory e r → RefinesErr is_system_error e r
 memory_outside x r h = grind (arith, common_steps)
 
--- a call that answered left the count of failures as it was
+-- a successful call doesn't change the failure counter
 pub kept_count : {T : Type 0} (old now : ℕ) (x : T) → PropagatesIoError {E = ObjectFault} FileError old now (Ok x) → now ≡ old
 kept_count old now x passes = grind (arith, common_steps)
 
--- a refusal for another cause passes nothing on
+-- another error reports no failure of the store
 pub none_passed : {T : Type 0} (old now : ℕ) (e : ObjectFault) → now ≡ old → (e ≡ FileError → ⊥) → PropagatesIoError {T = T} FileError old now (Err e)
 none_passed old now e same other = grind (arith, common_steps)
 
--- taking refuses for no fault of a store
-pub not_stored : (s : State) (x : RawRecord) (e : ObjectFault) → RefinesErr is_memory e (after s x) → e ≡ FileError → ⊥
+-- adding a record has no error of the store
+pub not_stored : (s : State) (x : RawRecord) (e : ObjectFault) → RefinesErr is_memory e (state_after_record s x) → e ≡ FileError → ⊥
 not_stored s x e refused is = after_free s x (rw is at refused)
 
 module _ (v limit at next : ℕ) where
@@ -106,20 +107,20 @@ module _ (v limit at next : ℕ) where
     file None goes refused = unless (is_system_error e) (λ h. let is : FileNotFound ≡ e = cc in ap Err is) refused
     file (Some bytes) goes refused = unless (is_system_error e) (stops_reading v bytes limit at next s e goes) refused
 
-  pub taking_stops : (known now : Option Files) (name : List ℕ) (s : State) (r : RawRecord × ℕ) (e : ObjectFault) → now ≡ known → GoesIn v known name limit at next s → IfSome now (λ m. in_file (map.get m name) (record_at v next limit) ≡ Ok r) → RefinesErr is_system_error e (after s r.0) → IfSome known (λ m. RefinesErr is_system_error e (all_in v (map.get m name) at limit))
+  pub taking_stops : (known now : Option Files) (name : List ℕ) (s : State) (r : RawRecord × ℕ) (e : ObjectFault) → now ≡ known → GoesIn v known name limit at next s → IfSome now (λ m. in_file (map.get m name) (record_at v next limit) ≡ Ok r) → RefinesErr is_system_error e (state_after_record s r.0) → IfSome known (λ m. RefinesErr is_system_error e (all_in v (map.get m name) at limit))
   taking_stops None now name s r e same goes read refused = tt
   taking_stops (Some m) now name s r e same goes read refused = file (map.get m name) goes (rw same at read) where
     file : (f : Option (List ℕ)) → IfSome f (λ bytes. Goes v bytes limit at next s) → in_file f (record_at v next limit) ≡ Ok r → RefinesErr is_system_error e (all_in v f at limit)
     file None goes read = cc
     file (Some bytes) goes read = unless (is_system_error e) (stops_taking v bytes limit at next s r e goes read) refused
 
-  pub ends_in : (known now : Option Files) (name : List ℕ) (s t : State) (r : RawRecord × ℕ) → now ≡ known → GoesIn v known name limit at next s → IfSome now (λ m. in_file (map.get m name) (record_at v next limit) ≡ Ok r) → after s r.0 ≡ Ok t → t.ended ≡ true → IfSome known (λ m. all_in v (map.get m name) at limit ≡ Ok (t, r.1))
+  pub ends_in : (known now : Option Files) (name : List ℕ) (s t : State) (r : RawRecord × ℕ) → now ≡ known → GoesIn v known name limit at next s → IfSome now (λ m. in_file (map.get m name) (record_at v next limit) ≡ Ok r) → state_after_record s r.0 ≡ Ok t → t.ended ≡ true → IfSome known (λ m. all_in v (map.get m name) at limit ≡ Ok (t, r.1))
   ends_in x now name s t r same goes read taken ended = grind (arith, common_steps, ends)
 
-  pub goes_on_in : (known now : Option Files) (name : List ℕ) (s t : State) (r : RawRecord × ℕ) → now ≡ known → GoesIn v known name limit at next s → IfSome now (λ m. in_file (map.get m name) (record_at v next limit) ≡ Ok r) → next < r.1 → after s r.0 ≡ Ok t → t.ended ≡ false → GoesIn v known name limit at r.1 t
+  pub goes_on_in : (known now : Option Files) (name : List ℕ) (s t : State) (r : RawRecord × ℕ) → now ≡ known → GoesIn v known name limit at next s → IfSome now (λ m. in_file (map.get m name) (record_at v next limit) ≡ Ok r) → next < r.1 → state_after_record s r.0 ≡ Ok t → t.ended ≡ false → GoesIn v known name limit at r.1 t
   goes_on_in x now name s t r same goes read later taken ended = grind (arith, common_steps, goes_on)
 
--- a refusal behind the END is one of the whole
+-- an error after the END is one of the whole
 after_refused : (bytes : List ℕ) (at limit : ℕ) (first : ℕ × ℕ) (s : State) (end : ℕ) (e : ObjectFault) → head_at at limit bytes ≡ Ok first → records_at (length bytes) (start first.0) first.1 limit bytes ≡ Ok (s, end) → RefinesErr is_system_error e (end_at end limit bytes) → RefinesErr is_system_error e (object_at at limit bytes)
 unfolding object_at
 after_refused bytes at limit first s end e head records refused = grind (arith, common_steps)
@@ -131,7 +132,7 @@ end_refused (Some m) a b name at limit first s end e same_a same_b head records 
   file None head records refused = cc
   file (Some bytes) head records refused = after_refused bytes at limit first s end e head records refused
 
--- so is one by the head, or on the way to the END
+-- so is one of the head, or of a record up to the END
 head_stops : (f : Option (List ℕ)) (at limit : ℕ) (e : ObjectFault) → RefinesErr is_system_error e (in_file f (head_at at limit)) → RefinesErr is_system_error e (in_file f (object_at at limit))
 unfolding object_at
 head_stops None at limit e refused = unless (is_system_error e) (λ h. let is : FileNotFound ≡ e = cc in ap Err is) refused
@@ -150,7 +151,7 @@ pub records_refused : (known now : Option Files) (name : List ℕ) (at limit : �
 records_refused None now name at limit first e same head refused = tt
 records_refused (Some m) now name at limit first e same head refused = records_stop (map.get m name) at limit first e head (rw same at refused)
 
--- what finishing gives behind the END is what reading the whole gives
+-- the result of finishing after the END is that of reading the whole
 finish_gives : (f : Option (List ℕ)) (at limit : ℕ) (first : ℕ × ℕ) (s : State) (end : ℕ) (r : Result Object ObjectFault) → in_file f (head_at at limit) ≡ Ok first → all_in first.0 f first.1 limit ≡ Ok (s, end) → in_file f (end_at end limit) ≡ Ok tt → Refines is_memory (λ o. o) r (object_of_state s) → Refines is_system_error (λ o. o) r (in_file f (object_at at limit))
 unfolding object_at
 finish_gives None at limit first s end r head records ended given = cc
@@ -172,43 +173,43 @@ always : (b : Bool) {P : Type 0} → P → Unless b P
 always true p = tt
 always false p = p
 
--- an answer that is what reading gives, also where it is a refusal
+-- a result that equals that of reading, even if it is an error
 as_read : {A : Type 0} (r read : Result A ObjectFault) → r ≡ read → Refines is_system_error (λ x. x) r read
 as_read (Ok x) read is = sym is
 as_read (Err e) read is = always (is_system_error e) (sym is)
 
--- the head is decoded of the first bytes of the room
-pub head_read : (known : Option Files) (name : List ℕ) (at limit : ℕ) (buf : List ℕ) (n : ℕ) (r : Result (ℕ × ℕ) ObjectFault) → length buf ≡ 5 → IfSome known (λ m. IsRoomRead (map.get m name) at limit buf (Ok n)) → r ≡ head_of at (take 5 (take n buf)) → IfSome known (λ m. Refines is_system_error (λ x. x) r (in_file (map.get m name) (head_at at limit)))
+-- the head is decoded from the first bytes between the offset and the limit
+pub head_read : (known : Option Files) (name : List ℕ) (at limit : ℕ) (buf : List ℕ) (n : ℕ) (r : Result (ℕ × ℕ) ObjectFault) → length buf ≡ 5 → IfSome known (λ m. IsLimitedRead (map.get m name) at limit buf (Ok n)) → r ≡ head_of at (take 5 (take n buf)) → IfSome known (λ m. Refines is_system_error (λ x. x) r (in_file (map.get m name) (head_at at limit)))
 head_read None name at limit buf n r five read is = tt
 head_read (Some m) name at limit buf n r five read is = file (map.get m name) read where
-  file : (f : Option (List ℕ)) → IsRoomRead f at limit buf (Ok n) → Refines is_system_error (λ x. x) r (in_file f (head_at at limit))
+  file : (f : Option (List ℕ)) → IsLimitedRead f at limit buf (Ok n) → Refines is_system_error (λ x. x) r (in_file f (head_at at limit))
   file None read = absurd read
-  file (Some bytes) read = as_read r _ (is ∙ ap (λ xs. head_of at xs) (ap (λ xs. take 5 xs) read.0 ∙ take-take 5 (length buf) (bytes_before bytes at limit) (omega (arith, five))))
+  file (Some bytes) read = as_read r _ (is ∙ ap (λ xs. head_of at xs) (ap (λ xs. take 5 xs) read.0 ∙ take-take 5 (length buf) (bytes_between bytes at limit) (omega (arith, five))))
 
--- ---- Records among bytes that were read ahead.
+-- ---- Records in bytes that were read ahead.
 
--- a record is read of the room of an object alone
-pub at_is_in : (v at limit : ℕ) (bytes : List ℕ) → record_at v at limit bytes ≡ record_in v at (bytes_before bytes at limit)
+-- a record is read only from the bytes between the offset and the limit
+pub at_is_in : (v at limit : ℕ) (bytes : List ℕ) → record_at v at limit bytes ≡ record_in v at (bytes_between bytes at limit)
 unfolding record_at record_in
-at_is_in v at limit bytes = ap (λ following. front_of v (take 3 (bytes_before bytes at limit)) >>= (λ front. body_or_cut_short front.1 (take front.1 following) >>= (λ body. ending at front.0 front.1 body))) (room_on bytes at 3 limit ∙ sym (take_rest (bytes_before bytes at limit) 3))
+at_is_in v at limit bytes = ap (λ following. record_header v (take 3 (bytes_between bytes at limit)) >>= (λ front. body_or_cut_short front.1 (take front.1 following) >>= (λ body. record_with_end at front.0 front.1 body))) (room_on bytes at 3 limit ∙ sym (take_rest (bytes_between bytes at limit) 3))
 
--- the length that the front says
-pub front_len : (v : ℕ) (xs : List ℕ) (f : ℕ × ℕ) → front_of v (take 3 xs) ≡ Ok f → (3 + f.1 ≡ record_len xs) × (f.1 ≤ 4096)
+-- the length in the front of a record
+pub front_len : (v : ℕ) (xs : List ℕ) (f : ℕ × ℕ) → record_header v (take 3 xs) ≡ Ok f → (3 + f.1 ≡ record_len xs) × (f.1 ≤ 4096)
 front_len v x f e = grind (arith, common_steps)
 
--- what stands behind a record doesn't matter, where the record is there
-pub following : (v at : ℕ) (xs rest : List ℕ) → 3 ≤ length xs → ((f : ℕ × ℕ) → front_of v (take 3 xs) ≡ Ok f → 3 + f.1 ≤ length xs) → record_in v at (xs ++ rest) ≡ record_in v at xs
+-- the bytes after a whole record don't matter
+pub following : (v at : ℕ) (xs rest : List ℕ) → 3 ≤ length xs → ((f : ℕ × ℕ) → record_header v (take 3 xs) ≡ Ok f → 3 + f.1 ≤ length xs) → record_in v at (xs ++ rest) ≡ record_in v at xs
 unfolding record_in
 following v at xs rest three enough =
-    rw (take_rest (xs ++ rest) 3, take_rest xs 3, take-append-le 3 xs rest three, drop-append-le 3 xs rest three) (by (front_of v (take 3 xs)) enough)
+    rw (take_rest (xs ++ rest) 3, take_rest xs 3, take-append-le 3 xs rest three, drop-append-le 3 xs rest three) (by (record_header v (take 3 xs)) enough)
   where
-    by : (r : Result (ℕ × ℕ) ObjectFault) → ((f : ℕ × ℕ) → r ≡ Ok f → 3 + f.1 ≤ length xs) → (r >>= (λ front. body_or_cut_short front.1 (take front.1 (drop 3 xs ++ rest)) >>= (λ body. ending at front.0 front.1 body))) ≡ (r >>= (λ front. body_or_cut_short front.1 (take front.1 (drop 3 xs)) >>= (λ body. ending at front.0 front.1 body)))
+    by : (r : Result (ℕ × ℕ) ObjectFault) → ((f : ℕ × ℕ) → r ≡ Ok f → 3 + f.1 ≤ length xs) → (r >>= (λ front. body_or_cut_short front.1 (take front.1 (drop 3 xs ++ rest)) >>= (λ body. record_with_end at front.0 front.1 body))) ≡ (r >>= (λ front. body_or_cut_short front.1 (take front.1 (drop 3 xs)) >>= (λ body. record_with_end at front.0 front.1 body)))
     by (Err e) enough = refl
     by (Ok f) enough =
         let left : f.1 ≤ length (drop 3 xs) = omega (arith, length-drop 3 xs, enough f refl) in
         rw (take-append-le f.1 (drop 3 xs) rest left) refl
 
--- ---- A buffer that was filled anew.
+-- ---- A refilled buffer.
 
 pub filled : (v at : ℕ) (xs : List ℕ) → record_in v at (take 8192 xs) ≡ record_in v at xs
 filled v at xs = by (nat_le (length xs) 8192) refl
@@ -220,9 +221,9 @@ filled v at xs = by (nat_le (length xs) 8192) refl
         let len : length (take 8192 xs) ≡ 8192 = omega (arith, length-take 8192 xs, long) in
         sym (following v at (take 8192 xs) (drop 8192 xs) (omega (arith, len)) (λ f e. omega (arith, len, (front_len v (take 8192 xs) f e).1))) ∙ ap (record_in v at) (take-append-drop 8192 xs)
 
--- ---- A record that is there already.
+-- ---- A record that is in the buffer already.
 
--- a part of what a file has is there from a place on, if any of it is
+-- a part of a list from an index on, if the list is long enough
 apart : (n k : ℕ) (a rest : List ℕ) → k ≤ length a → take n (drop k (a ++ rest)) ≡ take n (drop k a) ++ take (n - length (drop k a)) rest
 apart n k a rest h = rw (drop-append-le k a rest h) (split n (drop k a) rest)
   where
@@ -238,9 +239,9 @@ cut_front (suc n) zero xs = let none : min (suc n) zero ≡ zero = omega arith i
 cut_front (suc n) (suc k) [] = sym (take_all (min (suc n) (suc k)) [] (omega arith))
 cut_front (suc n) (suc k) (x ∷ xs) = let same : min (suc n) (suc k) ≡ suc (min n k) = omega arith in rw same (ap (λ ys. x ∷ ys) (cut_front n k xs))
 
--- bytes that were kept of a file, from a place on up to a limit
+-- the buffered bytes from an offset up to a limit
 abbrev pub kept : RecordReaderView → ℕ → ℕ → List ℕ
-kept r at limit = take (limit - at) (from_place r.ahead r.begin at)
+kept r at limit = take (limit - at) (bytes_from r.ahead r.begin at)
 
 nothing : (n : ℕ) (xs : List ℕ) → xs ≡ [] → has_record (take n xs) ≡ true → ⊥
 nothing n xs none h = (let len : length (take n xs) ≤ 0 = omega (arith, length-take n xs, ap length none) in let three : 3 ≤ length (take n xs) = grind (arith, nat_tests, h) in omega (arith, len, three))
@@ -263,50 +264,50 @@ kept_in v at limit r bytes same h = by (nat_lt at r.begin) refl h
         let rest = drop (length r.ahead) (drop r.begin bytes) in
         let file : r.ahead ++ rest ≡ drop r.begin bytes = ap (λ ys. ys ++ rest) same ∙ take-append-drop (length r.ahead) (drop r.begin bytes) in
         let there : at ≡ r.begin + k = omega (arith, late) in
-        let place : drop at bytes ≡ drop k (drop r.begin bytes) = ap (λ n. drop n bytes) there ∙ sym (drop-drop k r.begin bytes) in
-        let body_or_cut_short : bytes_before bytes at limit ≡ xs ++ take (limit - at - length (drop k r.ahead)) rest = ap (take (limit - at)) (place ∙ ap (drop k) (sym file)) ∙ apart (limit - at) k r.ahead rest within in
+        let offset : drop at bytes ≡ drop k (drop r.begin bytes) = ap (λ n. drop n bytes) there ∙ sym (drop-drop k r.begin bytes) in
+        let body_or_cut_short : bytes_between bytes at limit ≡ xs ++ take (limit - at - length (drop k r.ahead)) rest = ap (take (limit - at)) (offset ∙ ap (drop k) (sym file)) ∙ apart (limit - at) k r.ahead rest within in
         at_is_in v at limit bytes ∙ ap (record_in v at) body_or_cut_short ∙ following v at xs (take (limit - at - length (drop k r.ahead)) rest) three (λ f e. omega (arith, enough, (front_len v xs f e).0))
 
--- ---- What reading answers.
+-- ---- The result of reading.
 
 as_outside : (x : Result ℕ ObjectFault) (e : RawRecord) (r : Result (RawRecord × ℕ) ObjectFault) → Refines is_memory (λ n. (e, n)) x r → Refines is_system_error (λ n. (e, n)) x r
 as_outside x e r h = grind (arith, common_steps)
 
--- what was kept, by the calls that give it
-pub kept_so : (w t f : List ℕ) (n at limit : ℕ) (r : RecordReaderView) → w ≡ take n t → n ≡ limit - at → t ≡ from_place f r.begin at → f ≡ r.ahead → w ≡ kept r at limit
-kept_so w t f n at limit r a b c d = a ∙ ap (λ k. take k t) b ∙ ap (take (limit - at)) (c ∙ ap (λ xs. from_place xs r.begin at) d)
+-- the buffered bytes, by the calls that compute them
+pub kept_so : (w t f : List ℕ) (n at limit : ℕ) (r : RecordReaderView) → w ≡ take n t → n ≡ limit - at → t ≡ bytes_from f r.begin at → f ≡ r.ahead → w ≡ kept r at limit
+kept_so w t f n at limit r a b c d = a ∙ ap (λ k. take k t) b ∙ ap (take (limit - at)) (c ∙ ap (λ xs. bytes_from xs r.begin at) d)
 
 pub read_kept : (known : Option Files) (name : List ℕ) (r : RecordReaderView) (v at limit : ℕ) (w : List ℕ) (x : Result ℕ ObjectFault) (e : RawRecord) → w ≡ kept r at limit → has_record w ≡ true → Refines is_memory (λ n. (e, n)) x (record_in v at w) → IfSome known (λ m. IsAhead (get m name) r → Refines is_system_error (λ n. (e, n)) x (in_file (get m name) (record_at v at limit)))
 read_kept y name r v at limit w x e is has gives = grind (arith, common_steps, kept_none, kept_in, as_outside)
 
-pub read_anew : (known : Option Files) (name : List ℕ) (r : RecordReaderView) (v at limit : ℕ) (w shown : List ℕ) (x : Result ℕ ObjectFault) (e : RawRecord) → shown ≡ w → IfSome known (λ m. in_file (get m name) (λ bytes. Ok (take 8192 (bytes_before bytes at limit))) ≡ Ok w) → Refines is_memory (λ n. (e, n)) x (record_in v at shown) → IfSome known (λ m. IsAhead (get m name) r → Refines is_system_error (λ n. (e, n)) x (in_file (get m name) (record_at v at limit)))
+pub read_anew : (known : Option Files) (name : List ℕ) (r : RecordReaderView) (v at limit : ℕ) (w shown : List ℕ) (x : Result ℕ ObjectFault) (e : RawRecord) → shown ≡ w → IfSome known (λ m. in_file (get m name) (λ bytes. Ok (take 8192 (bytes_between bytes at limit))) ≡ Ok w) → Refines is_memory (λ n. (e, n)) x (record_in v at shown) → IfSome known (λ m. IsAhead (get m name) r → Refines is_system_error (λ n. (e, n)) x (in_file (get m name) (record_at v at limit)))
 read_anew y name r v at limit w shown x e same read gives = grind (arith, common_steps, at_is_in, filled, as_outside)
 
-pub ahead_anew : (known : Option Files) (name : List ℕ) (r new : RecordReaderView) (at limit : ℕ) (w : List ℕ) → new.begin ≡ at → new.ahead ≡ w → IfSome known (λ m. in_file (get m name) (λ bytes. Ok (take 8192 (bytes_before bytes at limit))) ≡ Ok w) → IfSome known (λ m. IsAhead (get m name) r → IsAhead (get m name) new)
+pub ahead_anew : (known : Option Files) (name : List ℕ) (r new : RecordReaderView) (at limit : ℕ) (w : List ℕ) → new.begin ≡ at → new.ahead ≡ w → IfSome known (λ m. in_file (get m name) (λ bytes. Ok (take 8192 (bytes_between bytes at limit))) ≡ Ok w) → IfSome known (λ m. IsAhead (get m name) r → IsAhead (get m name) new)
 ahead_anew None name r new at limit w begin same read = tt
 ahead_anew (Some m) name r new at limit w begin same read = λ ahead. file (get m name) read
   where
     shorter : (n : ℕ) (xs : List ℕ) → take n xs ≡ take (length (take n xs)) xs
     shorter n xs = sym (take_min n xs) ∙ ap (λ k. take k xs) (sym (length-take n xs))
 
-    file : (f : Option (List ℕ)) → in_file f (λ bytes. Ok (take 8192 (bytes_before bytes at limit))) ≡ Ok w → IsAhead f new
+    file : (f : Option (List ℕ)) → in_file f (λ bytes. Ok (take 8192 (bytes_between bytes at limit))) ≡ Ok w → IsAhead f new
     file None h = absurd cc
     file (Some bytes) h =
-        let is : take 8192 (bytes_before bytes at limit) ≡ w = cc h in
+        let is : take 8192 (bytes_between bytes at limit) ≡ w = cc h in
         let taken : new.ahead ≡ take (min 8192 (limit - at)) (drop at bytes) = same ∙ sym is ∙ cut_front 8192 (limit - at) (drop at bytes) in
         rw begin (taken ∙ shorter (min 8192 (limit - at)) (drop at bytes) ∙ ap (λ xs. take (length xs) (drop at bytes)) (sym taken))
 
-pub refilled : (known : Option Files) (name : List ℕ) (at limit n : ℕ) (buf : List ℕ) → length buf ≡ 8192 → IfSome known (λ m. IsRoomRead (get m name) at limit buf (Ok n)) → IfSome known (λ m. in_file (get m name) (λ bytes. Ok (take 8192 (bytes_before bytes at limit))) ≡ Ok (take n buf))
+pub refilled : (known : Option Files) (name : List ℕ) (at limit n : ℕ) (buf : List ℕ) → length buf ≡ 8192 → IfSome known (λ m. IsLimitedRead (get m name) at limit buf (Ok n)) → IfSome known (λ m. in_file (get m name) (λ bytes. Ok (take 8192 (bytes_between bytes at limit))) ≡ Ok (take n buf))
 refilled None name at limit n buf len read = tt
 refilled (Some m) name at limit n buf len read = file (get m name) read
   where
-    file : (f : Option (List ℕ)) → IsRoomRead f at limit buf (Ok n) → in_file f (λ bytes. Ok (take 8192 (bytes_before bytes at limit))) ≡ Ok (take n buf)
+    file : (f : Option (List ℕ)) → IsLimitedRead f at limit buf (Ok n) → in_file f (λ bytes. Ok (take 8192 (bytes_between bytes at limit))) ≡ Ok (take n buf)
     file None h = absurd h
-    file (Some bytes) h = ap Ok (ap (λ k. take k (bytes_before bytes at limit)) (sym len) ∙ sym (h.0))
+    file (Some bytes) h = ap Ok (ap (λ k. take k (bytes_between bytes at limit)) (sym len) ∙ sym (h.0))
 
 -- ---- Reading on.
 
--- what a reader keeps is of this file, where the files are known
+-- the buffered bytes are those of this file, if the files are known
 abbrev pub StandsAhead : Option Files → List ℕ → RecordReaderView → Type 0
 StandsAhead known name r = IfSome known (λ m. IsAhead (get m name) r)
 
@@ -316,5 +317,5 @@ fresh x name r none = grind (arith, common_steps)
 pub where_ahead : (known : Option Files) (name : List ℕ) (r : RecordReaderView) (Q : Files → Type 0) → StandsAhead known name r → IfSome known (λ m. IsAhead (get m name) r → Q m) → IfSome known Q
 where_ahead x name r y ahead h = grind (arith, common_steps)
 
-pub stays_ahead : (known after : Option Files) (name : List ℕ) (r new : RecordReaderView) → after ≡ known → StandsAhead known name r → IfSome known (λ m. IsAhead (get m name) r → IsAhead (get m name) new) → StandsAhead after name new
-stays_ahead known after name r new same ahead h = rw same (where_ahead known name r (λ m. IsAhead (get m name) new) ahead h)
+pub stays_ahead : (known state_after_record : Option Files) (name : List ℕ) (r new : RecordReaderView) → state_after_record ≡ known → StandsAhead known name r → IfSome known (λ m. IsAhead (get m name) r → IsAhead (get m name) new) → StandsAhead state_after_record name new
+stays_ahead known state_after_record name r new same ahead h = rw same (where_ahead known name r (λ m. IsAhead (get m name) new) ahead h)

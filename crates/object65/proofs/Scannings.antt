@@ -1,4 +1,4 @@
--- What a scan keeps behind a record is what it keeps of what the item makes.
+-- The outline after a record is the outline of the state after its item.
 use Rattle.std.proofs.lemmas.Grind.{common_steps}
 use Rattle.std.proofs.Common.{◌≡◌, ◌∙◌, ◌%◌, ℕ, zero, suc, List, [], ◌∷◌, ◌++◌, length, map, Some, Bool, true, false, not, ◌==◌, if◌then◌else◌, Result, Ok, Err, refl, sym, ap, subst, arith, ◌⊎◌, inl, inr, length-append}
 use Rattle.std.specs.List.{list_all}
@@ -15,22 +15,22 @@ use Rattle.object65.specs.declared.object.Fragment.{Fragment}
 use Rattle.object65.specs.declared.object.Fragment.TheVariants.{Literal, Fill, Value}
 use Rattle.object65.specs.declared.object.Origin.{Origin}
 use Rattle.base65.specs.declared.width.Width.{Width}
-use Rattle.object65.specs.declared.scan.Last.{Last}
-use Rattle.object65.specs.declared.scan.Last.TheVariants as last
+use Rattle.object65.specs.declared.scan.LastFragment.{LastFragment}
+use Rattle.object65.specs.declared.scan.LastFragment.TheVariants as last
 use Rattle.object65.specs.declared.scan.SectionFill.{SectionFill}
 use Rattle.object65.specs.Bodies.{literal_of}
 use Rattle.object65.specs.Record.{◌>>=◌, RawRecord, is_record_kind}
 use Rattle.object65.specs.Form.{Form}
-use Rattle.object65.specs.Items.{State, closed_fragments, closing, draft_with_fragment, is_none, with_item}
+use Rattle.object65.specs.Items.{State, closed_fragments, nonempty_literal, draft_with_fragment, is_none, with_item}
 use Rattle.object65.specs.Objects.{width_len}
 use Rattle.object65.specs.Scanning
 use Rattle.object65.specs.Spelling.{body_limit}
-use Rattle.object65.proofs.Closings.{nil, longer, closing_is, fill_last, last_push, last_joins, Split, draft_there, grown_name, is_full, none_open, opens, room_there, seek}
-use Rattle.object65.proofs.Frees.{IsFree, astray, assert_free, canonical_free, export_free, failed, fill_free, parts_free, literal_free, name_free, open_free, room_free, value_free, wants_astray, wants_canonical}
+use Rattle.object65.proofs.Drafts.{nil, longer, closing_is, fill_last, last_push, last_joins, Split, draft_there, grown_name, is_full, none_open, opens, room_there, seek}
+use Rattle.object65.proofs.NoStoreErrors.{IsFree, astray, assert_free, canonical_free, export_free, failed, fill_free, parts_free, literal_free, name_free, open_free, room_free, value_free, wants_astray, wants_canonical}
 
--- a fragment stands behind what was taken of its section
+-- a fragment's offset is the number of bytes of its section so far
 abbrev pub IsPlaced : List Draft → Item → Type 0
-IsPlaced ds (item.Part k offset f) = (d : Draft) × (slice_get ds k ≡ Some d) × (slice_get (map Scanning.room_of ds) k ≡ Some (Scanning.room_of d)) × (offset ≡ d.filled)
+IsPlaced ds (item.Part k offset f) = (d : Draft) × (slice_get ds k ≡ Some d) × (slice_get (map Scanning.section_fill ds) k ≡ Some (Scanning.section_fill d)) × (offset ≡ d.filled)
 IsPlaced ds (item.File name) = Unit {0}
 IsPlaced ds (item.Import name) = Unit {0}
 IsPlaced ds (item.Section name size align) = Unit {0}
@@ -42,8 +42,8 @@ abbrev pub is_end : Item → Bool
 is_end item.End = true
 is_end _ = false
 
--- What is kept behind a record is kept of what its item makes, which has its place and ends the object, or not.
--- A fault is none of a store.
+-- The outline after a record is that of the state after its item; the item's offset is right, and it is the END
+-- exactly if `last` is true. An error is none of a store.
 abbrev pub Leads : State → Bool → Result (Scanning.Outline × Item) ObjectFault → Type 0
 Leads s last (Ok x) = (x.0 ≡ Scanning.outline_of (with_item s x.1)) × IsPlaced s.drafts x.1 × (is_end x.1 ≡ last)
 Leads s last (Err e) = e ≡ FileError → ⊥
@@ -83,9 +83,9 @@ assert_leads : (s : State) (body : List ℕ) → Leads s false (Scanning.scan_as
 unfolding Scanning.scan_assert
 assert_leads s body =
     let o = Scanning.outline_of s in
-    read s false _ _ (wants_astray (list_all Scanning.is_filled o.rooms)) (λ u.
+    read s false _ _ (wants_astray (list_all Scanning.is_filled o.fills)) (λ u.
     read s false _ _ (assert_free s.version body) (λ a.
-    read s false _ _ (parts_free (length o.files) (length o.rooms) (length o.imports) a.origin a.form) (λ v.
+    read s false _ _ (parts_free (length o.files) (length o.fills) (length o.imports) a.origin a.form) (λ v.
     read s false _ _ (open_free a.form) (λ w.
     (rw (some_push s.asserts a) refl, tt, refl)))))
 
@@ -95,29 +95,29 @@ end_leads s body = grind (arith, common_steps)
 
 -- ---- Fragments.
 
--- the room behind a record is that of the section with the fragment
+-- the fill state after a record is that of the section with the fragment
 abbrev LeadsIn : Draft → Result (SectionFill × Fragment) ObjectFault → Type 0
-LeadsIn d (Ok x) = x.0 ≡ Scanning.room_of (draft_with_fragment d x.1)
+LeadsIn d (Ok x) = x.0 ≡ Scanning.section_fill (draft_with_fragment d x.1)
 LeadsIn d (Err e) = e ≡ FileError → ⊥
 
 in_read : {A : Type 0} (d : Draft) (r : Result A ObjectFault) (g : A → Result (SectionFill × Fragment) ObjectFault) → IsFree r → ((a : A) → r ≡ Ok a → LeadsIn d (g a)) → LeadsIn d (r >>= g)
 in_read d x g free h = grind (arith, common_steps)
 
-pub wanted : (b : Bool) (f : ObjectFault) (u : Unit {0}) → Scanning.wants b f ≡ Ok u → b ≡ true
+pub wanted : (b : Bool) (f : ObjectFault) (u : Unit {0}) → Scanning.ok_if b f ≡ Ok u → b ≡ true
 wanted true f u e = refl
 wanted false f u e = cc
 
--- what stands last
+-- the last fragment
 ends_push : (fs : List Fragment) (f : Fragment) → Scanning.ends_in_fill (fs ++ f ∷ []) ≡ last_joins (f ∷ []) (Fill 0)
 ends_push fs f = fill_last (fs ++ f ∷ []) 0 ∙ last_push fs f (Fill 0)
 
-literal_ends : (fs : List Fragment) (bytes : List ℕ) → is_none bytes ≡ false → Scanning.ends_in_fill (fs ++ closing bytes) ≡ false
+literal_ends : (fs : List Fragment) (bytes : List ℕ) → is_none bytes ≡ false → Scanning.ends_in_fill (fs ++ nonempty_literal bytes) ≡ false
 literal_ends fs bytes some = rw (closing_is bytes some) (ends_push fs (Literal bytes))
 
 abbrev pub whole : List ℕ → Bool
 whole bytes = length bytes % body_limit == 0
 
--- so many bytes more are no whole record where some are missing
+-- a literal that doesn't fill whole records isn't empty
 nothing : (bytes : List ℕ) → whole bytes ≡ false → is_none bytes ≡ false
 nothing x part = grind (arith, common_steps)
 
@@ -127,11 +127,11 @@ short_is d = grind (arith, common_steps)
 pub fill_is : (d : Draft) → Scanning.is_fill (Scanning.last_of d) ≡ Scanning.ends_in_fill (closed_fragments d)
 fill_is d = grind (arith, common_steps, literal_ends, nothing)
 
--- behind a literal
+-- after a literal
 after_literal : (d : Draft) (bytes : List ℕ) → is_none bytes ≡ false → whole d.literal ≡ true → Scanning.last_after (length bytes) ≡ Scanning.last_of (draft_with_fragment d (Literal bytes))
 after_literal d bytes some full = grind (arith, common_steps, nat_tests, length-append, mod-add-mod, literal_ends, longer)
 
--- behind another fragment
+-- after a fill
 after_fill : (d : Draft) (n : ℕ) → last.Fill ≡ Scanning.last_of (draft_with_fragment d (Fill n))
 after_fill d n = grind (arith, common_steps, nil, ends_push)
 
@@ -141,32 +141,32 @@ after_value d w origin form = grind (arith, common_steps, nil, ends_push)
 pub literal_some : (body bytes : List ℕ) → literal_of body ≡ Ok bytes → is_none bytes ≡ false
 literal_some body bytes h = grind (arith, common_steps)
 
-literal_leads : (body : List ℕ) (d : Draft) → LeadsIn d (Scanning.room_literal body (Scanning.room_of d))
-unfolding Scanning.room_literal
+literal_leads : (body : List ℕ) (d : Draft) → LeadsIn d (Scanning.with_literal body (Scanning.section_fill d))
+unfolding Scanning.with_literal
 literal_leads body d = grind (arith, common_steps, in_read, literal_free, room_free, wants_canonical, after_literal, literal_some, short_is, wanted)
 
-fill_leads : (body : List ℕ) (d : Draft) → LeadsIn d (Scanning.room_fill body (Scanning.room_of d))
-unfolding Scanning.room_fill
+fill_leads : (body : List ℕ) (d : Draft) → LeadsIn d (Scanning.with_fill body (Scanning.section_fill d))
+unfolding Scanning.with_fill
 fill_leads body d = grind (arith, common_steps, in_read, fill_free, room_free, wants_canonical, after_fill)
 
-value_leads : (v m n i : ℕ) (body : List ℕ) (d : Draft) → LeadsIn d (Scanning.room_value v m n i body (Scanning.room_of d))
-unfolding Scanning.room_value
+value_leads : (v m n i : ℕ) (body : List ℕ) (d : Draft) → LeadsIn d (Scanning.with_value v m n i body (Scanning.section_fill d))
+unfolding Scanning.with_value
 value_leads v m n i body d =
     in_read d _ _ (value_free v body) (λ x is.
-    in_read d _ _ (room_free (Scanning.room_of d) (width_len x.0)) (λ u room.
+    in_read d _ _ (room_free (Scanning.section_fill d) (width_len x.0)) (λ u capacity.
     in_read d _ _ (parts_free m n i x.1 x.2) (λ y there.
     in_read d _ _ (open_free x.2) (λ w fine.
-    ap (λ (l : Last). Scanning.room_after (Scanning.room_of d) (width_len x.0) l) (after_value d x.0 x.1 x.2)))))
+    ap (λ (l : LastFragment). Scanning.fill_after (Scanning.section_fill d) (width_len x.0) l) (after_value d x.0 x.1 x.2)))))
 
 names_stay : (ds : List Draft) (k : ℕ) (d e : Draft) → slice_get ds k ≡ Some d → e.name ≡ d.name → map (λ x. x.name) (slice_set ds k e) ≡ map (λ x. x.name) ds
 names_stay [] k d e there same = refl
 names_stay (x ∷ ds) zero d e there same = let is : x ≡ d = cc in ap (λ n. n ∷ map (λ y. y.name) ds) (same ∙ sym (ap (λ (y : Draft). y.name) is))
 names_stay (x ∷ ds) (suc k) d e there same = ap (λ ns. x.name ∷ ns) (names_stay ds k d e there same)
 
-grown_leads : (s : State) (k : ℕ) (d : Draft) → slice_get s.drafts k ≡ Some d → slice_get (map Scanning.room_of s.drafts) k ≡ Some (Scanning.room_of d) → (q : Result (SectionFill × Fragment) ObjectFault) → LeadsIn d q → Leads s false (q >>= (λ x. Ok (record (Scanning.outline_of s) { rooms = slice_set (map Scanning.room_of s.drafts) k x.0; begun = true }, item.Part k d.filled x.1)))
-grown_leads s k d there room x h = grind (arith, common_steps, names_stay, grown_name, map-set)
+grown_leads : (s : State) (k : ℕ) (d : Draft) → slice_get s.drafts k ≡ Some d → slice_get (map Scanning.section_fill s.drafts) k ≡ Some (Scanning.section_fill d) → (q : Result (SectionFill × Fragment) ObjectFault) → LeadsIn d q → Leads s false (q >>= (λ x. Ok (record (Scanning.outline_of s) { fills = slice_set (map Scanning.section_fill s.drafts) k x.0; has_fragment = true }, item.Part k d.filled x.1)))
+grown_leads s k d there fill x h = grind (arith, common_steps, names_stay, grown_name, map-set)
 
-part_leads : (s : State) (grow : SectionFill → Result (SectionFill × Fragment) ObjectFault) → ((d : Draft) → LeadsIn d (grow (Scanning.room_of d))) → Leads s false (Scanning.scan_part (Scanning.outline_of s) grow)
+part_leads : (s : State) (grow : SectionFill → Result (SectionFill × Fragment) ObjectFault) → ((d : Draft) → LeadsIn d (grow (Scanning.section_fill d))) → Leads s false (Scanning.scan_part (Scanning.outline_of s) grow)
 unfolding Scanning.scan_part
 part_leads s grow h = go (seek s.drafts) where
   go : (list_all is_full s.drafts ≡ true) ⊎ Split s.drafts → Leads s false (Scanning.scan_part (Scanning.outline_of s) grow)
@@ -174,25 +174,25 @@ part_leads s grow h = go (seek s.drafts) where
   go (inr p) =
       let k = length p.front in
       let there : slice_get s.drafts k ≡ Some p.draft = ap (λ ds. slice_get ds k) p.all ∙ draft_there p.front p.draft p.following in
-      let room : slice_get (map Scanning.room_of s.drafts) k ≡ Some (Scanning.room_of p.draft) = ap (λ ds. slice_get (map Scanning.room_of ds) k) p.all ∙ room_there p.front p.draft p.following in
-      let opening : Scanning.open_room (map Scanning.room_of s.drafts) ≡ Ok (k, Scanning.room_of p.draft) = ap (λ ds. Scanning.open_room (map Scanning.room_of ds)) p.all ∙ opens p.front p.draft p.following p.full p.free in
-      rw opening (grown_leads s k p.draft there room (grow (Scanning.room_of p.draft)) (h p.draft))
+      let fill : slice_get (map Scanning.section_fill s.drafts) k ≡ Some (Scanning.section_fill p.draft) = ap (λ ds. slice_get (map Scanning.section_fill ds) k) p.all ∙ room_there p.front p.draft p.following in
+      let opening : Scanning.next_fill (map Scanning.section_fill s.drafts) ≡ Ok (k, Scanning.section_fill p.draft) = ap (λ ds. Scanning.next_fill (map Scanning.section_fill ds)) p.all ∙ opens p.front p.draft p.following p.full p.free in
+      rw opening (grown_leads s k p.draft there fill (grow (Scanning.section_fill p.draft)) (h p.draft))
 
 -- ---- Any record.
 
 last_of_all : (v k : ℕ) → not (is_record_kind v k) ≡ false → (k == 1) ≡ false → (k == 2) ≡ false → (k == 3) ≡ false → (k == 4) ≡ false → (k == 5) ≡ false → (k == 6) ≡ false → (k == 7) ≡ false → (k == 9) ≡ false → true ≡ (k == 8)
 last_of_all v k a b c d e f g h i = grind (arith, common_steps)
 
-entry_leads : (s : State) (e : RawRecord) → Leads s (e.kind == 8) (Scanning.scan_entry (Scanning.outline_of s) e)
-unfolding Scanning.scan_entry
+entry_leads : (s : State) (e : RawRecord) → Leads s (e.kind == 8) (Scanning.scan_record (Scanning.outline_of s) e)
+unfolding Scanning.scan_record
 entry_leads s e =
-    let rooms = map Scanning.room_of s.drafts in
+    let fills = map Scanning.section_fill s.drafts in
     either s _ (not (is_record_kind s.version e.kind)) _ _ (λ h. refused {A = Item} OutOfOrder astray) (λ a.
     either s _ (e.kind == 1) _ _ (goes_on 1 _ refl (import_leads s e.body)) (λ b.
     either s _ (e.kind == 2) _ _ (goes_on 2 _ refl (section_leads s e.body)) (λ c.
-    either s _ (e.kind == 3) _ _ (goes_on 3 _ refl (part_leads s (Scanning.room_literal e.body) (literal_leads e.body))) (λ d.
-    either s _ (e.kind == 4) _ _ (goes_on 4 _ refl (part_leads s (Scanning.room_fill e.body) (fill_leads e.body))) (λ f.
-    either s _ (e.kind == 5) _ _ (goes_on 5 _ refl (part_leads s (Scanning.room_value s.version (length s.files) (length rooms) (length s.imports) e.body) (value_leads s.version (length s.files) (length rooms) (length s.imports) e.body))) (λ g.
+    either s _ (e.kind == 3) _ _ (goes_on 3 _ refl (part_leads s (Scanning.with_literal e.body) (literal_leads e.body))) (λ d.
+    either s _ (e.kind == 4) _ _ (goes_on 4 _ refl (part_leads s (Scanning.with_fill e.body) (fill_leads e.body))) (λ f.
+    either s _ (e.kind == 5) _ _ (goes_on 5 _ refl (part_leads s (Scanning.with_value s.version (length s.files) (length fills) (length s.imports) e.body) (value_leads s.version (length s.files) (length fills) (length s.imports) e.body))) (λ g.
     either s _ (e.kind == 6) _ _ (goes_on 6 _ refl (export_leads s e.body)) (λ h.
     either s _ (e.kind == 7) _ _ (goes_on 7 _ refl (assert_leads s e.body)) (λ i.
     either s _ (e.kind == 9) _ _ (goes_on 9 _ refl (file_leads s e.body)) (λ j.

@@ -1,4 +1,4 @@
--- The bodies of records, each read or the fault of one that hasn't its form.
+-- The bodies of records: their contents, or the error of a malformed body.
 use Rattle.std.specs.Prelude.{ℕ, ℤ, zero, suc, ◌-◌, List, [], ◌∷◌, length, take, drop, get_or, Option, Some, None, Result, Ok, Err, nat_lt, ◌==◌, ◌||◌, not, if◌then◌else◌}
 use Rattle.std.specs.Int.{w64, cast_signed}
 use Rattle.byteorder.specs.Endian.{little_number}
@@ -31,8 +31,8 @@ abbrev pub text_at : ℕ → List ℕ → Result (List ℕ × List ℕ) ObjectFa
 text_at len bytes = if nat_lt (length bytes) len then Err BadSize else Ok (take len bytes, drop len bytes)
 
 -- a byte with the length, and that many bytes
-unfoldable pub counted_at : List ℕ → Result (List ℕ × List ℕ) ObjectFault
-counted_at bytes = do
+unfoldable pub counted_text_at : List ℕ → Result (List ℕ × List ℕ) ObjectFault
+counted_text_at bytes = do
   len ← number_at 1 bytes
   text_at len.0 len.1
 
@@ -55,8 +55,8 @@ sec_at bytes = do
 
 unfoldable pub imp_at : List ℕ → Result (Form × List ℕ) ObjectFault
 imp_at bytes = do
-  place ← number_at 4 bytes
-  Ok (imp place.0, place.1)
+  index ← number_at 4 bytes
+  Ok (imp index.0, index.1)
 
 unfoldable pub prefix_at : (List ℕ → Result (Form × List ℕ) ObjectFault) → Op1 → List ℕ → Result (Form × List ℕ) ObjectFault
 prefix_at part op bytes = do
@@ -69,13 +69,13 @@ binary_at part op bytes = do
   g ← part f.1
   Ok (binary op f.0 g.0, g.1)
 
--- the operation of a code on parts that are read so
+-- the operation with a code, whose operands are read by `part`
 abbrev pub operation_at : (List ℕ → Result (Form × List ℕ) ObjectFault) → Option Op1 → Option Op2 → List ℕ → Result (Form × List ℕ) ObjectFault
 operation_at part (Some op) other bytes = prefix_at part op bytes
 operation_at part None (Some op) bytes = binary_at part op bytes
 operation_at part None None bytes = Err BadSize
 
--- the form that begins with this code, of parts that are read so
+-- the form that begins with this code, whose operands are read by `part`
 abbrev pub form_of_code : (List ℕ → Result (Form × List ℕ) ObjectFault) → ℕ → List ℕ → Result (Form × List ℕ) ObjectFault
 form_of_code part code rest =
     if code == 0x00 then lit_at rest
@@ -89,12 +89,12 @@ form_at zero bytes = Err BadSize
 form_at (suc depth) [] = Err BadSize
 form_at (suc depth) (code ∷ rest) = form_of_code (λ xs. form_at depth xs) code rest
 
-abbrev pub nothing_follows : {A : Type 0} → A × List ℕ → Result A ObjectFault
-nothing_follows x = if length x.1 == 0 then Ok x.0 else Err BadSize
+abbrev pub value_if_complete : {A : Type 0} → A × List ℕ → Result A ObjectFault
+value_if_complete x = if length x.1 == 0 then Ok x.0 else Err BadSize
 
--- a form that takes all the bytes; each byte begins at most one node
+-- a form that consists of all the bytes; each byte begins at most one node
 unfoldable pub form_of_all : List ℕ → Result Form ObjectFault
-form_of_all bytes = form_at (length bytes) bytes >>= nothing_follows
+form_of_all bytes = form_at (length bytes) bytes >>= value_if_complete
 
 abbrev pub width_of : ℕ → Result Width ObjectFault
 width_of code =
@@ -104,12 +104,12 @@ abbrev pub action_of : ℕ → Result Action ObjectFault
 action_of code = if code == 0 then Ok action.Warning else if code == 1 then Ok action.Error else Err BadSize
 
 -- the body of a SECTION, without its fragments
-pub record Heading : Type 0 where
+pub record SectionHeader : Type 0 where
   pub size : ℕ
   pub align : ℕ
   pub name : List ℕ
 
-abbrev pub section_of : List ℕ → Result Heading ObjectFault
+abbrev pub section_of : List ℕ → Result SectionHeader ObjectFault
 section_of body =
     if nat_lt (length body) 5 then Err BadSize
     else if nat_lt section_limit (little_number 4 body) then Err BadSize
@@ -127,7 +127,7 @@ line_at bytes = do
   line ← number_at 4 bytes
   Ok (record { file = None; line = line.0 }, line.1)
 
--- the place of a file, and a line
+-- the index of a file, and a line
 unfoldable pub file_line_at : List ℕ → Result (Origin × List ℕ) ObjectFault
 file_line_at bytes = do
   file ← number_at 4 bytes
@@ -149,7 +149,7 @@ value_of version body = do
 
 unfoldable pub export_of : ℕ → List ℕ → Result Export ObjectFault
 export_of version body = do
-  name ← counted_at body
+  name ← counted_text_at body
   origin ← origin_at version name.1
   form ← form_of_all origin.1
   Ok (record { name = name.0; origin = origin.0; form = form })
@@ -159,7 +159,7 @@ assert_of version body = do
   code ← number_at 1 body
   action ← action_of code.0
   origin ← origin_at version code.1
-  text ← counted_at origin.1
+  text ← counted_text_at origin.1
   form ← form_of_all text.1
   Ok (record { action = action; origin = origin.0; text = text.0; form = form })
 

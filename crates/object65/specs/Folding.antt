@@ -10,11 +10,11 @@ use Rattle.object65.specs.Form.{Form, lit, sec, imp, prefix, binary, nodes}
 use Rattle.base65.specs.Values.{value1, value2, wrap_signed}
 
 -- memory ran out
-abbrev pub lacks_memory : FormFault → Bool
-lacks_memory OutOfMemory = true
-lacks_memory _ = false
+abbrev pub is_form_memory_fault : FormFault → Bool
+is_form_memory_fault OutOfMemory = true
+is_form_memory_fault _ = false
 
--- no form has more nodes
+-- the largest number of nodes of a form
 abbrev pub node_limit : ℕ
 node_limit = 255
 
@@ -34,31 +34,31 @@ abbrev pub fold1 : Op1 → Form → Result Form FormFault
 fold1 Plus f = Ok f
 fold1 op f = fold_prefix op f
 
-abbrev pub fold_any : Op2 → Form → Form → Result Form FormFault
-fold_any op (lit a) (lit b) = literal (value2 op a b)
-fold_any op f g = within_node_limit (binary op f g)
+abbrev pub fold_numbers : Op2 → Form → Form → Result Form FormFault
+fold_numbers op (lit a) (lit b) = literal (value2 op a b)
+fold_numbers op f g = within_node_limit (binary op f g)
 
 abbrev pub fold_sum : Form → Form → Result Form FormFault
 fold_sum (sec k a) (lit n) = Ok (sec k (wrap_signed (a +ℤ n)))
 fold_sum (lit n) (sec k a) = Ok (sec k (wrap_signed (a +ℤ n)))
-fold_sum f g = fold_any Add f g
+fold_sum f g = fold_numbers Add f g
 
 abbrev pub fold_difference : Form → Form → Result Form FormFault
-fold_difference (sec k a) (sec m b) = if k == m then Ok (lit (wrap_signed (a -ℤ b))) else fold_any Subtract (sec k a) (sec m b)
+fold_difference (sec k a) (sec m b) = if k == m then Ok (lit (wrap_signed (a -ℤ b))) else fold_numbers Subtract (sec k a) (sec m b)
 fold_difference (sec k a) (lit n) = Ok (sec k (wrap_signed (a -ℤ n)))
-fold_difference f g = fold_any Subtract f g
+fold_difference f g = fold_numbers Subtract f g
 
 -- the form of an operation on two forms
 abbrev pub fold2 : Op2 → Form → Form → Result Form FormFault
 fold2 Add f g = fold_sum f g
 fold2 Subtract f g = fold_difference f g
-fold2 op f g = fold_any op f g
+fold2 op f g = fold_numbers op f g
 
 abbrev pub is_literal : Form → Bool
 is_literal (lit v) = true
 is_literal _ = false
 
--- an operation that would be folded
+-- a prefix operation that would be folded
 abbrev pub folds1 : Op1 → Form → Bool
 folds1 Plus f = true
 folds1 op f = is_literal f
@@ -84,10 +84,10 @@ is_normal (prefix op f) = is_normal f && not (folds1 op f)
 is_normal (binary op f g) = is_normal f && is_normal g && not (folds2 op f g)
 is_normal _ = true
 
--- all its section and import numbers are below these
-abbrev pub is_within : ℕ → ℕ → Form → Bool
-is_within sections imports (lit v) = true
-is_within sections imports (sec k a) = nat_le (k + 1) sections
-is_within sections imports (imp j) = nat_le (j + 1) imports
-is_within sections imports (prefix op f) = is_within sections imports f
-is_within sections imports (binary op f g) = is_within sections imports f && is_within sections imports g
+-- all its section and import indices are below these counts
+abbrev pub has_valid_indices : ℕ → ℕ → Form → Bool
+has_valid_indices sections imports (lit v) = true
+has_valid_indices sections imports (sec k a) = nat_le (k + 1) sections
+has_valid_indices sections imports (imp j) = nat_le (j + 1) imports
+has_valid_indices sections imports (prefix op f) = has_valid_indices sections imports f
+has_valid_indices sections imports (binary op f g) = has_valid_indices sections imports f && has_valid_indices sections imports g

@@ -1,4 +1,4 @@
--- Normal forms, without where they lie in memory.
+-- Normal forms as trees, without boxes.
 use Rattle.std.specs.Prelude.{◌≡◌, ℕ, ◌+◌, ℤ}
 use Rattle.std.proofs.Common.{ap, ◌∙◌, sym}
 use Rattle.std.specs.Coded.{Coded, coded_ℤ}
@@ -21,7 +21,7 @@ nodes (imp j) = 1
 nodes (prefix op f) = nodes f + 1
 nodes (binary op f g) = nodes f + nodes g + 1
 
--- a form as a tree of numbers, one to one
+-- a form as a tree of numbers; the map is injective
 abbrev pub form_encoding : Form → Gv
 form_encoding (lit v) = gcons (gnum 0) (coded_ℤ.code v)
 form_encoding (sec k a) = gcons (gnum 1) (gcons (gnum k) (coded_ℤ.code a))

@@ -1,5 +1,5 @@
--- The value of a form, where its sections lie at some bases and its imports mean something. Of what may go
--- wrong, `none` says that an operation has no value; what else an import may answer is left open.
+-- The value of a form, for some base addresses of sections and some values of imports. The error `none`
+-- means that an operation has no value; imports may have other errors.
 use Rattle.std.specs.Prelude.{ℕ, ℤ, ◌+ℤ◌, Option, Some, None, Result, Ok, Err}
 use Rattle.base65.specs.declared.values.Op1.{Op1}
 use Rattle.base65.specs.declared.values.Op2.{Op2}
@@ -22,6 +22,6 @@ value_in none bases imports (binary op f g) = value_in none bases imports f >>= 
 abbrev pub value_of_one : {E : Type 0} → E → (ℕ → ℤ) → (ℕ → Result ℤ E) → Op1 → Form → Result ℤ E
 value_of_one none bases imports op f = value_in none bases imports f >>= (λ a. Ok (value1 op a))
 
--- likewise on two, the left one first
+-- likewise on two forms; the left one is evaluated first
 abbrev pub value_of_two : {E : Type 0} → E → (ℕ → ℤ) → (ℕ → Result ℤ E) → Op2 → Form → Form → Result ℤ E
 value_of_two none bases imports op f g = value_in none bases imports f >>= (λ a. value_in none bases imports g >>= (λ b. or_none none (value2 op a b)))

@@ -6,83 +6,83 @@ use Rattle.base65.specs.declared.values.Op1.{Op1}
 use Rattle.base65.specs.declared.values.Op2.{Op2}
 use Rattle.object65.specs.declared.object.Object.{Object}
 use Rattle.object65.specs.Record.{IsBytes, ◌>>=◌, RawRecord, is_system_error}
-use Rattle.object65.specs.Folding.{lacks_memory, fold1, fold2, folds1, folds2, is_normal, node_limit}
+use Rattle.object65.specs.Folding.{is_form_memory_fault, fold1, fold2, folds1, folds2, is_normal, node_limit}
 use Rattle.object65.specs.Form.{Form, prefix, binary, nodes}
 use Rattle.object65.specs.FormValue.{value_in, value_of_one, value_of_two}
 use Rattle.object65.specs.Objects.{ObjectFits, is_well_formed_object}
-use Rattle.object65.specs.Reading.{bytes_before, file_limit, head_at, record_at, end_at, object_at}
+use Rattle.object65.specs.Reading.{bytes_between, file_limit, head_at, record_at, end_at, object_at}
 use Rattle.object65.specs.Spelling.{IsObject}
 use Rattle.object65.specs.Items.{with_items}
-use Rattle.object65.specs.Scanning.{Outline, items_of, outline_of, State, after, after_all, object_of_state as finished_of, scan_end as scan_end_of, scan_step as scanned_of}
-use Rattle.object65.specs.Versions.{in_version_one}
+use Rattle.object65.specs.Scanning.{Outline, items_of, outline_of, State, state_after_record, state_after_records, object_of_state as finished_of, scan_end as scan_end_of, scan_step as scanned_of}
+use Rattle.object65.specs.Versions.{version_one_object}
 
 -- bytes that are read as an object are its encoding
-abbrev pub ReadLaw : Type 0
-ReadLaw = (bytes : List ℕ) (at limit : ℕ) (o : Object) → IsBytes (bytes_before bytes at limit) → object_at at limit bytes ≡ Ok o → IsObject (bytes_before bytes at limit) o
+abbrev pub ReadBytesAreEncoding : Type 0
+ReadBytesAreEncoding = (bytes : List ℕ) (at limit : ℕ) (o : Object) → IsBytes (bytes_between bytes at limit) → object_at at limit bytes ≡ Ok o → IsObject (bytes_between bytes at limit) o
 
 -- the encoding of an object is read as that object, within the largest file
-abbrev pub SpellingLaw : Type 0
-SpellingLaw = (bytes : List ℕ) (at limit : ℕ) (o : Object) → at + length (bytes_before bytes at limit) ≤ file_limit → IsObject (bytes_before bytes at limit) o → object_at at limit bytes ≡ Ok o
+abbrev pub EncodingIsRead : Type 0
+EncodingIsRead = (bytes : List ℕ) (at limit : ℕ) (o : Object) → at + length (bytes_between bytes at limit) ≤ file_limit → IsObject (bytes_between bytes at limit) o → object_at at limit bytes ≡ Ok o
 
--- from any place of any bytes an object is read, or its first fault
+-- reading at any offset of any bytes results in an object, or in an error that isn't a system error
 abbrev pub ObjectExists : Type 0
 ObjectExists = (bytes : List ℕ) (at limit : ℕ) → IsNoSystemError is_system_error (object_at at limit bytes)
 
--- the same of its parts; and after any records any record is taken or has an error
+-- likewise reading its parts, passing any record to any scan or builder, and finishing either
 pub record PartExists : Type 0 where
   pub head : (bytes : List ℕ) (at limit : ℕ) → IsNoSystemError is_system_error (head_at at limit bytes)
   pub part : (bytes : List ℕ) (v at limit : ℕ) → IsNoSystemError is_system_error (record_at v at limit bytes)
   pub end : (bytes : List ℕ) (at limit : ℕ) → IsNoSystemError is_system_error (end_at at limit bytes)
   pub scanned : (o : Outline) (e : RawRecord) → IsNoSystemError is_system_error (scanned_of o e)
   pub scan_end : (o : Outline) → IsNoSystemError is_system_error (scan_end_of o)
-  pub taken : (s : State) (e : RawRecord) → IsNoSystemError is_system_error (after s e)
+  pub taken : (s : State) (e : RawRecord) → IsNoSystemError is_system_error (state_after_record s e)
   pub finished : (s : State) → IsNoSystemError is_system_error (finished_of s)
 
 -- any operation on forms has a form, or an error that isn't *out of memory*
 abbrev pub FoldExists : Type 0
 FoldExists =
-    ((op : Op1) (f : Form) → IsNoSystemError lacks_memory (fold1 op f))
-    × ((op : Op2) (f g : Form) → IsNoSystemError lacks_memory (fold2 op f g))
+    ((op : Op1) (f : Form) → IsNoSystemError is_form_memory_fault (fold1 op f))
+    × ((op : Op2) (f g : Form) → IsNoSystemError is_form_memory_fault (fold2 op f g))
 
--- no spelling begins another, and so none is that of two objects
-abbrev pub PrefixLaw : Type 0
-PrefixLaw = (bytes more : List ℕ) (o p : Object) → IsObject bytes o → IsObject (bytes ++ more) p → (more ≡ []) × (o ≡ p)
+-- no encoding is a proper prefix of another, and no two objects have the same encoding
+abbrev pub EncodingsArePrefixFree : Type 0
+EncodingsArePrefixFree = (bytes more : List ℕ) (o p : Object) → IsObject bytes o → IsObject (bytes ++ more) p → (more ≡ []) × (o ≡ p)
 
--- no object has two spellings
-abbrev pub SpellingIsUnique : Type 0
-SpellingIsUnique = (a b : List ℕ) (o : Object) → IsObject a o → IsObject b o → a ≡ b
+-- no object has two encodings
+abbrev pub EncodingIsUnique : Type 0
+EncodingIsUnique = (a b : List ℕ) (o : Object) → IsObject a o → IsObject b o → a ≡ b
 
--- no other bytes of the same length give a number
+-- no two lists of bytes with the same length encode the same number
 abbrev pub NumberIsUnique : Type 0
 NumberIsUnique = (n : ℕ) (a b : List ℕ) → IsBytes a → IsBytes b → length a ≡ n → length b ≡ n → little_number n a ≡ little_number n b → a ≡ b
 
--- the items that a scan gives make what the records make, and it refuses what is refused of them, for the same fault
-abbrev pub ItemsLaw : Type 0
-ItemsLaw = (s : State) (es : List RawRecord) → (items_of (outline_of s) es >>= (λ is. Ok (with_items s is))) ≡ after_all s es
+-- the items that a scan returns for records build what the records build, or both have the same error
+abbrev pub ItemsBuildObject : Type 0
+ItemsBuildObject = (s : State) (es : List RawRecord) → (items_of (outline_of s) es >>= (λ is. Ok (with_items s is))) ≡ state_after_records s es
 
--- an object's contents have a spelling in version 1 if the object has one, and numbers and texts that fit
--- their types likewise
-abbrev pub VersionLaw : Type 0
-VersionLaw = (o : Object) → (is_well_formed_object o ≡ true → is_well_formed_object (in_version_one o) ≡ true) × (ObjectFits o → ObjectFits (in_version_one o))
+-- an object that can be encoded can be encoded in version 1, and if its numbers and texts fit their types, so do
+-- those of the object of version 1
+abbrev pub VersionOneIsWellFormed : Type 0
+VersionOneIsWellFormed = (o : Object) → (is_well_formed_object o ≡ true → is_well_formed_object (version_one_object o) ≡ true) × (ObjectFits o → ObjectFits (version_one_object o))
 
--- folding a prefix operation keeps its value, and that it has none, wherever sections lie and whatever imports mean
-abbrev pub PrefixFoldLaw : Type 0 → Type 0
-PrefixFoldLaw E = (none : E) (bases : ℕ → ℤ) (imports : ℕ → Result ℤ E) (op : Op1) (f h : Form) → fold1 op f ≡ Ok h → value_in none bases imports h ≡ value_of_one none bases imports op f
+-- folding a prefix operation changes neither its value nor its error, for all section addresses and import values
+abbrev pub PrefixFoldPreservesValue : Type 0 → Type 0
+PrefixFoldPreservesValue E = (none : E) (bases : ℕ → ℤ) (imports : ℕ → Result ℤ E) (op : Op1) (f h : Form) → fold1 op f ≡ Ok h → value_in none bases imports h ≡ value_of_one none bases imports op f
 
 -- likewise an operation on two forms
-abbrev pub BinaryFoldLaw : Type 0 → Type 0
-BinaryFoldLaw E = (none : E) (bases : ℕ → ℤ) (imports : ℕ → Result ℤ E) (op : Op2) (f g h : Form) → fold2 op f g ≡ Ok h → value_in none bases imports h ≡ value_of_two none bases imports op f g
+abbrev pub BinaryFoldPreservesValue : Type 0 → Type 0
+BinaryFoldPreservesValue E = (none : E) (bases : ℕ → ℤ) (imports : ℕ → Result ℤ E) (op : Op2) (f g h : Form) → fold2 op f g ≡ Ok h → value_in none bases imports h ≡ value_of_two none bases imports op f g
 
--- a form that an object may hold, but for its indices
+-- a form that an object may contain, if its indices are valid
 abbrev pub IsFolded : Form → Type 0
 IsFolded f = (is_normal f ≡ true) × (nodes f ≤ node_limit)
 
--- a folded form can't be folded further, and is within the limit
-abbrev pub NormalLaw : Type 0
-NormalLaw = ((op : Op1) (f h : Form) → IsFolded f → fold1 op f ≡ Ok h → IsFolded h) × ((op : Op2) (f g h : Form) → IsFolded f → IsFolded g → fold2 op f g ≡ Ok h → IsFolded h)
+-- folding an operation on folded forms results in a folded form
+abbrev pub FoldedIsNormal : Type 0
+FoldedIsNormal = ((op : Op1) (f h : Form) → IsFolded f → fold1 op f ≡ Ok h → IsFolded h) × ((op : Op2) (f g h : Form) → IsFolded f → IsFolded g → fold2 op f g ≡ Ok h → IsFolded h)
 
--- within the limit, folding leaves an operation unchanged exactly if `stays` holds of it
-abbrev pub StaysLaw : Type 0
-StaysLaw =
+-- within the limit of nodes, an operation counts as foldable exactly if folding changes it
+abbrev pub FoldableIffFoldChanges : Type 0
+FoldableIffFoldChanges =
     ((op : Op1) (f : Form) → nodes (prefix op f) ≤ node_limit → (folds1 op f ≡ false → fold1 op f ≡ Ok (prefix op f)) × (fold1 op f ≡ Ok (prefix op f) → folds1 op f ≡ false))
     × ((op : Op2) (f g : Form) → nodes (binary op f g) ≤ node_limit → (folds2 op f g ≡ false → fold2 op f g ≡ Ok (binary op f g)) × (fold2 op f g ≡ Ok (binary op f g) → folds2 op f g ≡ false))

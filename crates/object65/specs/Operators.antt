@@ -5,7 +5,7 @@ use Rattle.base65.specs.declared.values.Op1.TheVariants.{Plus, Negate, BitNot, L
 use Rattle.base65.specs.declared.values.Op2.{Op2}
 use Rattle.base65.specs.declared.values.Op2.TheVariants.{Multiply, Divide, Modulo, BitAnd, BitXor, ShiftLeft, ShiftRight, Add, Subtract, BitOr, Equal, NotEqual, Less, Greater, LessOrEqual, GreaterOrEqual, And, Xor, Or}
 
--- the place of an operator in the list of its kind
+-- the index of an operator in the list of its kind
 abbrev pub number1 : Op1 → ℕ
 number1 Plus = 0
 number1 Negate = 1

@@ -9,14 +9,14 @@ use Rattle.object65.specs.Spelling.{magic, body_limit}
 use Rattle.base65.specs.declared.store.StoreFault.{StoreFault}
 use Rattle.base65.specs.declared.store.StoreFault.TheVariants as store
 use Rattle.object65.specs.declared.object.Object.{Object}
-use Rattle.object65.specs.Scanning.{State, start, after, object_of_state}
+use Rattle.object65.specs.Scanning.{State, start, state_after_record, object_of_state}
 use Rattle.base65.specs.Store.{Files, FailedOn, PropagatesIoError, LastFailure}
 
--- ---- Reading an object from left to right, with the first fault that is met.
+-- ---- Reading an object from left to right, up to the first error.
 
--- the bytes of a file from an offset on, up to the end of a member's room
-abbrev pub bytes_before : List ℕ → ℕ → ℕ → List ℕ
-bytes_before bytes at limit = take (limit - at) (drop at bytes)
+-- the bytes of a file from an offset up to a limit
+abbrev pub bytes_between : List ℕ → ℕ → ℕ → List ℕ
+bytes_between bytes at limit = take (limit - at) (drop at bytes)
 
 -- The effect of a call that reads a file on the store: the files are unchanged; a failure is passed on as
 -- this error, and counted; and the failed call requested this name.
@@ -25,54 +25,54 @@ pub record StoreFrame {X T E : Type 0} (files_of : X → Option Files) (failures
   pub count : PropagatesIoError error (failures_of old) (failures_of new) result
   pub last_failure : IsErrOf result error → FailedOn (last_failure_of new) name
 
--- the result of reading a file's bytes, or that there is no such file
+-- the result of reading a file's bytes, or an error if there is no such file
 abbrev pub in_file : {A : Type 0} → Option (List ℕ) → (List ℕ → Result A ObjectFault) → Result A ObjectFault
 in_file None read = Err FileNotFound
 in_file (Some bytes) read = read bytes
 
--- the version, and where the records begin, by the first five bytes
+-- the version and the offset of the first record, from the first five bytes
 abbrev pub head_of : ℕ → List ℕ → Result (ℕ × ℕ) ObjectFault
 head_of at head =
     if nat_lt (length head) 5 || not (bytes_eq (take 4 head) magic) then Err NotAnObject else if is_version (get_or head 4 0) then Ok (get_or head 4 0, at + 5) else Err UnknownVersion
 
 abbrev pub head_at : ℕ → ℕ → List ℕ → Result (ℕ × ℕ) ObjectFault
-head_at at limit bytes = head_of at (take 5 (bytes_before bytes at limit))
+head_at at limit bytes = head_of at (take 5 (bytes_between bytes at limit))
 
 -- the largest size of an object or library file, in bytes
 abbrev pub file_limit : ℕ
 file_limit = 1073741824
 
--- the kind and the length of the body, by the first three bytes
-abbrev pub front_of : ℕ → List ℕ → Result (ℕ × ℕ) ObjectFault
-front_of version front =
+-- the kind and the length of the body, from the first three bytes
+abbrev pub record_header : ℕ → List ℕ → Result (ℕ × ℕ) ObjectFault
+record_header version front =
     if nat_lt (length front) 3 then Err CutShort else if not (is_record_kind version (get_or front 0 0)) then Err UnknownRecord else if nat_lt body_limit (little_number 2 (drop 1 front)) then Err BadSize else Ok (get_or front 0 0, little_number 2 (drop 1 front))
 
--- the body, where all its bytes are there
+-- the body, if it isn't cut short
 abbrev pub body_or_cut_short : ℕ → List ℕ → Result (List ℕ) ObjectFault
 body_or_cut_short len body = if nat_lt (length body) len then Err CutShort else Ok body
 
--- the record, and where the next begins
-abbrev pub ending : ℕ → ℕ → ℕ → List ℕ → Result (RawRecord × ℕ) ObjectFault
-ending at kind len body = if nat_lt file_limit (at + 3 + len) then Err BadSize else Ok (record { kind = kind; body = body }, at + 3 + len)
+-- the record and the offset of the next one
+abbrev pub record_with_end : ℕ → ℕ → ℕ → List ℕ → Result (RawRecord × ℕ) ObjectFault
+record_with_end at kind len body = if nat_lt file_limit (at + 3 + len) then Err BadSize else Ok (record { kind = kind; body = body }, at + 3 + len)
 
--- a record of an object of this version, and where the next begins
+-- a record of an object of this version, and the offset of the next one
 unfoldable pub record_at : ℕ → ℕ → ℕ → List ℕ → Result (RawRecord × ℕ) ObjectFault
 record_at version at limit bytes = do
-  front ← front_of version (take 3 (bytes_before bytes at limit))
-  body ← body_or_cut_short front.1 (take front.1 (bytes_before bytes (at + 3) limit))
-  ending at front.0 front.1 body
+  front ← record_header version (take 3 (bytes_between bytes at limit))
+  body ← body_or_cut_short front.1 (take front.1 (bytes_between bytes (at + 3) limit))
+  record_with_end at front.0 front.1 body
 
 -- no bytes are left
 abbrev pub end_at : ℕ → ℕ → List ℕ → Result (Unit {0}) ObjectFault
-end_at at limit bytes = if nat_lt 0 (length (take 1 (bytes_before bytes at limit))) then Err BytesAfterEnd else Ok tt
+end_at at limit bytes = if nat_lt 0 (length (take 1 (bytes_between bytes at limit))) then Err BytesAfterEnd else Ok tt
 
--- the bytes that a call read into the buffer are the first of the room, as many as the buffer takes
-abbrev pub IsRoomRead : Option (List ℕ) → ℕ → ℕ → List ℕ → Result ℕ StoreFault → Type 0
-IsRoomRead None at limit buf (Ok n) = ⊥
-IsRoomRead (Some bytes) at limit buf (Ok n) = (take n buf ≡ take (length buf) (bytes_before bytes at limit)) × (n ≡ length (take (length buf) (bytes_before bytes at limit)))
-IsRoomRead file at limit buf (Err store.FileNotFound) = file ≡ None
-IsRoomRead file at limit buf (Err store.FileError) = ⊤
-IsRoomRead file at limit buf (Err store.OutOfMemory) = ⊤
+-- the call read into the buffer the bytes from the offset up to the limit, as many as fit
+abbrev pub IsLimitedRead : Option (List ℕ) → ℕ → ℕ → List ℕ → Result ℕ StoreFault → Type 0
+IsLimitedRead None at limit buf (Ok n) = ⊥
+IsLimitedRead (Some bytes) at limit buf (Ok n) = (take n buf ≡ take (length buf) (bytes_between bytes at limit)) × (n ≡ length (take (length buf) (bytes_between bytes at limit)))
+IsLimitedRead file at limit buf (Err store.FileNotFound) = file ≡ None
+IsLimitedRead file at limit buf (Err store.FileError) = ⊤
+IsLimitedRead file at limit buf (Err store.OutOfMemory) = ⊤
 
 -- ---- Bytes that a reader of records has read ahead.
 
@@ -82,16 +82,16 @@ pub record RecordReaderView : Type 0 where
   pub begin : ℕ
   pub ahead : List ℕ
 
--- these bytes are the file's; of a file that isn't there there are none
+-- the bytes are those of the file; there are none if it doesn't exist
 abbrev pub IsAhead : Option (List ℕ) → RecordReaderView → Type 0
 IsAhead None r = r.ahead ≡ []
 IsAhead (Some bytes) r = r.ahead ≡ take (length r.ahead) (drop r.begin bytes)
 
 -- the bytes from the second offset on, of bytes that begin at the first
-abbrev pub from_place : List ℕ → ℕ → ℕ → List ℕ
-from_place bytes begin at = if nat_lt at begin then [] else drop (at - begin) bytes
+abbrev pub bytes_from : List ℕ → ℕ → ℕ → List ℕ
+bytes_from bytes begin at = if nat_lt at begin then [] else drop (at - begin) bytes
 
--- how many bytes the record has with which these begin
+-- the length of the record at the start of these bytes
 abbrev pub record_len : List ℕ → ℕ
 record_len bytes = 3 + little_number 2 (take 2 (drop 1 bytes))
 
@@ -102,19 +102,19 @@ has_record bytes = nat_le 3 (length bytes) && nat_le (record_len bytes) (length 
 -- the record at the front of bytes from an offset, and the offset of the next one
 unfoldable pub record_in : ℕ → ℕ → List ℕ → Result (RawRecord × ℕ) ObjectFault
 record_in version at bytes = do
-  front ← front_of version (take 3 bytes)
-  body ← body_or_cut_short front.1 (take front.1 (bytes_before bytes 3 (length bytes)))
-  ending at front.0 front.1 body
+  front ← record_header version (take 3 bytes)
+  body ← body_or_cut_short front.1 (take front.1 (bytes_between bytes 3 (length bytes)))
+  record_with_end at front.0 front.1 body
 
 -- ---- A whole object in a file.
 
--- Records, each first read and then taken, up to the END: at most this many. The state, and the offset after
--- the END.
+-- The result of reading at most this many records up to the END, each scanned before the next is read: the
+-- state, and the offset after the END.
 abbrev pub records_at : ℕ → State → ℕ → ℕ → List ℕ → Result (State × ℕ) ObjectFault
 records_at zero s at limit bytes = Err CutShort
-records_at (suc n) s at limit bytes = record_at s.version at limit bytes >>= (λ r. after s r.0 >>= (λ t. if t.ended then Ok (t, r.1) else records_at n t r.1 limit bytes))
+records_at (suc n) s at limit bytes = record_at s.version at limit bytes >>= (λ r. state_after_record s r.0 >>= (λ t. if t.ended then Ok (t, r.1) else records_at n t r.1 limit bytes))
 
--- the object from an offset up to the end of its room, or the first error
+-- the object from an offset up to a limit, or the first error
 unfoldable pub object_at : ℕ → ℕ → List ℕ → Result Object ObjectFault
 object_at at limit bytes = do
   first ← head_at at limit bytes

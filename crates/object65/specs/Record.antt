@@ -1,4 +1,4 @@
--- Records, and why bytes are refused as an object.
+-- Records, and the errors of reading an object.
 use Rattle.std.specs.Prelude.{ℕ, ◌<◌, List, get_or, Bool, true, false, codes, nat_le, not, ◌==◌, ◌&&◌, ◌||◌}
 use Rattle.base65.specs.declared.store.StoreFault.{StoreFault}
 use Rattle.base65.specs.declared.store.StoreFault.TheVariants as store
@@ -8,7 +8,7 @@ use Rattle.object65.specs.declared.record.Record.{Record}
 pub use Rattle.base65.specs.Outcome.{◌>>=◌, Refines, RefinesErr}
 pub use Rattle.base65.specs.Store.{IsBytes}
 
--- ---- Why an object is refused: in words, and whether the cause lies outside the bytes.
+-- ---- Errors: their messages, and which of them are system errors.
 
 abbrev pub of_store : StoreFault → ObjectFault
 of_store store.OutOfMemory = OutOfMemory
@@ -43,18 +43,18 @@ fault_text FileNotFound = codes "file not found"
 
 -- ---- Records and their kinds.
 
--- a record without where its body lies
+-- a record as its kind and the bytes of its body
 pub record RawRecord : Type 0 where
   pub kind : ℕ
   pub body : List ℕ
 
-abbrev pub entry_of : Record → RawRecord
-entry_of r = record { kind = r.kind; body = r.body.items }
+abbrev pub raw_record : Record → RawRecord
+raw_record r = record { kind = r.kind; body = r.body.items }
 
 -- the versions of objects
 abbrev pub is_version : ℕ → Bool
 is_version version = version == 1 || version == 2
 
--- the kinds of records of a version: FILE, the last of them, isn't there in version 1
+-- the kinds of records of a version; version 1 has no FILE
 abbrev pub is_record_kind : ℕ → ℕ → Bool
 is_record_kind version kind = nat_le 1 kind && nat_le kind 8 || not (version == 1) && kind == 9

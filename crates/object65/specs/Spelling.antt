@@ -1,4 +1,4 @@
--- The bytes of an object, record by record.
+-- The encoding of an object, record by record.
 use Rattle.std.specs.Prelude.{◌≡◌, ℕ, zero, suc, ◌+◌, ◌/◌, List, [], ◌∷◌, ◌++◌, length, take, drop, map, Option, Some, None, true}
 use Rattle.std.specs.List.{flat_map}
 use Rattle.std.specs.Int.{w64, cast_unsigned}
@@ -21,7 +21,7 @@ use Rattle.object65.specs.Form.{Form, lit, sec, imp, prefix, binary}
 use Rattle.object65.specs.Objects.{section_len, is_well_formed_object, ObjectFits}
 use Rattle.object65.specs.Record.{RawRecord}
 
--- a prefix + adds nothing
+-- a prefix + has no code
 abbrev pub code1 : Op1 → List ℕ
 code1 Plus = []
 code1 Negate = 0x10 ∷ []
@@ -53,21 +53,21 @@ action_code action.Error = 1
 abbrev pub body_limit : ℕ
 body_limit = 4096
 
--- bytes in pieces of the longest body, all full but the last
+-- bytes in pieces of the largest body, all full except the last
 abbrev pub pieces : ℕ → List ℕ → List (List ℕ)
 pieces zero bytes = []
 pieces (suc n) bytes = take body_limit bytes ∷ pieces n (drop body_limit bytes)
 
-abbrev pub literal_entry : List ℕ → RawRecord
-literal_entry body = record { kind = 3; body = body }
+abbrev pub literal_record : List ℕ → RawRecord
+literal_record body = record { kind = 3; body = body }
 
-abbrev pub literal_entries : List ℕ → List RawRecord
-literal_entries bytes = map literal_entry (pieces ((length bytes + 4095) / body_limit) bytes)
+abbrev pub literal_records : List ℕ → List RawRecord
+literal_records bytes = map literal_record (pieces ((length bytes + 4095) / body_limit) bytes)
 
-abbrev pub fill_entry : ℕ → RawRecord
-fill_entry n = record { kind = 4; body = little_bytes 4 n }
+abbrev pub fill_record : ℕ → RawRecord
+fill_record n = record { kind = 4; body = little_bytes 4 n }
 
--- the place of a file, where there is one
+-- the index of a file, if there is one
 abbrev pub file_bytes : Option ℕ → List ℕ
 file_bytes None = []
 file_bytes (Some k) = little_bytes 4 k
@@ -76,62 +76,62 @@ file_bytes (Some k) = little_bytes 4 k
 abbrev pub origin_bytes : Origin → List ℕ
 origin_bytes origin = file_bytes origin.file ++ little_bytes 4 origin.line
 
-abbrev pub value_entry : Width → Origin → Form → RawRecord
-value_entry width origin form = record { kind = 5; body = width_code width ∷ (origin_bytes origin ++ form_bytes form) }
+abbrev pub value_record : Width → Origin → Form → RawRecord
+value_record width origin form = record { kind = 5; body = width_code width ∷ (origin_bytes origin ++ form_bytes form) }
 
-abbrev pub fragment_entries : Fragment → List RawRecord
-fragment_entries (Literal bytes) = literal_entries bytes
-fragment_entries (Fill n) = fill_entry n ∷ []
-fragment_entries (Value width origin form) = value_entry width origin form ∷ []
+abbrev pub fragment_records : Fragment → List RawRecord
+fragment_records (Literal bytes) = literal_records bytes
+fragment_records (Fill n) = fill_record n ∷ []
+fragment_records (Value width origin form) = value_record width origin form ∷ []
 
-abbrev pub file_entry : List ℕ → RawRecord
-file_entry name = record { kind = 9; body = name }
+abbrev pub file_record : List ℕ → RawRecord
+file_record name = record { kind = 9; body = name }
 
-abbrev pub import_entry : List ℕ → RawRecord
-import_entry name = record { kind = 1; body = name }
+abbrev pub import_record : List ℕ → RawRecord
+import_record name = record { kind = 1; body = name }
 
-abbrev pub section_entry : Section → RawRecord
-section_entry s = record { kind = 2; body = little_bytes 4 (section_len s) ++ s.align ∷ s.name }
+abbrev pub section_record : Section → RawRecord
+section_record s = record { kind = 2; body = little_bytes 4 (section_len s) ++ s.align ∷ s.name }
 
-abbrev pub export_entry : Export → RawRecord
-export_entry e = record { kind = 6; body = length e.name ∷ (e.name ++ origin_bytes e.origin ++ form_bytes e.form) }
+abbrev pub export_record : Export → RawRecord
+export_record e = record { kind = 6; body = length e.name ∷ (e.name ++ origin_bytes e.origin ++ form_bytes e.form) }
 
-abbrev pub assert_entry : Assert → RawRecord
-assert_entry a = record { kind = 7; body = action_code a.action ∷ (origin_bytes a.origin ++ length a.text ∷ (a.text ++ form_bytes a.form)) }
+abbrev pub assert_record : Assert → RawRecord
+assert_record a = record { kind = 7; body = action_code a.action ∷ (origin_bytes a.origin ++ length a.text ∷ (a.text ++ form_bytes a.form)) }
 
-abbrev pub end_entry : RawRecord
-end_entry = record { kind = 8; body = [] }
+abbrev pub end_record : RawRecord
+end_record = record { kind = 8; body = [] }
 
 -- the records of an object after those of its files
-abbrev pub entries_after : Object → List RawRecord
-entries_after o =
-    map import_entry o.imports
-    ++ map section_entry o.sections
-    ++ flat_map (λ s. flat_map fragment_entries s.fragments) o.sections
-    ++ map export_entry o.exports
-    ++ map assert_entry o.asserts
-    ++ end_entry ∷ []
+abbrev pub records_after_files : Object → List RawRecord
+records_after_files o =
+    map import_record o.imports
+    ++ map section_record o.sections
+    ++ flat_map (λ s. flat_map fragment_records s.fragments) o.sections
+    ++ map export_record o.exports
+    ++ map assert_record o.asserts
+    ++ end_record ∷ []
 
 -- the records of an object
-abbrev pub entries_of : Object → List RawRecord
-entries_of o = map file_entry o.files ++ entries_after o
+abbrev pub object_records : Object → List RawRecord
+object_records o = map file_record o.files ++ records_after_files o
 
-abbrev pub entry_bytes : RawRecord → List ℕ
-entry_bytes e = e.kind ∷ (little_bytes 2 (length e.body) ++ e.body)
+abbrev pub record_bytes : RawRecord → List ℕ
+record_bytes e = e.kind ∷ (little_bytes 2 (length e.body) ++ e.body)
 
 abbrev pub magic : List ℕ
 magic = 0x52 ∷ 0x36 ∷ 0x35 ∷ 0x6f ∷ []
 
--- with these bytes an object of a version begins
+-- the first bytes of an object of a version
 abbrev pub object_head : ℕ → List ℕ
 object_head version = magic ++ version ∷ []
 
--- the one spelling of an object
+-- the only encoding of an object
 abbrev pub object_bytes : Object → List ℕ
-object_bytes o = object_head o.version ++ flat_map entry_bytes (entries_of o)
+object_bytes o = object_head o.version ++ flat_map record_bytes (object_records o)
 
--- the bytes spell the object
+-- the bytes are the encoding of the object
 pub record IsObject (bytes : List ℕ) (o : Object) : Type 0 where
-  pub good : is_well_formed_object o ≡ true
+  pub well_formed : is_well_formed_object o ≡ true
   pub numbers : ObjectFits o
   pub spelled : bytes ≡ object_bytes o

@@ -1,4 +1,4 @@
--- The object of version 1 that says the same but for the files.
+-- The object of version 1 with the same contents except the files.
 use Rattle.std.specs.Prelude.{◌≡◌, ◌⊎◌, [], map, None}
 use Rattle.object65.specs.declared.object.Assert.{Assert}
 use Rattle.object65.specs.declared.object.Export.{Export}
@@ -8,33 +8,33 @@ use Rattle.object65.specs.declared.object.Object.{Object}
 use Rattle.object65.specs.declared.object.Origin.{Origin}
 use Rattle.object65.specs.declared.object.Section.{Section}
 
-abbrev pub line_alone : Origin → Origin
-line_alone origin = record { file = None; line = origin.line }
+abbrev pub line_origin : Origin → Origin
+line_origin origin = record { file = None; line = origin.line }
 
-abbrev pub fragment_in_one : Fragment → Fragment
-fragment_in_one (Literal bytes) = Literal bytes
-fragment_in_one (Fill n) = Fill n
-fragment_in_one (Value width origin form) = Value width (line_alone origin) form
+abbrev pub version_one_fragment : Fragment → Fragment
+version_one_fragment (Literal bytes) = Literal bytes
+version_one_fragment (Fill n) = Fill n
+version_one_fragment (Value width origin form) = Value width (line_origin origin) form
 
-abbrev pub section_in_one : Section → Section
-section_in_one s = record s { fragments = map fragment_in_one s.fragments }
+abbrev pub version_one_section : Section → Section
+version_one_section s = record s { fragments = map version_one_fragment s.fragments }
 
-abbrev pub export_in_one : Export → Export
-export_in_one e = record e { origin = line_alone e.origin }
+abbrev pub version_one_export : Export → Export
+version_one_export e = record e { origin = line_origin e.origin }
 
-abbrev pub assert_in_one : Assert → Assert
-assert_in_one a = record a { origin = line_alone a.origin }
+abbrev pub version_one_assert : Assert → Assert
+version_one_assert a = record a { origin = line_origin a.origin }
 
-abbrev pub in_version_one : Object → Object
-in_version_one o = record {
+abbrev pub version_one_object : Object → Object
+version_one_object o = record {
   version = 1;
   files = [];
   imports = o.imports;
-  sections = map section_in_one o.sections;
-  exports = map export_in_one o.exports;
-  asserts = map assert_in_one o.asserts;
+  sections = map version_one_section o.sections;
+  exports = map version_one_export o.exports;
+  asserts = map version_one_assert o.asserts;
 }
 
--- an object is this one, or that of version 1 that says the same
+-- the second object is the first, or the first in version 1
 abbrev pub IsEitherVersion : Object → Object → Type 0
-IsEitherVersion o p = (p ≡ o) ⊎ (p ≡ in_version_one o)
+IsEitherVersion o p = (p ≡ o) ⊎ (p ≡ version_one_object o)

@@ -1,12 +1,12 @@
-//! An object from its records.
+//! Builds an object from its records.
 
 ghost use Rattle.std.specs.Prelude.{◌≡◌, ◌≤◌, ◌<◌, ◌+◌, ◌++◌, ◌∷◌, [], Ok, OnOk, length, get_or, map, OnErr, IfOk, Err, true};
-ghost use Rattle.object65.specs.Record.{Refines, is_memory, entry_of, is_version};
+ghost use Rattle.object65.specs.Record.{Refines, is_memory, raw_record, is_version};
 ghost use Rattle.object65.specs.Items.{closed_fragments, draft_with_fragment, with_item, section_from, object_from};
 ghost use Rattle.object65.specs.Objects.{fragment_len, is_well_formed_object, section_len, section_limit};
-ghost use Rattle.object65.specs.Internal.Sound.{HasRoom, state_of, without_marks};
+ghost use Rattle.object65.specs.Internal.Sound.{FitsDrafts, state_of, without_scan_flags};
 ghost use Rattle.std.specs.List.{AllByRecursion};
-ghost use Rattle.object65.specs.Scanning.{start, after, object_of_state};
+ghost use Rattle.object65.specs.Scanning.{start, state_after_record, object_of_state};
 
 use crate::writing::fragment_size;
 use crate::{Assert, Export, Fragment, Item, Object, ObjectFault, Record, Scan, Section};
@@ -15,21 +15,21 @@ use std::alloc::Global;
 use std::marker::Model;
 use std::mem;
 
-/// A section in the making.
+/// An unfinished section.
 #[derive(Drop)]
 pub struct Draft {
     pub name: ListVec<u8>,
     pub align: u8,
-    /// The size that the section will have, in bytes.
+    /// The size of the finished section, in bytes.
     pub size: u32,
-    /// The bytes so far.
+    /// The number of bytes so far.
     pub filled: u32,
     pub fragments: ListVec<Fragment>,
     /// The literal after these fragments, which the next literal record extends.
     pub literal: ListVec<u8>,
 }
 
-/// The parts of an object taken so far.
+/// The parts of an unfinished object.
 #[derive(Drop)]
 pub struct Parts {
     pub alloc: Global,
@@ -65,7 +65,7 @@ fn push_fragment(alloc: Global, draft: &mut Draft, fragment: Fragment) -> Result
 }
 
 /// Adds a fragment to a section.
-fn grow(alloc: Global, draft: &mut Draft, fragment: Fragment) -> Result<(), ObjectFault>
+fn append_fragment(alloc: Global, draft: &mut Draft, fragment: Fragment) -> Result<(), ObjectFault>
     requires { draft.old.filled + fragment_len fragment ≤ draft.old.size }
     ensures { Refines is_memory (λ _. draft.new) result (Ok (draft_with_fragment draft.old fragment)) }
 {
@@ -76,11 +76,11 @@ fn grow(alloc: Global, draft: &mut Draft, fragment: Fragment) -> Result<(), Obje
     push_fragment(alloc, draft, fragment)
 }
 
-/// Adds an item.
+/// Adds an item to the parts.
 pub fn add_item(parts: &mut Parts, item: Item) -> Result<(), ObjectFault>
-    requires { HasRoom parts.old.drafts.items item }
+    requires { FitsDrafts parts.old.drafts.items item }
     ensures { Refines is_memory (λ _. state_of parts.new) result
-        (Ok (without_marks (with_item (state_of parts.old) item))) }
+        (Ok (without_scan_flags (with_item (state_of parts.old) item))) }
 {
     match item {
         Item::File(name) => parts.files.push(name)?,
@@ -97,7 +97,7 @@ pub fn add_item(parts: &mut Parts, item: Item) -> Result<(), ObjectFault>
             section,
             offset: _,
             fragment,
-        } => grow(parts.alloc, &mut parts.drafts[section], fragment)?,
+        } => append_fragment(parts.alloc, &mut parts.drafts[section], fragment)?,
         Item::Export { name, origin, form } => parts.exports.push(Export { name, origin, form })?,
         Item::Assert {
             action,
@@ -115,7 +115,7 @@ pub fn add_item(parts: &mut Parts, item: Item) -> Result<(), ObjectFault>
     Ok(())
 }
 
-/// The section, with its last literal in place.
+/// Finishes a section: its last literal becomes a fragment.
 fn finish_section(alloc: Global, draft: Draft) -> Result<Section, ObjectFault>
     ensures { Refines is_memory (λ s. s) result (Ok (section_from draft)) }
 {
@@ -138,7 +138,7 @@ fn finish_sections(alloc: Global, drafts: Vec<Draft>) -> Result<Vec<Section>, Ob
     Ok(sections)
 }
 
-/// The object of the parts.
+/// Builds the object from its parts.
 pub fn finish_object(parts: Parts) -> Result<Object, ObjectFault>
     ensures { Refines is_memory (λ o. o) result (Ok (object_from (state_of parts))) }
 {
@@ -153,11 +153,11 @@ pub fn finish_object(parts: Parts) -> Result<Object, ObjectFault>
     })
 }
 
-/// An object in the making, which stands for the records taken so far.
+/// An unfinished object, represented by the records added so far.
 pub struct Builder {
     /// The scan that checks the records.
     scan: Scan,
-    /// The parts in the records.
+    /// The parts decoded from the records.
     parts: Parts,
     failed: bool,
 }
@@ -172,11 +172,11 @@ impl Model for Builder {
 
     ghost coded = { Prim.hlevel (codes, form_code) };
 
-    ghost use Rattle.object65.specs.Internal.Sound.{state_in, IsWhole};
+    ghost use Rattle.object65.specs.Internal.Sound.{state_in, BuilderInvariant};
 
     ghost view = { λ b. record (state_in b.parts b.scan) { failed = b.failed } };
 
-    ghost invariant = { λ b. b.failed ≡ false → IsWhole b.parts b.scan };
+    ghost invariant = { λ b. b.failed ≡ false → BuilderInvariant b.parts b.scan };
 }
 
 impl Drop for Builder {
@@ -190,7 +190,7 @@ impl Drop for Builder {
 }
 
 impl Builder {
-    /// A builder of an object of this version that has taken no record.
+    /// Creates a builder of an object of this version, before its first record.
     pub fn new(alloc: Global, version: u8) -> Self
         requires { is_version version ≡ true }
         ensures { result ≡ start version }
@@ -210,18 +210,18 @@ impl Builder {
         }
     }
 
-    /// Takes the next record. After a refusal each call answers that it failed before.
-    #[tactic(auto, unfolding(crate::specs::Scanning::after, crate::specs::Scanning::scan_step))]
+    /// Adds the next record. After an error each call returns `FailedBefore`.
+    #[tactic(auto, unfolding(crate::specs::Scanning::state_after_record, crate::specs::Scanning::scan_step))]
     pub fn take(&mut self, next: &Record) -> Result<(), ObjectFault>
         ensures taken { Refines is_memory (λ _. self.new) result
-            (after self.old (entry_of next.now)) }
+            (state_after_record self.old (raw_record next.now)) }
         ensures failed { OnErr result (self.new.failed ≡ true) }
-        ensures again { self.old.failed ≡ true → result ≡ Err ObjectFault.FailedBefore }
+        ensures failed_before { self.old.failed ≡ true → result ≡ Err ObjectFault.FailedBefore }
     {
         if self.failed {
             return Err(ObjectFault::FailedBefore);
         }
-        // It stays so where a call below refuses.
+        // It stays set if a call below fails.
         self.failed = true;
         let item = self.scan.take(next)?;
         add_item(&mut self.parts, item)?;
@@ -229,17 +229,17 @@ impl Builder {
         Ok(())
     }
 
-    /// Returns whether the END was taken.
+    /// Returns whether the END was added.
     pub fn is_ended(&self) -> bool
         ensures { result ≡ self.now.ended }
     {
         self.scan.is_ended()
     }
 
-    /// The object, where its END was taken.
+    /// Returns the object. Without an END it is rejected as cut short.
     pub fn finish(self) -> Result<Object, ObjectFault>
         ensures finished { Refines is_memory (λ o. o) result (object_of_state self) }
-        ensures again { self.failed ≡ true → result ≡ Err ObjectFault.FailedBefore }
+        ensures failed_before { self.failed ≡ true → result ≡ Err ObjectFault.FailedBefore }
         // The object can be written, so its sections are within their limit.
         ensures good { IfOk result (λ o. is_well_formed_object o ≡ true) }
         ensures sized { IfOk result (λ o.

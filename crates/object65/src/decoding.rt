@@ -1,8 +1,8 @@
-//! Decodes an object's head and its records from bytes that are there, wherever they were read from.
+//! Decodes the head and the records of an object from bytes in memory.
 
 ghost use Rattle.std.specs.Prelude.{◌≡◌, ◌≤◌, ◌+◌, ◌<◌, ◌^◌, true, false, length, take, IfErr, IfOk};
-ghost use Rattle.object65.specs.Record.{Refines, is_memory, is_system_error, entry_of, is_record_kind, is_version};
-ghost use Rattle.object65.specs.Reading.{file_limit, front_of, head_of, record_at, record_in, bytes_before, body_or_cut_short};
+ghost use Rattle.object65.specs.Record.{Refines, is_memory, is_system_error, raw_record, is_record_kind, is_version};
+ghost use Rattle.object65.specs.Reading.{file_limit, record_header, head_of, record_at, record_in, bytes_between, body_or_cut_short};
 ghost use Rattle.object65.specs.Spelling.{body_limit};
 
 use crate::format::{END, FILE, FILE_LIMIT, IMPORT, LARGEST_BODY, MAGIC, VERSION_ONE, VERSION_TWO};
@@ -10,8 +10,8 @@ use crate::{ObjectFault, Record};
 use arrayvec::ArrayVec;
 use byteorder::{ByteOrder, LittleEndian};
 
-/// Decodes a head at an offset from the bytes that are there. Returns the version and the offset of
-/// the first record.
+/// Decodes a head from the bytes at offset `at` of a file. Returns the version and the offset of the first
+/// record.
 pub fn decode_head(bytes: &[u8], at: u64) -> Result<(u8, u64), ObjectFault>
     requires { at + length bytes.now < 2 ^ 64 }
     ensures read { result ≡ head_of at (take 5 bytes.now) }
@@ -36,10 +36,10 @@ pub fn is_kind(version: u8, kind: u8) -> bool
     IMPORT <= kind && kind <= END || version != VERSION_ONE && kind == FILE
 }
 
-/// The kind of the record with which the bytes begin, and the length of its body.
-fn decode_front(version: u8, bytes: &[u8]) -> Result<(u8, usize), ObjectFault>
-    ensures read { result ≡ front_of version (take 3 bytes.now) }
-    ensures room { IfOk result (λ x. 3 ≤ length bytes.now) }
+/// Decodes the front of a record: its kind and the length of its body.
+fn decode_record_header(version: u8, bytes: &[u8]) -> Result<(u8, usize), ObjectFault>
+    ensures read { result ≡ record_header version (take 3 bytes.now) }
+    ensures bound { IfOk result (λ x. 3 ≤ length bytes.now) }
     ensures len { IfOk result (λ x. x.1 ≤ body_limit) }
     ensures plain { IfErr result (λ e. is_system_error e ≡ false) }
 {
@@ -61,7 +61,7 @@ fn decode_front(version: u8, bytes: &[u8]) -> Result<(u8, usize), ObjectFault>
 fn body_at(bytes: &[u8], at: usize, len: usize) -> Result<&[u8], ObjectFault>
     requires { at ≤ length bytes.now }
     ensures read { Refines is_memory (λ body. body.now) result
-        (body_or_cut_short len (take len (bytes_before bytes.entry.now at (length bytes.entry.now)))) }
+        (body_or_cut_short len (take len (bytes_between bytes.entry.now at (length bytes.entry.now)))) }
     ensures len { IfOk result (λ body. length body.now ≡ len) }
     ensures within { IfOk result (λ body. at + len ≤ length bytes.entry.now) }
     ensures plain { IfErr result (λ e. is_system_error e ≡ false) }
@@ -73,7 +73,7 @@ fn body_at(bytes: &[u8], at: usize, len: usize) -> Result<&[u8], ObjectFault>
     Ok(&rest[..len])
 }
 
-/// Puts bytes in place of a body.
+/// Replaces a body by these bytes.
 fn fill(body: &mut ArrayVec<u8, 4096>, bytes: &[u8])
     requires { length bytes.now ≤ body_limit }
     ensures { body.new.items ≡ bytes.now }
@@ -85,42 +85,43 @@ fn fill(body: &mut ArrayVec<u8, 4096>, bytes: &[u8])
     }
 }
 
-/// Decodes the record at the front of bytes from an offset of a file. Returns it with the offset of
-/// the next one.
+/// Decodes into `target` the record at the start of bytes from offset `at` of a file. Returns the offset of the
+/// next record.
 #[tactic(auto, unfolding(crate::specs::Reading::record_in))]
-pub fn decode(space: &mut Record, version: u8, bytes: &[u8], at: u64) -> Result<u64, ObjectFault>
+pub fn decode(target: &mut Record, version: u8, bytes: &[u8], at: u64) -> Result<u64, ObjectFault>
     requires { at + length bytes.now < 2 ^ 64 }
-    ensures read { Refines is_memory (λ n. (entry_of space.new, n)) result
+    ensures read { Refines is_memory (λ n. (raw_record target.new, n)) result
         (record_in version at bytes.now) }
-    ensures bound { IfOk result (λ n. (n ≡ at + 3 + length space.new.body.items) ×
-        (3 + length space.new.body.items ≤ length bytes.now) × (n ≤ file_limit)) }
+    ensures bound { IfOk result (λ n. (n ≡ at + 3 + length target.new.body.items) ×
+        (3 + length target.new.body.items ≤ length bytes.now) × (n ≤ file_limit)) }
     ensures plain { IfErr result (λ e. is_system_error e ≡ false) }
 {
-    let (kind, len) = decode_front(version, bytes)?;
+    let (kind, len) = decode_record_header(version, bytes)?;
     let body = body_at(bytes, 3, len)?;
     let next = at + 3 + len as u64;
     if next > FILE_LIMIT {
         return Err(ObjectFault::BadSize);
     }
-    space.kind = kind;
-    fill(&mut space.body, body);
+    target.kind = kind;
+    fill(&mut target.body, body);
     Ok(next)
 }
 
-/// Decodes the record of an object of this version at a place into the space, and answers where the next begins.
+/// Decodes into `target` the record at an offset of an object of this version. Returns the offset of the next
+/// record.
 pub fn decode_record(
-    space: &mut Record,
+    target: &mut Record,
     version: u8,
     bytes: &[u8],
     at: usize,
 ) -> Result<usize, ObjectFault>
     requires { at ≤ length bytes.now }
-    ensures read { Refines is_memory (λ n. (entry_of space.new, n)) result
+    ensures read { Refines is_memory (λ n. (raw_record target.new, n)) result
         (record_at version at (length bytes.now) bytes.now) }
     ensures bound { IfOk result (λ n.
-        (n ≡ at + 3 + length space.new.body.items) × (n ≤ length bytes.now)) }
+        (n ≡ at + 3 + length target.new.body.items) × (n ≤ length bytes.now)) }
     ensures plain { IfErr result (λ e. is_system_error e ≡ false) }
 {
-    let next = decode(space, version, &bytes[at..], at as u64)?;
+    let next = decode(target, version, &bytes[at..], at as u64)?;
     Ok(next as usize)
 }

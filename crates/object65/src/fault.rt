@@ -1,4 +1,4 @@
-//! Why bytes are refused as an object.
+//! The errors of reading an object.
 
 ghost use Rattle.std.specs.Prelude.{◌≡◌};
 ghost use Rattle.object65.specs.declared.fault.ObjectFault.TheVariants.{OutOfMemory};
@@ -7,7 +7,7 @@ use base65::StoreFault;
 use std::alloc::{AllocError, AllocFailed};
 use std::fmt;
 
-/// Why an object is refused.
+/// An error of reading an object.
 #[derive(Clone, Copy, Debug, PartialEq, Eq)]
 pub enum ObjectFault {
     FailedBefore = 0,

@@ -1,17 +1,17 @@
-//! Makes normal forms from their parts, and says which an object may hold.
+//! Folds operations on normal forms, and checks the forms of an object.
 
 ghost use Rattle.std.specs.Prelude.{◌≡◌, ◌&&◌, not, nat_le};
 ghost use Rattle.object65.specs.declared.folding.FormFault.TheVariants.{OutOfMemory};
 ghost use Rattle.object65.specs.Record.{Refines};
-ghost use Rattle.object65.specs.Folding.{lacks_memory, fold1, fold_any, fold_sum, fold_difference, fold2, is_within, is_normal, is_literal, folds1, folds2, node_limit};
+ghost use Rattle.object65.specs.Folding.{is_form_memory_fault, fold1, fold_numbers, fold_sum, fold_difference, fold2, has_valid_indices, is_normal, is_literal, folds1, folds2, node_limit};
 ghost use Rattle.object65.specs.Form.{nodes};
 
-use crate::form::{NODE_LIMIT, count};
+use crate::form::{NODE_LIMIT, node_count};
 use crate::{Node, Norm, Operands};
 use base65::{Op1, Op2, apply1, apply2};
 use std::alloc::{AllocError, AllocFailed, Global};
 
-/// Why an expression has no form.
+/// The reason why an expression has no form.
 #[derive(Clone, Copy, Debug)]
 pub enum FormFault {
     OutOfMemory,
@@ -38,9 +38,9 @@ impl<T: Drop> From<AllocFailed<T>> for FormFault {
 }
 
 impl Norm {
-    /// The form of a prefix operation on a form.
+    /// Folds a prefix operation on a form.
     pub fn prefix(alloc: Global, op: Op1, part: Norm) -> Result<Norm, FormFault>
-        ensures { Refines lacks_memory (λ f. f) result (fold1 op part) }
+        ensures { Refines is_form_memory_fault (λ f. f) result (fold1 op part) }
     {
         if let Op1::Plus = op {
             return Ok(part);
@@ -48,27 +48,27 @@ impl Norm {
         if let Node::NumberNode(value) = part.node() {
             return Ok(Norm::new(Node::NumberNode(apply1(op, *value))));
         }
-        if count(&part) >= NODE_LIMIT {
+        if node_count(&part) >= NODE_LIMIT {
             return Err(FormFault::TooLarge);
         }
         Ok(Norm::new(Node::Prefix(op, Box::new(alloc, part)?)))
     }
 
-    /// The form of an operation on two forms.
+    /// Folds an operation on two forms.
     pub fn binary(alloc: Global, op: Op2, left: Norm, right: Norm) -> Result<Norm, FormFault>
-        ensures { Refines lacks_memory (λ f. f) result (fold2 op left right) }
+        ensures { Refines is_form_memory_fault (λ f. f) result (fold2 op left right) }
     {
         match op {
             Op2::Add => fold_sum(alloc, left, right),
             Op2::Subtract => fold_difference(alloc, left, right),
-            _ => fold_any(alloc, op, left, right),
+            _ => fold_numbers(alloc, op, left, right),
         }
     }
 }
 
-/// An operation that only numbers fold.
-fn fold_any(alloc: Global, op: Op2, left: Norm, right: Norm) -> Result<Norm, FormFault>
-    ensures { Refines lacks_memory (λ f. f) result (fold_any op left right) }
+/// Folds an operation that is computed only for two numbers.
+fn fold_numbers(alloc: Global, op: Op2, left: Norm, right: Norm) -> Result<Norm, FormFault>
+    ensures { Refines is_form_memory_fault (λ f. f) result (fold_numbers op left right) }
 {
     if let (Node::NumberNode(a), Node::NumberNode(b)) = (left.node(), right.node()) {
         return match apply2(op, *a, *b) {
@@ -76,29 +76,30 @@ fn fold_any(alloc: Global, op: Op2, left: Norm, right: Norm) -> Result<Norm, For
             None => Err(FormFault::NoValue),
         };
     }
-    if count(&left).saturating_add(count(&right)) >= NODE_LIMIT {
+    if node_count(&left).saturating_add(node_count(&right)) >= NODE_LIMIT {
         return Err(FormFault::TooLarge);
     }
     let operands = Box::new(alloc, Operands { left, right })?;
     Ok(Norm::new(Node::Binary(op, operands)))
 }
 
-/// A sum, which a place and a number fold.
+/// Folds a sum. An offset in a section and a number are added, too.
 fn fold_sum(alloc: Global, left: Norm, right: Norm) -> Result<Norm, FormFault>
-    ensures { Refines lacks_memory (λ f. f) result (fold_sum left right) }
+    ensures { Refines is_form_memory_fault (λ f. f) result (fold_sum left right) }
 {
     match (left.node(), right.node()) {
         (Node::SectionOffset(section, offset), Node::NumberNode(number))
         | (Node::NumberNode(number), Node::SectionOffset(section, offset)) => {
             Ok(Norm::new(Node::SectionOffset(*section, offset.wrapping_add(*number))))
         }
-        _ => fold_any(alloc, Op2::Add, left, right),
+        _ => fold_numbers(alloc, Op2::Add, left, right),
     }
 }
 
-/// A difference, which two places of one section and a place and a number fold.
+/// Folds a difference. Two offsets in one section are subtracted, too, and a
+/// number from an offset in a section.
 fn fold_difference(alloc: Global, left: Norm, right: Norm) -> Result<Norm, FormFault>
-    ensures { Refines lacks_memory (λ f. f) result (fold_difference left right) }
+    ensures { Refines is_form_memory_fault (λ f. f) result (fold_difference left right) }
 {
     match (left.node(), right.node()) {
         (Node::SectionOffset(k, a), Node::SectionOffset(m, b)) if *k == *m => {
@@ -107,22 +108,23 @@ fn fold_difference(alloc: Global, left: Norm, right: Norm) -> Result<Norm, FormF
         (Node::SectionOffset(section, offset), Node::NumberNode(number)) => {
             Ok(Norm::new(Node::SectionOffset(*section, offset.wrapping_sub(*number))))
         }
-        _ => fold_any(alloc, Op2::Subtract, left, right),
+        _ => fold_numbers(alloc, Op2::Subtract, left, right),
     }
 }
 
-/// Returns whether all section and import numbers in a form are below these.
-pub fn are_there(form: &Norm, sections: usize, imports: usize) -> bool
-    ensures { result ≡ is_within sections imports form.now }
+/// Returns whether all section and import indices in a form are below these
+/// counts.
+pub fn has_valid_indices(form: &Norm, sections: usize, imports: usize) -> bool
+    ensures { result ≡ has_valid_indices sections imports form.now }
 {
     match form.node() {
         Node::NumberNode(_) => true,
         Node::SectionOffset(section, _) => (*section as usize) < sections,
-        Node::ImportedName(place) => (*place as usize) < imports,
-        Node::Prefix(_, part) => are_there(part, sections, imports),
+        Node::ImportedName(index) => (*index as usize) < imports,
+        Node::Prefix(_, part) => has_valid_indices(part, sections, imports),
         Node::Binary(_, operands) => {
-            are_there(&operands.left, sections, imports)
-                && are_there(&operands.right, sections, imports)
+            has_valid_indices(&operands.left, sections, imports)
+                && has_valid_indices(&operands.right, sections, imports)
         }
     }
 }
@@ -185,5 +187,5 @@ pub fn is_folded(form: &Norm) -> bool
 pub fn is_limited(form: &Norm) -> bool
     ensures { result ≡ nat_le (nodes form.now) node_limit }
 {
-    count(form) <= NODE_LIMIT
+    node_count(form) <= NODE_LIMIT
 }

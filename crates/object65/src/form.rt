@@ -10,7 +10,7 @@ use base65::{Op1, Op2};
 use std::alloc::{AllocError, Global};
 use std::marker::Model;
 
-/// No form has more nodes.
+/// The largest number of nodes of a form.
 pub const NODE_LIMIT: u32 = 255;
 
 /// A normal form, which contracts see without its boxes.
@@ -26,9 +26,9 @@ pub struct Norm {
 pub enum Node {
     /// A number.
     NumberNode(i64),
-    /// A place in a section: the section's number and an offset.
+    /// The index of a section, and an offset in the section.
     SectionOffset(u32, i64),
-    /// The value of an import, by its number.
+    /// The value of the import with this index.
     ImportedName(u32),
     Prefix(Op1, Box<Norm>),
     Binary(Op2, Box<Operands>),
@@ -61,14 +61,14 @@ impl Model for Norm {
 }
 
 impl Norm {
-    /// The form with this node at its top.
+    /// Creates the form with this node at its root.
     pub fn new(node: Node) -> Self
         ensures { result ≡ form_of node }
     {
         Norm { node }
     }
 
-    /// A copy of the form.
+    /// Copies a form.
     #[cycle(copy)]
     pub fn copy_of(alloc: Global, form: &Norm) -> Result<Self, AllocError>
         ensures { IfOk result (λ f. f ≡ form.now) }
@@ -76,7 +76,7 @@ impl Norm {
         let node = match form.node() {
             Node::NumberNode(value) => Node::NumberNode(*value),
             Node::SectionOffset(section, offset) => Node::SectionOffset(*section, *offset),
-            Node::ImportedName(place) => Node::ImportedName(*place),
+            Node::ImportedName(index) => Node::ImportedName(*index),
             Node::Prefix(op, part) => {
                 let part = Norm::copy_of(alloc, part)?;
                 Node::Prefix(*op, Box::new(alloc, part)?)
@@ -90,14 +90,14 @@ impl Norm {
         Ok(Norm::new(node))
     }
 
-    /// The node at the top.
+    /// Returns the node at the root.
     pub fn node(&self) -> &Node
         ensures { form_of result.now ≡ self.now }
     {
         &self.node
     }
 
-    /// The node at the top, which may be changed.
+    /// Returns the node at the root, for changes.
     pub fn node_mut(&mut self) -> &mut Node
         ensures* writes_back { sem 𝓛 (LendsNode self.entry result) }
         ensures node { form_of result.now ≡ self.old }
@@ -106,7 +106,7 @@ impl Norm {
     }
 }
 
-/// A copy of an operand. Most right operands are numbers, which need no call.
+/// Copies an operand. Most right operands are numbers, which need no call.
 #[inline(always)]
 #[cycle(copy)]
 fn copy_of_operand(alloc: Global, form: &Norm) -> Result<Norm, AllocError>
@@ -119,14 +119,14 @@ fn copy_of_operand(alloc: Global, form: &Norm) -> Result<Norm, AllocError>
 }
 
 /// Returns the number of nodes of a form, or the largest `u32` if it has more.
-pub fn count(form: &Norm) -> u32
+pub fn node_count(form: &Norm) -> u32
     ensures { result ≡ min (nodes form.now) (2 ^ 32 - 1) }
 {
     match &form.node {
         Node::NumberNode(_) | Node::SectionOffset(_, _) | Node::ImportedName(_) => 1,
-        Node::Prefix(_, part) => count(part).saturating_add(1),
-        Node::Binary(_, operands) => count(&operands.left)
-            .saturating_add(count(&operands.right))
+        Node::Prefix(_, part) => node_count(part).saturating_add(1),
+        Node::Binary(_, operands) => node_count(&operands.left)
+            .saturating_add(node_count(&operands.right))
             .saturating_add(1),
     }
 }

@@ -1,9 +1,9 @@
 //! The constants of the object format: heads, limits, and the kinds of records.
 
-/// With these bytes an object begins.
+/// The bytes at the start of every object.
 pub const MAGIC: [u8; 4] = [0x52, 0x36, 0x35, 0x6f];
 
-/// Without files.
+/// The version without FILE records.
 pub const VERSION_ONE: u8 = 1;
 
 pub const VERSION_TWO: u8 = 2;

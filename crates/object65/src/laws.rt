@@ -1,65 +1,65 @@
 //! Laws of objects and their bytes, whatever wrote them, and of forms. Each function's contract is
 //! a law.
 
-ghost use Rattle.object65.specs.Laws.{ReadLaw, FoldExists, ObjectExists, PartExists, SpellingLaw, PrefixLaw, SpellingIsUnique, NumberIsUnique, ItemsLaw, VersionLaw, PrefixFoldLaw, BinaryFoldLaw, NormalLaw, StaysLaw};
+ghost use Rattle.object65.specs.Laws.{ReadBytesAreEncoding, FoldExists, ObjectExists, PartExists, EncodingIsRead, EncodingsArePrefixFree, EncodingIsUnique, NumberIsUnique, ItemsBuildObject, VersionOneIsWellFormed, PrefixFoldPreservesValue, BinaryFoldPreservesValue, FoldedIsNormal, FoldableIffFoldChanges};
 
 /// Bytes that are read as an object are its encoding.
-pub fn read_is_spelled()
-    ensures { ReadLaw }
+pub fn read_bytes_are_encoding()
+    ensures { ReadBytesAreEncoding }
 {}
 
 /// The encoding of an object is read as that object.
-pub fn spelled_is_read()
-    ensures { SpellingLaw }
+pub fn encoding_is_read()
+    ensures { EncodingIsRead }
 {}
 
-/// Any bytes are read as an object, or refused for a fault of their own.
+/// Reading any bytes results in an object, or in an error that isn't a system error.
 pub fn object_exists()
     ensures { ObjectExists }
 {}
 
-/// The same of a head, a record and an end; and after any records any record is taken, or has an
-/// error of its own.
+/// Reading a head, a record or an end, passing any record to a scan or a builder, and finishing either: each has
+/// a result, or an error that isn't a system error.
 pub fn part_exists()
     ensures { PartExists }
 {}
 
-/// No spelling is a proper prefix of another, and none is that of two objects.
-pub fn no_spelling_begins_another()
-    ensures { PrefixLaw }
+/// No encoding of an object is a proper prefix of another, and no two objects have the same encoding.
+pub fn encodings_are_prefix_free()
+    ensures { EncodingsArePrefixFree }
 {}
 
-/// No object has two spellings.
-pub fn spelling_is_unique()
-    ensures { SpellingIsUnique }
+/// No object has two encodings.
+pub fn encoding_is_unique()
+    ensures { EncodingIsUnique }
 {}
 
-/// No other bytes of the same length give a number.
+/// No two lists of bytes with the same length encode the same number.
 pub fn number_is_unique()
     ensures { NumberIsUnique }
 {}
 
-/// The items that a scan gives make the object that a builder makes of the same records, and it refuses what a
-/// builder refuses, for the same fault.
-pub fn items_make_the_object()
-    ensures { ItemsLaw }
+/// The items that a scan returns for some records build what a builder builds from these records, or both have
+/// the same error.
+pub fn items_build_object()
+    ensures { ItemsBuildObject }
 {}
 
-/// An object says in version 1 what it says in version 2, but for the files: where the one can be spelled and its
-/// numbers and texts are of their types, so can the other, and so are the other's.
-pub fn version_one_is_an_object()
-    ensures { VersionLaw }
+/// An object that can be encoded can be encoded in version 1 too, without its files; and if its numbers and texts
+/// fit their types, so do those of the object of version 1.
+pub fn version_one_is_well_formed()
+    ensures { VersionOneIsWellFormed }
 {}
 
-/// Folding a prefix operation keeps its value wherever sections lie and whatever imports mean, and that it has
-/// none. `E` is what may go wrong with an import.
-pub fn prefix_keeps_its_value<E>()
-    ensures { PrefixFoldLaw E }
+/// Folding a prefix operation changes neither its value nor its error, for all addresses of sections and all
+/// values of imports. `E` is the type of the errors of imports.
+pub fn prefix_fold_preserves_value<E>()
+    ensures { PrefixFoldPreservesValue E }
 {}
 
-/// Folding an operation on two forms keeps its value likewise, and so no import is dropped.
-pub fn binary_keeps_its_value<E>()
-    ensures { BinaryFoldLaw E }
+/// Folding an operation on two forms changes neither its value nor its error, so no import is dropped.
+pub fn binary_fold_preserves_value<E>()
+    ensures { BinaryFoldPreservesValue E }
 {}
 
 /// Any operation on forms has a form, or an error that isn't *out of memory*.
@@ -67,12 +67,13 @@ pub fn fold_exists()
     ensures { FoldExists }
 {}
 
-/// A folded form can't be folded further and has at most 255 nodes.
+/// Folding an operation on folded forms results in a folded form, which can't be folded further and has at most
+/// 255 nodes.
 pub fn folded_is_normal()
-    ensures { NormalLaw }
+    ensures { FoldedIsNormal }
 {}
 
-/// A form that is refused because it could be folded is one that folding changes, and no other is refused so.
-pub fn only_what_folds_is_refused()
-    ensures { StaysLaw }
+/// An operation within the limit of nodes is rejected as foldable exactly if folding changes it.
+pub fn foldable_iff_fold_changes()
+    ensures { FoldableIffFoldChanges }
 {}

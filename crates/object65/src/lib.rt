@@ -1,22 +1,22 @@
-//! Objects: modules in parts, as records in a file and as values.
+//! The object format: reads, checks, builds and writes objects.
 #![tactic(auto)]
 
+mod body_decoding;
 mod builder;
 mod decoding;
 mod fault;
-mod filling;
 mod folding;
 mod form;
 pub mod format;
-mod forming;
+mod fragment_decoding;
 pub mod laws;
 mod object;
 mod reading;
 mod record;
 mod record_reader;
 mod scan;
-mod storing;
-mod taking;
+mod scan_steps;
+mod value_encoding;
 mod writing;
 
 pub use base65::{Action, Width};
@@ -30,6 +30,6 @@ pub use reading::{check_end, read_head, read_object};
 pub use record::{Item, Record};
 pub use record_reader::{RecordReader, read_record};
 pub use scan::Scan;
-pub use storing::{fits, put};
-pub use taking::is_name;
+pub use scan_steps::is_name;
+pub use value_encoding::{fits, put};
 pub use writing::write_object;

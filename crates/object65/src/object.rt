@@ -1,18 +1,18 @@
-//! An object as a value.
+//! Objects as values in memory.
 
 use crate::Norm;
 use base65::{Action, ListVec, Width};
 
-/// A module in parts.
+/// An assembled module that isn't linked yet.
 #[derive(Drop)]
 pub struct Object {
-    /// The version of its bytes, 1 or 2.
+    /// The version of its format, 1 or 2.
     pub version: u8,
     /// The names of the source files; an origin names one by its index here. Version 1 has none.
     pub files: ListVec<ListVec<u8>>,
-    /// The names that the module uses and doesn't define; forms name them by their places here.
+    /// The names that the module uses and doesn't define. Forms refer to them by index.
     pub imports: ListVec<ListVec<u8>>,
-    /// Forms name sections by their places here.
+    /// The sections. Forms refer to them by index.
     pub sections: ListVec<Section>,
     pub exports: ListVec<Export>,
     pub asserts: ListVec<Assert>,
@@ -23,7 +23,7 @@ pub struct Object {
 pub struct Section {
     /// The segment's name.
     pub name: ListVec<u8>,
-    /// The power of two to a multiple of which the section is placed.
+    /// The base-2 logarithm of the section's alignment.
     pub align: u8,
     pub fragments: ListVec<Fragment>,
 }
@@ -46,12 +46,12 @@ pub enum Fragment {
 /// The location of a part of an object in its sources.
 #[derive(Clone, Copy)]
 pub struct Origin {
-    /// The place of the file among the object's files. In version 1 there is none.
+    /// The file's index in `Object::files`. `None` in version 1.
     pub file: Option<u32>,
     pub line: u32,
 }
 
-/// A name that a module defines for others, and where that is said.
+/// A symbol that a module exports, with the location of the export.
 #[derive(Drop)]
 pub struct Export {
     pub name: ListVec<u8>,

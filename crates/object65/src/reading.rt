@@ -1,11 +1,11 @@
-//! Reading an object from a file: its head and end, the fronts of its records, and the whole.
+//! Reads objects from files: the head, the end, or the whole object.
 
 ghost use Rattle.std.specs.Prelude.{◌≡◌, ◌≤◌, ◌+◌, ◌-◌, true, length, IfOk, IfSome, IsErrOf};
 ghost use Rattle.std.specs.FinMap as map;
-ghost use Rattle.base65.specs.Store.{FailsAtLastCount, HoldsBytes, FailedWithin};
+ghost use Rattle.base65.specs.Store.{FailsAtLastCount, HasOnlyBytes, FailedWithin};
 ghost use Rattle.base65.specs.StoreFaults.{is_store_system_error};
 ghost use Rattle.object65.specs.Record.{Refines, is_system_error, is_version};
-ghost use Rattle.object65.specs.Reading.{StoreFrame, in_file, head_at, end_at, IsRoomRead, records_at, object_at};
+ghost use Rattle.object65.specs.Reading.{StoreFrame, in_file, head_at, end_at, IsLimitedRead, records_at, object_at};
 ghost use Rattle.std.specs.List.{AllByRecursion};
 ghost use Rattle.object65.specs.Objects.{is_well_formed_object, section_len, section_limit};
 ghost use Rattle.object65.specs.Scanning.{start};
@@ -16,8 +16,9 @@ use crate::{Builder, Object, ObjectFault, RecordReader};
 use base65::{Store, StoreFault, read_full};
 use std::alloc::Global;
 
-/// Reads a member's bytes from a place on, up to the end of its room, until the buffer is full.
-pub fn read_room<S: Store>(
+/// Reads the bytes of a file from offset `at` up to offset `limit`, or until the buffer is full.
+/// Returns the number of bytes read.
+pub fn read_within_limit<S: Store>(
     store: &mut S,
     name: &str,
     at: u64,
@@ -27,20 +28,21 @@ pub fn read_room<S: Store>(
     ensures bound { IfOk result (λ n. n ≤ length buf.new) }
     ensures room { IfOk result (λ n. n ≤ limit - at) }
     ensures read { IfSome (S.files store.old)
-        (λ m. IsRoomRead (map.get m name.now) at limit buf.new result) }
+        (λ m. IsLimitedRead (map.get m name.now) at limit buf.new result) }
     ensures bytes { IfSome (S.files store.old)
-        (λ m. HoldsBytes (map.get m name.now) result) }
+        (λ m. HasOnlyBytes (map.get m name.now) result) }
     ensures frame { StoreFrame S.files S.failures S.last_failure StoreFault.FileError name.now store.old
         store.new result }
     ensures within { IsErrOf result StoreFault.FileError → at ≤ limit → FailedWithin (S.last_failure store.new) name.now at limit }
     ensures at_last_count { FailsAtLastCount is_store_system_error (S.failures store.old) result }
 {
-    let room = limit.saturating_sub(at);
-    let want = room.min(buf.len() as u64) as usize;
-    read_full(store, name, at, &mut buf[..want])
+    let remaining = limit.saturating_sub(at);
+    let byte_count = remaining.min(buf.len() as u64) as usize;
+    read_full(store, name, at, &mut buf[..byte_count])
 }
 
-/// Reads the head of an object, and answers its version and where its records begin.
+/// Reads the head of the object at an offset. Returns its version and the offset of its first
+/// record.
 pub fn read_head<S: Store>(
     store: &mut S,
     name: &str,
@@ -50,7 +52,7 @@ pub fn read_head<S: Store>(
     ensures read { IfSome (S.files store.old)
         (λ m. Refines is_system_error (λ x. x) result (in_file (map.get m name.now) (head_at at limit))) }
     ensures bytes { IfSome (S.files store.old)
-        (λ m. HoldsBytes (map.get m name.now) result) }
+        (λ m. HasOnlyBytes (map.get m name.now) result) }
     ensures frame { StoreFrame S.files S.failures S.last_failure FileError name.now store.old store.new
         result }
     ensures within { IsErrOf result ObjectFault.FileError → at ≤ limit → FailedWithin (S.last_failure store.new) name.now at limit }
@@ -59,7 +61,7 @@ pub fn read_head<S: Store>(
     ensures bound { IfOk result (λ x. (x.1 ≡ at + 5) × (x.1 ≤ limit)) }
 {
     let mut head = [0u8; 5];
-    let n = read_room(store, name, at, limit, &mut head)?;
+    let n = read_within_limit(store, name, at, limit, &mut head)?;
     decode_head(&head[..n], at)
 }
 
@@ -78,14 +80,15 @@ pub fn check_end<S: Store>(
     ensures at_last_count { FailsAtLastCount is_system_error (S.failures store.old) result }
 {
     let mut next = [0u8; 1];
-    let n = read_room(store, name, at, limit, &mut next)?;
+    let n = read_within_limit(store, name, at, limit, &mut next)?;
     if n > 0 {
         return Err(ObjectFault::BytesAfterEnd);
     }
     Ok(())
 }
 
-/// Reads records after a head up to the END. Returns the offset after it.
+/// Reads the records after a head, up to the END. Returns the builder that added them, and the
+/// offset after the END.
 fn read_records<S: Store>(
     alloc: Global,
     store: &mut S,
@@ -114,7 +117,8 @@ fn read_records<S: Store>(
     }
 }
 
-/// Reads the object at an offset of a file, up to the end of its room.
+/// Reads the object from offset `at` up to offset `limit` of a file, or up to the end of the
+/// file.
 #[tactic(auto, unfolding(crate::specs::Reading::object_at))]
 pub fn read_object<S: Store>(
     alloc: Global,
@@ -127,12 +131,12 @@ pub fn read_object<S: Store>(
         (λ m. Refines is_system_error (λ o. o) result
         (in_file (map.get m name.now) (object_at at limit))) }
     ensures bytes { IfSome (S.files store.old)
-        (λ m. HoldsBytes (map.get m name.now) result) }
+        (λ m. HasOnlyBytes (map.get m name.now) result) }
     ensures frame { StoreFrame S.files S.failures S.last_failure FileError name.now store.old store.new
         result }
     ensures at_last_count { FailsAtLastCount is_system_error (S.failures store.old) result }
     // An object that is read can be written, so its sections are within their limit, even if the
-    // store doesn't tell its files.
+    // store doesn't reveal its files.
     ensures good { IfOk result (λ o. is_well_formed_object o ≡ true) }
     ensures sized { IfOk result (λ o. AllByRecursion
         (λ s. section_len s ≤ section_limit) o.sections) }

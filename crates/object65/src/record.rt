@@ -1,4 +1,4 @@
-//! One record of an object, and what it says.
+//! One record of an object, and its item.
 
 use crate::{Action, Fragment, Norm, Origin};
 use arrayvec::ArrayVec;
@@ -22,7 +22,7 @@ pub enum Item {
     Section {
         name: ListVec<u8>,
         size: u32,
-        /// The power of two to a multiple of which the section is placed.
+        /// The base-2 logarithm of the section's alignment.
         align: u8,
     },
     /// A fragment of a section. A literal has only the bytes of this record.
@@ -33,7 +33,7 @@ pub enum Item {
         offset: u32,
         fragment: Fragment,
     },
-    /// A name that the module defines for others.
+    /// A symbol that the module exports.
     Export {
         name: ListVec<u8>,
         /// The location of the export.
@@ -49,6 +49,6 @@ pub enum Item {
         text: ListVec<u8>,
         form: Norm,
     },
-    /// The object ends.
+    /// The end of the object.
     End,
 }

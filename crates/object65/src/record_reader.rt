@@ -1,39 +1,39 @@
-//! Records, read from a file one after another into one room.
+//! Reads the records of a file one after another.
 
 ghost use Rattle.std.specs.Prelude.{◌≡◌, ◌≤◌, ◌<◌, ◌+◌, ◌-◌, ◌^◌, [], Ok, length, false, IfOk, IfErr, IfSome, IsErrOf, OnOk, OnErr, take};
 ghost use Rattle.std.specs.FinMap as map;
 ghost use Rattle.base65.specs.Store.{FailsAtLastCount, FailedWithin};
-ghost use Rattle.object65.specs.Record.{Refines, is_memory, is_system_error, entry_of};
-ghost use Rattle.object65.specs.Reading.{StoreFrame, IsAhead, from_place, has_record, record_in, in_file, record_at, bytes_before, file_limit};
+ghost use Rattle.object65.specs.Record.{Refines, is_memory, is_system_error, raw_record};
+ghost use Rattle.object65.specs.Reading.{StoreFrame, IsAhead, bytes_from, has_record, record_in, in_file, record_at, bytes_between, file_limit};
 ghost use Rattle.object65.specs.declared.fault.ObjectFault.TheVariants.{FileError};
 
 use crate::decoding::decode;
 use crate::format::LARGEST_BODY;
-use crate::reading::read_room;
+use crate::reading::read_within_limit;
 use crate::{ObjectFault, Record};
 use arrayvec::ArrayVec;
 use base65::Store;
 use byteorder::{ByteOrder, LittleEndian};
 use std::marker::Model;
 
-/// The size of the buffer: the longest record is shorter.
+/// The size of the buffer in bytes. Every record is shorter.
 const BUFFER: usize = 2 * LARGEST_BODY;
 
-/// Reads records one by one into a record of its own. It reads ahead, and so keeps bytes of the file that it read
-/// last: before it reads another it has to `forget` them.
+/// A reader of records, which stores the record read last. It reads ahead and buffers bytes of the file, so call
+/// `forget` before it reads another file.
 #[derive(Drop)]
 pub struct RecordReader {
     record: Record,
-    /// The place in the file of the first byte of the buffer.
+    /// The offset in the file of the first byte of the buffer.
     begin: u64,
-    /// The number of bytes in the buffer that are the file's.
-    held: usize,
+    /// The number of bytes of the file in the buffer.
+    buffered: usize,
     buffer: [u8; BUFFER],
 }
 
 impl Model for RecordReader {
     ghost use Rattle.std.specs.Prelude.{take};
-    ghost use Rattle.object65.specs.Record.{entry_of};
+    ghost use Rattle.object65.specs.Record.{raw_record};
     ghost use Rattle.object65.specs.Reading.{RecordReaderView};
     ghost use Rattle.std.specs.Coded.{codes};
 
@@ -41,19 +41,19 @@ impl Model for RecordReader {
 
     ghost coded = { Prim.hlevel codes };
 
-    ghost view = { λ r. record { entry = entry_of r.record; begin = r.begin; ahead = take r.held r.buffer } };
+    ghost view = { λ r. record { entry = raw_record r.record; begin = r.begin; ahead = take r.buffered r.buffer } };
 }
 
-/// Returns the first `held` bytes.
-fn front(buffer: &[u8], held: usize) -> &[u8]
-    ensures { result.now ≡ take held buffer.now }
+/// Returns the first `buffered` bytes, or all if there are fewer.
+fn first_bytes(buffer: &[u8], buffered: usize) -> &[u8]
+    ensures { result.now ≡ take buffered buffer.now }
 {
-    buffer.get(..held).unwrap_or(buffer)
+    buffer.get(..buffered).unwrap_or(buffer)
 }
 
 /// Returns the bytes from offset `at` on, of bytes that begin at offset `begin`.
-fn from_place(bytes: &[u8], begin: u64, at: u64) -> &[u8]
-    ensures { result.now ≡ from_place bytes.now begin at }
+fn bytes_from(bytes: &[u8], begin: u64, at: u64) -> &[u8]
+    ensures { result.now ≡ bytes_from bytes.now begin at }
 {
     if at < begin {
         return &[];
@@ -69,7 +69,7 @@ fn has_record(bytes: &[u8]) -> bool
 }
 
 impl RecordReader {
-    /// A reader that has read nothing.
+    /// Creates a reader whose buffer is empty.
     pub fn new() -> Self
         ensures { result.ahead ≡ [] }
     {
@@ -79,27 +79,27 @@ impl RecordReader {
                 body: ArrayVec::new(),
             },
             begin: 0,
-            held: 0,
+            buffered: 0,
             buffer: [0u8; BUFFER],
         }
     }
 
-    /// The record that was read last. Before the first, and after a refusal, it says nothing.
+    /// Returns the record read last. It is unspecified before the first record and after an error.
     #[inline]
     pub fn record(&self) -> &Record
-        ensures { entry_of result.now ≡ self.now.entry }
+        ensures { raw_record result.now ≡ self.now.entry }
     {
         &self.record
     }
 
-    /// Keeps no bytes of the file that was read last.
+    /// Empties the buffer.
     pub fn forget(&mut self)
         ensures { self.new.ahead ≡ [] }
     {
-        self.held = 0;
+        self.buffered = 0;
     }
 
-    /// Reads ahead from a place of a file on.
+    /// Refills the buffer from offset `at` of a file. After an error the buffer is empty.
     fn refill<S: Store>(
         &mut self,
         store: &mut S,
@@ -109,24 +109,24 @@ impl RecordReader {
     ) -> Result<(), ObjectFault>
         ensures read { IfSome (S.files store.old)
             (λ m. Refines is_system_error (λ _. self.new.ahead) result
-            (in_file (map.get m name.now) (λ bytes. Ok (take 8192 (bytes_before bytes at limit))))) }
+            (in_file (map.get m name.now) (λ bytes. Ok (take 8192 (bytes_between bytes at limit))))) }
         ensures frame { StoreFrame S.files S.failures S.last_failure FileError name.now store.old store.new
             result }
         ensures within { IsErrOf result ObjectFault.FileError → at ≤ limit → FailedWithin (S.last_failure store.new) name.now at limit }
         ensures at_last_count { FailsAtLastCount is_system_error (S.failures store.old) result }
         ensures begin { OnOk result (self.new.begin ≡ at) }
         ensures none { OnErr result (self.new.ahead ≡ []) }
-        ensures room { OnOk result (length self.new.ahead ≤ limit - at) }
+        ensures remaining { OnOk result (length self.new.ahead ≤ limit - at) }
     {
-        self.held = 0;
-        let held = read_room(store, name, at, limit, &mut self.buffer)?;
+        self.buffered = 0;
+        let buffered = read_within_limit(store, name, at, limit, &mut self.buffer)?;
         self.begin = at;
-        self.held = held;
+        self.buffered = buffered;
         Ok(())
     }
 
-    /// Reads the record of an object of this version at a place of a file, and answers where the next begins. What the
-    /// reader keeps has to be of this file.
+    /// Reads the record at an offset of a file, in an object of this version. Returns the offset of the next record.
+    /// The buffer must be empty or contain bytes of this file.
     pub fn read<S: Store>(
         &mut self,
         store: &mut S,
@@ -147,23 +147,23 @@ impl RecordReader {
         ensures bound { IfOk result (λ n. (n ≡ at + 3 + length self.new.entry.body) × (n ≤ limit) ×
             (n ≤ file_limit)) }
     {
-        let kept = from_place(front(&self.buffer, self.held), self.begin, at);
-        let kept = front(kept, limit.saturating_sub(at) as usize);
-        if has_record(kept) {
-            return decode(&mut self.record, version, kept, at);
+        let available = bytes_from(first_bytes(&self.buffer, self.buffered), self.begin, at);
+        let available = first_bytes(available, limit.saturating_sub(at) as usize);
+        if has_record(available) {
+            return decode(&mut self.record, version, available, at);
         }
         self.refill(store, name, at, limit)?;
         decode(
             &mut self.record,
             version,
-            front(&self.buffer, self.held),
+            first_bytes(&self.buffer, self.buffered),
             at,
         )
     }
 }
 
-/// Reads a record of an object of this version, and answers where the next begins. For one record: a
-/// `RecordReader` reads many with less work.
+/// Reads the record at an offset of a file, in an object of this version. Returns it and the offset of the next
+/// record. To read many records, a `RecordReader` is faster.
 pub fn read_record<S: Store>(
     store: &mut S,
     name: &str,
@@ -172,7 +172,7 @@ pub fn read_record<S: Store>(
     limit: u64,
 ) -> Result<(Record, u64), ObjectFault>
     ensures read { IfSome (S.files store.old)
-        (λ m. Refines is_system_error (λ x. (entry_of x.0, x.1)) result
+        (λ m. Refines is_system_error (λ x. (raw_record x.0, x.1)) result
         (in_file (map.get m name.now) (record_at version at limit))) }
     ensures frame { StoreFrame S.files S.failures S.last_failure FileError name.now store.old store.new
         result }

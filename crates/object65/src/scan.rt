@@ -1,18 +1,20 @@
-//! Items from records, without an object: what a scan keeps of the records taken.
+//! Decodes records into items, without building an object.
 
 ghost use Rattle.std.specs.Prelude.{◌≡◌, ◌≤◌, ◌++◌, ◌∷◌, [], ◌&&◌, length, map, not, Ok, IfOk, OnOk, true, false, OnErr, Err};
 ghost use Rattle.std.specs.List.{list_all};
 ghost use Rattle.object65.specs.Bodies.{export_of, assert_of, action_of};
-ghost use Rattle.object65.specs.Record.{Refines, is_memory, entry_of, is_version};
+ghost use Rattle.object65.specs.Record.{Refines, is_memory, raw_record, is_version};
 ghost use Rattle.object65.specs.Items.{has_small_text, with_item};
 ghost use Rattle.object65.specs.Objects.{file_name_limit};
 ghost use Rattle.object65.specs.Small.{is_small_text};
-ghost use Rattle.object65.specs.Scanning.{scan_file, scan_import, scan_export, scan_assert, IsWithin, outline_of, scan_end, scan_step, State, after, start};
+ghost use Rattle.object65.specs.Scanning.{scan_file, scan_import, scan_export, scan_assert, IsWithinLimits, outline_of, scan_end, scan_step, State, state_after_record, start};
 ghost use Rattle.object65.specs.Internal.Sound.{outline_in, IsWellFormedOutline, RefinesScan};
 
-use crate::filling::{check_form, check_open_form, check_parts};
-use crate::forming::{byte_at, form_of, origin_at, text_of};
-use crate::taking::{Names, add_name, all_full, check, check_file_name, check_name, take_record};
+use crate::body_decoding::{byte_at, counted_text, form_of, origin_at};
+use crate::fragment_decoding::{check_form, check_indices, check_open_form};
+use crate::scan_steps::{
+    Names, accept_record, add_name, all_full, check, check_file_name, check_name,
+};
 use crate::{Action, Assert, Export, Item, ObjectFault, Record};
 use base65::{ListVec, Seed};
 use indexmap::IndexSet;
@@ -21,7 +23,7 @@ use std::marker::Model;
 
 /// The last part of a section, as far as it decides which records may follow.
 #[derive(Clone, Copy)]
-pub enum Last {
+pub enum LastFragment {
     /// A literal record that isn't full; no literal may follow it.
     Short,
     /// A fill; no fill may follow it.
@@ -30,17 +32,17 @@ pub enum Last {
     Other,
 }
 
-/// A section in the making without its bytes.
+/// How far an unfinished section is filled, without its bytes.
 #[derive(Clone, Copy)]
 pub struct SectionFill {
-    /// The size that the section will have, in bytes.
+    /// The size of the finished section, in bytes.
     pub size: u32,
-    /// The bytes so far.
+    /// The number of bytes so far.
     pub filled: u32,
-    pub last: Last,
+    pub last: LastFragment,
 }
 
-/// The facts that a scan keeps of the records taken: names and sizes, and no fragment.
+/// The state of a scan: the names and sizes in the records so far, but no fragments.
 #[derive(Drop)]
 pub struct ScanState {
     pub alloc: Global,
@@ -51,83 +53,83 @@ pub struct ScanState {
     pub imports: Names,
     /// The names of the sections.
     pub sections: Names,
-    pub rooms: Vec<SectionFill>,
-    /// Whether a fragment was taken.
-    pub begun: bool,
-    /// The sections before this place are full.
-    pub filling: usize,
+    pub fills: Vec<SectionFill>,
+    /// Whether there was a fragment.
+    pub has_fragment: bool,
+    /// An index before which all sections are full.
+    pub search_start: usize,
     /// The names of the exports.
     pub exports: Names,
-    /// Whether an assertion was taken.
-    pub asserting: bool,
+    /// Whether there was an assertion.
+    pub has_assert: bool,
     pub ended: bool,
 }
 
-/// Takes a FILE.
+/// Scans a FILE.
 #[tactic(auto, unfolding(crate::specs::Scanning::scan_file))]
-pub fn take_file(kept: &mut ScanState, body: &[u8]) -> Result<Item, ObjectFault>
-    requires sound { IsWellFormedOutline kept.old }
+pub fn accept_file(scan_state: &mut ScanState, body: &[u8]) -> Result<Item, ObjectFault>
+    requires sound { IsWellFormedOutline scan_state.old }
     requires short { length body.now ≤ file_name_limit }
-    ensures { RefinesScan kept.old kept.new result (scan_file (outline_in kept.old) body.now) }
+    ensures { RefinesScan scan_state.old scan_state.new result (scan_file (outline_in scan_state.old) body.now) }
 {
     check(
-        kept.imports.len() == 0
-            && kept.rooms.len() == 0
-            && kept.exports.len() == 0
-            && !kept.asserting,
+        scan_state.imports.len() == 0
+            && scan_state.fills.len() == 0
+            && scan_state.exports.len() == 0
+            && !scan_state.has_assert,
         ObjectFault::OutOfOrder,
     )?;
-    check_file_name(&kept.files, body)?;
-    add_name(kept.alloc, &mut kept.files, body)?;
-    let name = ListVec::copy_of(kept.alloc, body)?;
+    check_file_name(&scan_state.files, body)?;
+    add_name(scan_state.alloc, &mut scan_state.files, body)?;
+    let name = ListVec::copy_of(scan_state.alloc, body)?;
     Ok(Item::File(name))
 }
 
-/// Takes an IMPORT.
+/// Scans an IMPORT.
 #[tactic(auto, unfolding(crate::specs::Scanning::scan_import))]
-pub fn take_import(kept: &mut ScanState, body: &[u8]) -> Result<Item, ObjectFault>
-    requires { IsWellFormedOutline kept.old }
-    ensures { RefinesScan kept.old kept.new result (scan_import (outline_in kept.old) body.now) }
+pub fn accept_import(scan_state: &mut ScanState, body: &[u8]) -> Result<Item, ObjectFault>
+    requires { IsWellFormedOutline scan_state.old }
+    ensures { RefinesScan scan_state.old scan_state.new result (scan_import (outline_in scan_state.old) body.now) }
 {
     check(
-        kept.rooms.len() == 0 && kept.exports.len() == 0 && !kept.asserting,
+        scan_state.fills.len() == 0 && scan_state.exports.len() == 0 && !scan_state.has_assert,
         ObjectFault::OutOfOrder,
     )?;
-    check_name(&kept.imports, body)?;
-    add_name(kept.alloc, &mut kept.imports, body)?;
-    let name = ListVec::copy_of(kept.alloc, body)?;
+    check_name(&scan_state.imports, body)?;
+    add_name(scan_state.alloc, &mut scan_state.imports, body)?;
+    let name = ListVec::copy_of(scan_state.alloc, body)?;
     Ok(Item::Import(name))
 }
 
-/// The name, the origin and the form in the body of an EXPORT.
+/// Decodes the body of an EXPORT: its name, its origin and its form.
 #[tactic(auto, unfolding(crate::specs::Bodies::export_of))]
 fn read_export(alloc: Global, version: u8, body: &[u8]) -> Result<Export, ObjectFault>
     ensures { Refines is_memory (λ e. e) result (export_of version body.now) }
 {
-    let (name, rest) = text_of(body)?;
+    let (name, rest) = counted_text(body)?;
     let (origin, rest) = origin_at(version, rest)?;
     let form = form_of(alloc, rest)?;
     let name = ListVec::copy_of(alloc, name)?;
     Ok(Export { name, origin, form })
 }
 
-/// Takes an EXPORT.
+/// Scans an EXPORT.
 #[tactic(auto, unfolding(crate::specs::Scanning::scan_export))]
-pub fn take_export(kept: &mut ScanState, body: &[u8]) -> Result<Item, ObjectFault>
-    requires { IsWellFormedOutline kept.old }
-    ensures { RefinesScan kept.old kept.new result (scan_export (outline_in kept.old) body.now) }
+pub fn accept_export(scan_state: &mut ScanState, body: &[u8]) -> Result<Item, ObjectFault>
+    requires { IsWellFormedOutline scan_state.old }
+    ensures { RefinesScan scan_state.old scan_state.new result (scan_export (outline_in scan_state.old) body.now) }
 {
-    let full = all_full(kept);
-    check(full && !kept.asserting, ObjectFault::OutOfOrder)?;
-    let Export { name, origin, form } = read_export(kept.alloc, kept.version, body)?;
-    check_parts(kept, origin, &form)?;
-    check_name(&kept.exports, name.as_slice())?;
+    let full = all_full(scan_state);
+    check(full && !scan_state.has_assert, ObjectFault::OutOfOrder)?;
+    let Export { name, origin, form } = read_export(scan_state.alloc, scan_state.version, body)?;
+    check_indices(scan_state, origin, &form)?;
+    check_name(&scan_state.exports, name.as_slice())?;
     check_form(&form)?;
-    add_name(kept.alloc, &mut kept.exports, name.as_slice())?;
+    add_name(scan_state.alloc, &mut scan_state.exports, name.as_slice())?;
     Ok(Item::Export { name, origin, form })
 }
 
-/// The action of a code.
+/// Decodes the code of an action.
 fn action_at(code: u8) -> Result<Action, ObjectFault>
     ensures { result ≡ action_of code }
 {
@@ -138,16 +140,16 @@ fn action_at(code: u8) -> Result<Action, ObjectFault>
     }
 }
 
-/// Reads the body of an ASSERT.
+/// Decodes the body of an ASSERT: its action, its origin, its text and its form.
 #[tactic(auto, unfolding(crate::specs::Bodies::assert_of))]
 fn read_assert(alloc: Global, version: u8, body: &[u8]) -> Result<Assert, ObjectFault>
-    ensures said { Refines is_memory (λ a. a) result (assert_of version body.now) }
+    ensures value { Refines is_memory (λ a. a) result (assert_of version body.now) }
     ensures short { IfOk result (λ a. is_small_text a.text ≡ true) }
 {
     let (code, rest) = byte_at(body)?;
     let action = action_at(code)?;
     let (origin, rest) = origin_at(version, rest)?;
-    let (text, rest) = text_of(rest)?;
+    let (text, rest) = counted_text(rest)?;
     let form = form_of(alloc, rest)?;
     let text = ListVec::copy_of(alloc, text)?;
     Ok(Assert {
@@ -158,22 +160,22 @@ fn read_assert(alloc: Global, version: u8, body: &[u8]) -> Result<Assert, Object
     })
 }
 
-/// Takes an ASSERT.
+/// Scans an ASSERT.
 #[tactic(auto, unfolding(crate::specs::Scanning::scan_assert))]
-pub fn take_assert(kept: &mut ScanState, body: &[u8]) -> Result<Item, ObjectFault>
-    requires { IsWellFormedOutline kept.old }
-    ensures { RefinesScan kept.old kept.new result (scan_assert (outline_in kept.old) body.now) }
+pub fn accept_assert(scan_state: &mut ScanState, body: &[u8]) -> Result<Item, ObjectFault>
+    requires { IsWellFormedOutline scan_state.old }
+    ensures { RefinesScan scan_state.old scan_state.new result (scan_assert (outline_in scan_state.old) body.now) }
 {
-    check(all_full(kept), ObjectFault::OutOfOrder)?;
+    check(all_full(scan_state), ObjectFault::OutOfOrder)?;
     let Assert {
         action,
         origin,
         text,
         form,
-    } = read_assert(kept.alloc, kept.version, body)?;
-    check_parts(kept, origin, &form)?;
+    } = read_assert(scan_state.alloc, scan_state.version, body)?;
+    check_indices(scan_state, origin, &form)?;
     check_open_form(&form)?;
-    kept.asserting = true;
+    scan_state.has_assert = true;
     Ok(Item::Assert {
         action,
         origin,
@@ -182,10 +184,10 @@ pub fn take_assert(kept: &mut ScanState, body: &[u8]) -> Result<Item, ObjectFaul
     })
 }
 
-/// Takes the records of an object as a `Builder` does, but keeps names and sizes alone: what a record says is
-/// handed out as an item.
+/// A scan of the records of an object. It accepts the same records as a `Builder`, but stores only names and
+/// sizes: the contents of each record are returned as an item.
 pub struct Scan {
-    kept: ScanState,
+    scan_state: ScanState,
     failed: bool,
 }
 
@@ -193,25 +195,28 @@ impl Model for Scan {
     ghost use Rattle.std.specs.Prelude.{◌≡◌, false};
     ghost use Rattle.std.specs.Coded.{codes};
     ghost use Rattle.object65.specs.Scanning.{Outline};
-    ghost use Rattle.object65.specs.Internal.Sound.{outline_in, IsIntact};
+    ghost use Rattle.object65.specs.Internal.Sound.{outline_in, ScanInvariant};
 
     ghost Value = { Outline };
 
     ghost coded = { Prim.hlevel codes };
 
-    ghost view = { λ s. record (outline_in s.kept) { failed = s.failed } };
+    ghost view = { λ s. record (outline_in s.scan_state) { failed = s.failed } };
 
-    ghost invariant = { λ s. s.failed ≡ false → IsIntact s.kept };
+    ghost invariant = { λ s. s.failed ≡ false → ScanInvariant s.scan_state };
 }
 
 impl Drop for Scan {
     fn drop(self) {
-        let Scan { kept: _, failed: _ } = self;
+        let Scan {
+            scan_state: _,
+            failed: _,
+        } = self;
     }
 }
 
 impl Scan {
-    /// A scan of an object of this version that has taken no record.
+    /// Creates a scan of an object of this version, before its first record.
     pub fn new(alloc: Global, version: u8) -> Self
         requires { is_version version ≡ true }
         ensures { result ≡ outline_of (start version) }
@@ -219,83 +224,83 @@ impl Scan {
         Scan::seeded(alloc, Seed::default(), version)
     }
 
-    /// The same, whose tables of names begin with a seed.
+    /// Creates a scan like `new`, with this seed for the hash tables of names.
     pub fn seeded(alloc: Global, seed: Seed, version: u8) -> Self
         requires { is_version version ≡ true }
         ensures { result ≡ outline_of (start version) }
     {
         Scan {
-            kept: ScanState {
+            scan_state: ScanState {
                 alloc,
                 version,
                 files: IndexSet::with_hasher(alloc, seed),
                 imports: IndexSet::with_hasher(alloc, seed),
                 sections: IndexSet::with_hasher(alloc, seed),
-                rooms: Vec::new(alloc),
-                begun: false,
-                filling: 0,
+                fills: Vec::new(alloc),
+                has_fragment: false,
+                search_start: 0,
                 exports: IndexSet::with_hasher(alloc, seed),
-                asserting: false,
+                has_assert: false,
                 ended: false,
             },
             failed: false,
         }
     }
 
-    /// Takes the next record, where a `Builder` takes it, and answers what it says. After a refusal each call
-    /// answers that it failed before.
+    /// Scans the next record and returns its item. It accepts the same records as a `Builder`. After an error
+    /// each call returns `FailedBefore`.
     pub fn take(&mut self, next: &Record) -> Result<Item, ObjectFault>
         ensures scanned { Refines is_memory (λ item. (self.new, item)) result
-            (scan_step self.old (entry_of next.now)) }
-        // For each object in the making that it stands for, the item is what the record adds to it.
+            (scan_step self.old (raw_record next.now)) }
+        // For each builder's state with this outline, the record has the effect of its item.
         ensures taken { (s : State) → self.old ≡ outline_of s →
-            Refines is_memory (λ item. with_item s item) result (after s (entry_of next.now)) }
+            Refines is_memory (λ item. with_item s item) result (state_after_record s (raw_record next.now)) }
         ensures kept { (s : State) → self.old ≡ outline_of s →
             IfOk result (λ item. self.new ≡ outline_of (with_item s item)) }
-        ensures within { IfOk result (λ item. IsWithin self.old item) }
+        ensures within { IfOk result (λ item. IsWithinLimits self.old item) }
         ensures failed { OnErr result (self.new.failed ≡ true) }
-        ensures again { self.old.failed ≡ true → result ≡ Err ObjectFault.FailedBefore }
+        ensures failed_before { self.old.failed ≡ true → result ≡ Err ObjectFault.FailedBefore }
     {
         self.advance(next)
     }
 
-    /// Takes the next record.
+    /// Scans the next record.
     #[tactic(auto, unfolding(crate::specs::Scanning::scan_step))]
     fn advance(&mut self, next: &Record) -> Result<Item, ObjectFault>
         ensures scanned { Refines is_memory (λ item. (self.new, item)) result
-            (scan_step self.old (entry_of next.now)) }
-        ensures within { IfOk result (λ item. IsWithin self.old item) }
+            (scan_step self.old (raw_record next.now)) }
+        ensures within { IfOk result (λ item. IsWithinLimits self.old item) }
         ensures failed { OnErr result (self.new.failed ≡ true) }
-        ensures again { self.old.failed ≡ true → result ≡ Err ObjectFault.FailedBefore }
+        ensures failed_before { self.old.failed ≡ true → result ≡ Err ObjectFault.FailedBefore }
     {
         if self.failed {
             return Err(ObjectFault::FailedBefore);
         }
-        // It stays so where the record is refused.
+        // It stays set if the record is rejected.
         self.failed = true;
-        if self.kept.ended {
+        if self.scan_state.ended {
             return Err(ObjectFault::OutOfOrder);
         }
-        let item = take_record(&mut self.kept, next)?;
+        let item = accept_record(&mut self.scan_state, next)?;
         self.failed = false;
         Ok(item)
     }
 
-    /// Returns whether the END was taken.
+    /// Returns whether the END was scanned.
     pub fn is_ended(&self) -> bool
         ensures { result ≡ self.now.ended }
     {
-        self.kept.ended
+        self.scan_state.ended
     }
 
-    /// Refuses an object whose END was not taken.
+    /// Rejects an object without an END as cut short.
     pub fn finish(self) -> Result<(), ObjectFault>
         ensures { result ≡ scan_end self }
     {
         if self.failed {
             return Err(ObjectFault::FailedBefore);
         }
-        if !self.kept.ended {
+        if !self.scan_state.ended {
             return Err(ObjectFault::CutShort);
         }
         Ok(())

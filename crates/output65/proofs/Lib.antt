@@ -1,3 +1,3 @@
-pub mod Exactly
+pub mod ExactEffects
 pub mod Texts
-pub mod Stopped
+pub mod WriteFailureLemmas

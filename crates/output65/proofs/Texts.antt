@@ -11,9 +11,9 @@ use Rattle.std.specs.Cmp.Lexicographic.{slice_cmp, nat_list_cmp_total}
 use Rattle.base65.specs.Store.{Files, RelatesFiles, NoneFailed, HasFailed, AppendsToFile as Appended}
 use Rattle.base65.specs.declared.store.StoreFault.{StoreFault}
 use Rattle.base65.specs.declared.store.StoreFault.TheVariants.{OutOfMemory, FileNotFound, FileError}
-use Rattle.output65.specs.RunEffects.{PrintsText, SaysBoth, IsPartly, apply, StopsAt, StopsShort, Streams, streams, SaysAfter, took_both, is_failure, is_file_error}
+use Rattle.output65.specs.RunEffects.{PrintsText, PrintsBothTexts, IsPartlyWritten, with_outputs, WritesPrefix, HasMemoryFailure, Streams, streams, PrintsMessage, has_accepted_both, is_failure, is_file_error}
 use Rattle.output65.specs.declared.writing.WriteError.{WriteError}
-use Rattle.base65.proofs.Filling.{take-add}
+use Rattle.base65.proofs.BufferFill.{take-add}
 use Rattle.output65.specs.declared.outcome.Outcome.{Outcome}
 use Rattle.output65.specs.declared.outcome.Status.{Status}
 use Rattle.output65.specs.declared.outcome.Status.TheVariants.{Failure}
@@ -70,10 +70,10 @@ written_more (Some o) None new name bytes rest n p q = absurd p
 written_more (Some o) (Some m) None name bytes rest n p q = absurd q
 written_more (Some o) (Some m) (Some x) name bytes rest n p q =
     let was : map.get m name ≡ Some p.0 = ap (λ (w : Files). map.get w name) p.2 ∙ got o name p.0 in
-    let same : q.0 ≡ p.0 = cc (q.1.was, was) in (
+    let same : q.0 ≡ p.0 = cc (q.1.existing, was) in (
       p.0 ++ take n rest,
       p.1 ∙ ap (λ xs. p.0 ++ xs) (sym (take-append-drop n rest)) ∙ sym (append_assoc p.0 (take n rest) (drop n rest)),
-      q.1.grown ∙ ap (λ xs. map.insert m name (xs ++ take n rest)) same ∙ ap (λ (w : Files). map.insert w name (p.0 ++ take n rest)) p.2 ∙ replaced o name p.0 (p.0 ++ take n rest),
+      q.1.extended ∙ ap (λ xs. map.insert m name (xs ++ take n rest)) same ∙ ap (λ (w : Files). map.insert w name (p.0 ++ take n rest)) p.2 ∙ replaced o name p.0 (p.0 ++ take n rest),
     )
 
 unchanged : (e : StoreFault) (m x : Files) (name rest : List ℕ) → Appended m name rest x (Err e) → x ≡ m
@@ -82,7 +82,7 @@ unchanged FileNotFound m x name rest h = h.1
 unchanged FileError m x name rest h = h
 
 -- a file that is left in part
-pub written_part : (e : StoreFault) (known mid new : Option Files) (name bytes rest : List ℕ) → RelatesFiles (λ old m. Writing old name bytes rest m) known mid → RelatesFiles (λ m x. Appended m name rest x (Err e)) mid new → RelatesFiles (λ old x. IsPartly old name bytes x) known new
+pub written_part : (e : StoreFault) (known mid new : Option Files) (name bytes rest : List ℕ) → RelatesFiles (λ old m. Writing old name bytes rest m) known mid → RelatesFiles (λ m x. Appended m name rest x (Err e)) mid new → RelatesFiles (λ old x. IsPartlyWritten old name bytes x) known new
 written_part e None mid new name bytes rest p q = tt
 written_part e (Some o) None new name bytes rest p q = absurd p
 written_part e (Some o) (Some m) None name bytes rest p q = absurd q
@@ -107,18 +107,18 @@ still_there e (Some o) None new name bytes rest p q = absurd p
 still_there e (Some o) (Some m) None name bytes rest p q = absurd q
 still_there e (Some o) (Some m) (Some x) name bytes rest p q = λ h. begun_there e o m x name bytes rest p q (let same : e ≡ FileNotFound = cc in same)
 
-apply-append : (os : List OutputFile) (o : OutputFile) (m : Files) → apply (os ++ o ∷ []) m ≡ map.insert (apply os m) o.name o.bytes
-apply-append [] o m = refl
-apply-append (p ∷ os) o m = apply-append os o (map.insert m p.name p.bytes)
+with_outputs-append : (os : List OutputFile) (o : OutputFile) (m : Files) → with_outputs (os ++ o ∷ []) m ≡ map.insert (with_outputs os m) o.name o.bytes
+with_outputs-append [] o m = refl
+with_outputs-append (p ∷ os) o m = with_outputs-append os o (map.insert m p.name p.bytes)
 
 -- one more output
-pub next_output : (known mid new : Option Files) (outputs : List OutputFile) (i : ℕ) (o : OutputFile) → i < length outputs → o ≡ get_or outputs i o → RelatesFiles (λ old m. m ≡ apply (take i outputs) old) known mid → RelatesFiles (λ m n. n ≡ map.insert m o.name o.bytes) mid new → RelatesFiles (λ old n. n ≡ apply (take (i + 1) outputs) old) known new
+pub next_output : (known mid new : Option Files) (outputs : List OutputFile) (i : ℕ) (o : OutputFile) → i < length outputs → o ≡ get_or outputs i o → RelatesFiles (λ old m. m ≡ with_outputs (take i outputs) old) known mid → RelatesFiles (λ m n. n ≡ map.insert m o.name o.bytes) mid new → RelatesFiles (λ old n. n ≡ with_outputs (take (i + 1) outputs) old) known new
 next_output None mid new outputs i o h is p q = tt
 next_output (Some a) None new outputs i o h is p q = absurd p
 next_output (Some a) (Some m) None outputs i o h is p q = absurd q
 next_output (Some a) (Some m) (Some n) outputs i o h is p q =
     let more : take (i + 1) outputs ≡ take i outputs ++ o ∷ [] = take_more outputs i o h ∙ ap (λ (e : OutputFile). take i outputs ++ e ∷ []) (sym is) in
-    q ∙ ap (λ (w : Files). map.insert w o.name o.bytes) p ∙ sym (apply-append (take i outputs) o a) ∙ ap (λ (os : List OutputFile). apply os a) (sym more)
+    q ∙ ap (λ (w : Files). map.insert w o.name o.bytes) p ∙ sym (with_outputs-append (take i outputs) o a) ∙ ap (λ (os : List OutputFile). with_outputs os a) (sym more)
 
 said_more : (old mid new : Option (List ℕ)) (text more : List ℕ) (whole : Bool) → PrintsText old mid text true → PrintsText mid new more whole → PrintsText old new (text ++ more) whole
 said_more None mid new text more true p q = tt
@@ -178,26 +178,26 @@ both_took false true h = absurd cc
 both_took true err h = absurd cc
 
 -- what is said behind the texts of both
-pub after_both : (io mid : Streams) (out err fault : List ℕ) → mid ≡ streams io.out_old io.out_new io.out_refused io.err_old mid.err_new mid.err_refused → took_both mid ≡ true → SaysBoth mid out err → PrintsText mid.err_new io.err_new fault (not io.err_refused) → SaysAfter io out err fault
+pub after_both : (io mid : Streams) (out err fault : List ℕ) → mid ≡ streams io.out_old io.out_new io.out_failed io.err_old mid.err_new mid.err_failed → has_accepted_both mid ≡ true → PrintsBothTexts mid out err → PrintsText mid.err_new io.err_new fault (not io.err_failed) → PrintsMessage io out err fault
 after_both io mid out err fault same took printed more =
-    let none = both_took mid.out_refused mid.err_refused took in
-    let taken : io.out_refused ≡ false = sym (ap (λ (x : Streams). x.out_refused) same) ∙ none.0 in
+    let none = both_took mid.out_failed mid.err_failed took in
+    let taken : io.out_failed ≡ false = sym (ap (λ (x : Streams). x.out_failed) same) ∙ none.0 in
     record {
       err_mid = mid.err_new;
-      printed = subst (λ (b : Bool). SaysBoth (streams io.out_old io.out_new io.out_refused io.err_old mid.err_new b) out err) none.1 (subst (λ (x : Streams). SaysBoth x out err) same printed);
-      taken = taken;
+      printed = subst (λ (b : Bool). PrintsBothTexts (streams io.out_old io.out_new io.out_failed io.err_old mid.err_new b) out err) none.1 (subst (λ (x : Streams). PrintsBothTexts x out err) same printed);
+      accepted = taken;
       following = more;
     }
 
 -- outputs that aren't all written
-pub short : (known new : Option Files) (fo fm fn : ℕ) (o : Outcome) (memory : List ℕ) (u : WriteError) (io : Streams) (status : Status) (P : Files → Type 0) → status ≡ Failure → fo ≤ fm → fm ≡ fn → (is_failure u ≡ true → HasFailed fo fm) → IfSome known (λ m. u.fault ≡ FileNotFound → ⊥) → RelatesFiles (StopsAt o.outputs u.index) known new → (u.fault ≡ OutOfMemory → SaysAfter io o.out o.err memory) → IfSome known (λ m. NoneFailed fo fn → P m ⊎ StopsShort o memory m new io status)
+pub short : (known new : Option Files) (fo fm fn : ℕ) (o : Outcome) (memory : List ℕ) (u : WriteError) (io : Streams) (status : Status) (P : Files → Type 0) → status ≡ Failure → fo ≤ fm → fm ≡ fn → (is_failure u ≡ true → HasFailed fo fm) → IfSome known (λ m. u.fault ≡ FileNotFound → ⊥) → RelatesFiles (WritesPrefix o.outputs u.index) known new → (u.fault ≡ OutOfMemory → PrintsMessage io o.out o.err memory) → IfSome known (λ m. NoneFailed fo fn → P m ⊎ HasMemoryFailure o memory m new io status)
 short None new fo fm fn o memory u io status P e later same cause there left printed = tt
 short (Some m) new fo fm fn o memory u io status P e later same cause there left printed = λ none.
     let want : u.fault ≡ OutOfMemory = by_cause u (not_failed (is_failure u) refl none) there in
     inr (record {
       printed = printed want;
       index = u.index;
-      left = left;
+      file_effects = left;
       failed = e;
     })
   where

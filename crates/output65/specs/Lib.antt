@@ -1,6 +1,6 @@
 pub mod Laws
 pub mod RunEffects
-pub mod Left
+pub mod CountedEffects
 pub mod Outputs
 pub mod WriteFailures
 pub mod Stream

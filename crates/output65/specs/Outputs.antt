@@ -4,11 +4,11 @@ use Rattle.base65.specs.declared.output.OutputFile.{OutputFile}
 use Rattle.output65.specs.declared.outcome.Outcome.{Outcome}
 use Rattle.output65.specs.declared.outcome.Status.TheVariants.{Failure}
 
--- a command that only says why
-abbrev pub failing : List ℕ → Outcome
-failing message = record { out = []; err = message; outputs = []; status = Failure }
+-- the outcome of a command that fails with this message
+abbrev pub error_outcome : List ℕ → Outcome
+error_outcome message = record { out = []; err = message; outputs = []; status = Failure }
 
--- the file of a name, or none where the name is empty
+-- the file with this name, or none if the name is empty
 abbrev pub outputs_of : List ℕ → List ℕ → List OutputFile
 outputs_of name bytes = if length name == 0 then [] else record { name = name; bytes = bytes } ∷ []
 

@@ -3,7 +3,7 @@ use Rattle.std.specs.Prelude.{◌≡◌, ℕ, List, ◌∷◌, [], codes, slice_
 use Rattle.base65.specs.Store.{Files, FailedOn, RelatesFiles, LastFailure}
 use Rattle.base65.specs.declared.output.OutputFile.{OutputFile}
 use Rattle.cli65.specs.Messages.{concat_texts}
-use Rattle.output65.specs.RunEffects.{SaysAfter, StopsAt, Streams}
+use Rattle.output65.specs.RunEffects.{PrintsMessage, WritesPrefix, Streams}
 use Rattle.output65.specs.declared.outcome.Outcome.{Outcome}
 use Rattle.output65.specs.declared.outcome.Status.{Status}
 use Rattle.output65.specs.declared.outcome.Status.TheVariants.{Failure}
@@ -12,14 +12,14 @@ use Rattle.output65.specs.declared.outcome.Status.TheVariants.{Failure}
 abbrev pub file_error_line : List ℕ → List ℕ
 file_error_line name = concat_texts (name ∷ codes ": Error: file error\n" ∷ [])
 
--- A call failed while an outcome's files were written. Its texts were taken whole; the outputs before one are
--- written, that one in part or not at all, and no later one; the failed call requested that file; and the
--- message is printed after the texts, whole or in part.
-pub record StopsWriting (o : Outcome) (old : Files) (new : Option Files) (last_failure : LastFailure) (io : Streams) (status : Status) : Type 0 where
+-- A call failed while an outcome's files were written. The streams accepted all of its texts; the outputs
+-- before one are written, that one in part or not at all, and no later one; the failed call requested that
+-- file; and standard error accepted the message after the texts, all of it or a first part.
+pub record HasWriteFailure (o : Outcome) (old : Files) (new : Option Files) (last_failure : LastFailure) (io : Streams) (status : Status) : Type 0 where
   pub index : ℕ
-  pub left : RelatesFiles (StopsAt o.outputs index) (Some old) new
+  pub file_effects : RelatesFiles (WritesPrefix o.outputs index) (Some old) new
   pub output : OutputFile
   pub at : slice_get o.outputs index ≡ Some output
-  pub asked : FailedOn last_failure output.name
-  pub printed : SaysAfter io o.out o.err (file_error_line output.name)
+  pub requested : FailedOn last_failure output.name
+  pub printed : PrintsMessage io o.out o.err (file_error_line output.name)
   pub failed : status ≡ Failure

@@ -1,4 +1,4 @@
-//! Files on the disk.
+//! The store of files on the disk.
 
 mod read_ahead;
 
@@ -14,13 +14,13 @@ use std::{fs, io};
 
 /// A file that is being written.
 #[derive(Drop)]
-struct Writing<F> {
+struct OpenWriter<F> {
     name: PathString,
     file: F,
 }
 
-/// Files on the disk. It counts the calls that failed, and keeps the file that it read last and the one that
-/// it wrote last open, so that small reads and writes in a row cost no opening.
+/// A store of files on the disk. It counts the calls that failed. It keeps the file that it read last and
+/// the one that it wrote last open, so that consecutive small reads or writes don't open a file again.
 #[derive(Drop)]
 pub struct DiskStore<R: Files> {
     alloc: Global,
@@ -28,11 +28,11 @@ pub struct DiskStore<R: Files> {
     failures: u64,
     seed: Seed,
     reading: Option<ReadAhead<R::File>>,
-    writing: Option<Writing<R::File>>,
+    writing: Option<OpenWriter<R::File>>,
     ghost few: { failures ≤ 18446744073709551615 },
 }
 
-/// The fault of an error, which is counted unless no file is there.
+/// Converts an I/O error, and counts it as a failure unless the file doesn't exist or memory ran out.
 fn fault_of(failures: &mut u64, error: &io::Error) -> StoreFault
     requires { failures.old < 2 ^ 64 - 1 }
     ensures missing { result ≡ StoreFault.FileNotFound → failures.new ≡ failures.old }
@@ -50,7 +50,7 @@ fn fault_of(failures: &mut u64, error: &io::Error) -> StoreFault
 }
 
 impl<R: Files> DiskStore<R> {
-    /// A store that reaches files through the runtime.
+    /// Creates a store that accesses files through the runtime.
     pub fn new(alloc: Global, files: R) -> Self {
         DiskStore {
             alloc,
@@ -62,18 +62,18 @@ impl<R: Files> DiskStore<R> {
         }
     }
 
-    /// The store with a seed for tables of names.
+    /// Sets the seed for the hash tables of names.
     pub fn with_seed(mut self, seed: Seed) -> Self {
         self.seed = seed;
         self
     }
 
-    /// Opens a file to be read, unless it is the one that was read last, with the buffer of that one.
+    /// Opens a file for reading, unless it is the one that was read last. Reuses the buffer of that one.
     fn open_to_read(&mut self, name: &str) -> io::Result<()>
         ensures { self.new.failures ≡ self.old.failures }
     {
         let is_open = match &self.reading {
-            Some(reading) => reading.is_of(name),
+            Some(reading) => reading.has_name(name),
             None => false,
         };
         if !is_open {
@@ -87,8 +87,8 @@ impl<R: Files> DiskStore<R> {
         Ok(())
     }
 
-    /// Returns the file to write at its end: the one that is open, or opened anew.
-    fn writer(&mut self, name: &str) -> io::Result<Writing<R::File>>
+    /// Returns a file that is open for appending: the one that was written last, or a newly opened one.
+    fn writer(&mut self, name: &str) -> io::Result<OpenWriter<R::File>>
         ensures { self.new.failures ≡ self.old.failures }
     {
         self.reading = None;
@@ -97,7 +97,7 @@ impl<R: Files> DiskStore<R> {
             _ => {
                 let copy = PathString::copy_of(self.alloc, name)?;
                 let file = OpenOptions::new().append(true).open(&self.files, name)?;
-                Ok(Writing { name: copy, file })
+                Ok(OpenWriter { name: copy, file })
             }
         }
     }
@@ -117,19 +117,20 @@ impl<R: Files> DiskStore<R> {
         read
     }
 
-    /// Makes a file empty, and keeps it open.
-    fn begin_file(&mut self, name: &str) -> io::Result<()>
+    /// Creates an empty file, or empties an existing one, and keeps it open.
+    fn create_file(&mut self, name: &str) -> io::Result<()>
         ensures { self.new.failures ≡ self.old.failures }
     {
         self.reading = None;
         self.writing = None;
         let copy = PathString::copy_of(self.alloc, name)?;
         let file = fs::create(&self.files, name)?;
-        self.writing = Some(Writing { name: copy, file });
+        self.writing = Some(OpenWriter { name: copy, file });
         Ok(())
     }
 
-    /// Writes a piece at a file's end. Writes at least one byte unless the piece is empty.
+    /// Appends a first part of a piece to a file, and returns its length, which is 0 only if the piece is
+    /// empty.
     fn append_file(&mut self, name: &str, piece: &[u8]) -> io::Result<usize>
         ensures bound { IfOk result (λ n. n ≤ length piece.now) }
         ensures some { IfOk result (λ n. n ≡ 0 → length piece.now ≡ 0) }
@@ -170,10 +171,11 @@ impl<R: Files> Store for DiskStore<R> {
         if self.failures == u64::MAX {
             return Err(StoreFault::FileError);
         }
-        match self.begin_file(name) {
+        match self.create_file(name) {
             Ok(()) => Ok(()),
             Err(e) => {
-                // A folder that isn't there is the disk's failure too: only reading and adding miss a file.
+                // A missing folder counts as a failure too: only reading and appending report a missing
+                // file.
                 match e.kind() {
                     ErrorKind::OutOfMemory => Err(StoreFault::OutOfMemory),
                     _ => {

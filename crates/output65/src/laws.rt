@@ -1,51 +1,55 @@
-//! The effects of a run exist and are unique, given how much each stream took and how each call of the store ended.
-//! Each law is the contract of a function that does nothing.
+//! The effects of a run exist and are unique, given how much each stream accepted and how each call of the store
+//! ended. Each law is the contract of a function that does nothing.
 
-ghost use Rattle.output65.specs.Laws.{WriteNamingIsUnique, PerformsLaw, PrintsLaw, SaysAfterLaw, SaysLaw, StopsShortLaw, StopsWritingLaw, WritersPerformLaw, WritersStopLaw};
+ghost use Rattle.output65.specs.Laws.{WriteNamingIsUnique, CommitEffectsAreExact, PrintEffectsAreExact, MessageEffectsAreExact, PrintBothEffectsAreExact, MemoryFailureEffectsAreExact, WriteFailureEffectsAreExact, CommitEffectsOnWritersAreExact, MessageEffectsOnWritersAreExact};
 
-/// A stream that prints a text took some number of its bytes, and took all exactly if it reports
-/// success.
-pub fn prints_exactly()
-    ensures { PrintsLaw }
+/// A stream that prints a text accepts some number of its bytes, and reports success if and only if it accepts all.
+pub fn print_effects_are_exact()
+    ensures { PrintEffectsAreExact }
 {}
 
-/// Each stream took some number of bytes of its text, standard error none unless standard output
-/// took all.
-pub fn says_exactly()
-    ensures { SaysLaw }
+/// If two texts are printed, each stream accepts some number of bytes of its own, and standard error none unless
+/// standard output accepts all.
+pub fn print_both_effects_are_exact()
+    ensures { PrintBothEffectsAreExact }
 {}
 
-/// An outcome that is carried out leaves its files where both texts were taken, and else none.
-pub fn performs_exactly()
-    ensures { PerformsLaw }
+/// If both streams accept all of their texts, committing an outcome writes its files and returns its status.
+/// Otherwise it writes no file, and returns failure.
+pub fn commit_effects_are_exact()
+    ensures { CommitEffectsAreExact }
 {}
 
-/// After both texts standard error took some number of bytes of an error message.
-pub fn says_after_exactly()
-    ensures { SaysAfterLaw }
+/// If an error message is printed after both texts, standard error accepts some number of its bytes.
+pub fn message_effects_are_exact()
+    ensures { MessageEffectsAreExact }
 {}
 
-/// Where memory runs out at an output, those before it are written, it is in part or not at all, and no later one.
-pub fn stops_short_exactly()
-    ensures { StopsShortLaw }
+/// If memory runs out at an output, the outputs before it are written, it is written in part or not at all, and no
+/// later one is.
+pub fn memory_failure_effects_are_exact()
+    ensures { MemoryFailureEffectsAreExact }
 {}
 
-/// The same if a call of the store fails for an output; and the call requested that file.
-pub fn stops_writing_exactly()
-    ensures { StopsWritingLaw }
+/// If a call of the store fails for an output, the outputs before it are written, it is written in part or not at
+/// all, and no later one is; and the call requested its file.
+pub fn write_failure_effects_are_exact()
+    ensures { WriteFailureEffectsAreExact }
 {}
 
-/// Of two writers that tell what they hold, a run over streams says how many bytes each took, and nothing more.
-pub fn writers_perform_exactly()
-    ensures { WritersPerformLaw }
+/// In terms of the contents of two writers alone, the effects of committing an outcome are exactly these: each
+/// writer accepts some number of bytes of its text, and the files and the status are those for these numbers.
+pub fn commit_effects_on_writers_are_exact()
+    ensures { CommitEffectsOnWritersAreExact }
 {}
 
-/// The same if it stops at an output.
-pub fn writers_stop_exactly()
-    ensures { WritersStopLaw }
+/// In terms of the contents of two writers alone, the effects of printing both texts and then an error message are
+/// exactly these: the writers accept both texts, and then some number of bytes of the message.
+pub fn message_effects_on_writers_are_exact()
+    ensures { MessageEffectsOnWritersAreExact }
 {}
 
-/// A call that failed while files were written has one message, by the name that it asked for.
+/// A call that failed while files were written has one message, with the name that it requested.
 pub fn write_naming_is_unique()
     ensures { WriteNamingIsUnique }
 {}

@@ -13,9 +13,9 @@ pub enum Status {
 /// in which they are written, and the status.
 #[derive(Drop)]
 pub struct Outcome {
-    /// For standard output.
+    /// The text for standard output.
     pub out: ListVec<u8>,
-    /// For standard error.
+    /// The text for standard error.
     pub err: ListVec<u8>,
     pub outputs: ListVec<OutputFile>,
     pub status: Status,

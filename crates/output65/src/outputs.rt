@@ -1,4 +1,4 @@
-//! The files that a command leaves.
+//! The files that a command writes.
 
 ghost use Rattle.std.specs.Prelude.{◌≡◌, IfOk, option_map};
 ghost use Rattle.output65.specs.Outputs.{outputs_of, with_map};
@@ -6,7 +6,8 @@ ghost use Rattle.output65.specs.Outputs.{outputs_of, with_map};
 use base65::{ListVec, OutputFile, PathString};
 use std::alloc::{AllocError, Global};
 
-/// The file of a name, or none where the name is empty.
+/// Returns a file with this name, or none if the name is
+/// empty.
 pub fn outputs_of(
     alloc: Global,
     name: &str,

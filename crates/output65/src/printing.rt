@@ -1,4 +1,4 @@
-//! Text to a stream.
+//! Prints texts to a stream.
 
 ghost use Rattle.std.specs.Prelude.{◌≡◌, false, map, not};
 ghost use Rattle.output65.specs.RunEffects.{PrintsText};
@@ -7,8 +7,8 @@ ghost use Rattle.cli65.specs.Messages.{concat_texts};
 use crate::stream::Stream;
 use std::io::Write;
 
-/// Prints a text, and answers whether the stream took all of it. Where it didn't, it has the first part, and has refused
-/// the rest.
+/// Prints a text, and returns whether the stream accepted all of it. If it didn't, it accepted only a first part, and
+/// has failed.
 pub fn print<W: Write>(stream: &mut Stream<'_, W>, text: &[u8]) -> bool
     requires { stream.old.has_failed ≡ false }
     ensures same { stream.new.writer.ghost_name ≡ stream.old.writer.ghost_name }
@@ -26,7 +26,7 @@ pub fn print<W: Write>(stream: &mut Stream<'_, W>, text: &[u8]) -> bool
     true
 }
 
-/// Prints texts one after the other, as one text.
+/// Prints texts one after the other, as one text. Returns whether the stream accepted all of them.
 pub fn print_all<W: Write>(stream: &mut Stream<'_, W>, parts: &[&[u8]]) -> bool
     requires { stream.old.has_failed ≡ false }
     ensures same { stream.new.writer.ghost_name ≡ stream.old.writer.ghost_name }

@@ -1,4 +1,4 @@
--- A token is the longest that stands there.
+-- A token is the longest at its offset.
 use Rattle.std.proofs.lemmas.Grind.{common_steps}
 use Rattle.std.proofs.Common.{arith, ◌≡◌, ◌≤◌, ◌<◌, ℕ, zero, suc, ◌+◌, Bool, true, false, List, [], ◌∷◌, ◌++◌, length, take, drop, find, Option, Some, None, refl, sym, ap, ◌∙◌, subst, cond, eqb-true, eq-eqb, length-append, length-drop}
 use Rattle.std.specs.Option.{option_map_or}
@@ -11,11 +11,11 @@ use Rattle.std.proofs.lemmas.Bool.Decides.{nat_tests}
 use Rattle.std.proofs.lemmas.List.Folds.{length-prefix_len}
 use Rattle.std.proofs.lemmas.List.Sums.{prefix_len-le-length}
 use Rattle.base65.specs.Digit.{digits}
-use Rattle.script65.proofs.Unnamed.{find_all}
-use Rattle.script65.specs.Laws.{LongestTokens}
-use Rattle.script65.specs.Tokens.{Lexeme, IsFront, IsLongest, SpellsToken, spells_word, spells_decimal, spells_hex, spells_string, spells_output, spells_mark, word, numeral, string, output, none, is_letter, is_word_byte, is_string_byte, begins_with, string_after, hex_after, word_after, decimal_after, marks, mark}
+use Rattle.script65.proofs.ConstantSums.{find_all}
+use Rattle.script65.specs.Laws.{TokensAreLongest}
+use Rattle.script65.specs.Tokens.{Lexeme, IsLeadingToken, IsLongest, SpellsToken, spells_identifier, spells_decimal, spells_hex, spells_string, spells_output, spells_punctuator, identifier, numeral, string, output, none, is_letter, is_identifier_byte, is_string_byte, begins_with, string_after, hex_after, identifier_after, decimal_after, punctuators, punctuator}
 
--- ---- Texts whose bytes are all so.
+-- ---- Texts all of whose bytes satisfy a predicate.
 
 all_front : (p : ℕ → Bool) (xs : List ℕ) → list_all p (take_while p xs) ≡ true
 all_front p [] = refl
@@ -25,7 +25,7 @@ all_front p (x ∷ xs) = by (p x) refl (all_front p xs)
     by false e h = refl
     by true e h = let s : 1 + prefix_len p xs ≡ suc (prefix_len p xs) = omega arith in rw s (ap (λ c. c && list_all p (take (prefix_len p xs) xs)) e ∙ h)
 
--- so many bytes at the front are so
+-- m bytes at the front satisfy the predicate
 at_most : (p : ℕ → Bool) (m : ℕ) (xs : List ℕ) → m ≤ length xs → list_all p (take m xs) ≡ true → m ≤ prefix_len p xs
 at_most p zero xs le h = omega arith
 at_most p (suc m) [] le h = absurd (omega arith)
@@ -35,15 +35,15 @@ at_most p (suc m) (x ∷ xs) le h = by (p x) h (λ k. at_most p m xs (omega arit
     by true h again = omega (arith, again h)
     by false h again = absurd cc
 
--- ---- What a text that is a token begins with.
+-- ---- The first bytes of a token.
 
 pub data Begins (c : ℕ) (cs : List ℕ) : Type 0 where
-  by_word : is_letter c ≡ true → list_all is_word_byte cs ≡ true → Begins c cs
+  by_word : is_letter c ≡ true → list_all is_identifier_byte cs ≡ true → Begins c cs
   by_decimal : is_ascii_digit c ≡ true → list_all is_ascii_digit cs ≡ true → Begins c cs
   by_hex : c ≡ 36 → (d : ℕ) (ds : List ℕ) → cs ≡ d ∷ ds → list_all is_ascii_hexdigit cs ≡ true → Begins c cs
   by_string : c ≡ 34 → (text : List ℕ) → cs ≡ text ++ 34 ∷ [] → list_all is_string_byte text ≡ true → is_utf8 text ≡ true → list_any (λ b. b == 37) text ≡ false → Begins c cs
   by_output : c ≡ 37 → cs ≡ 79 ∷ [] → Begins c cs
-  by_mark : (l : Lexeme) → cs ≡ [] → find (λ (m : ℕ × Lexeme). c == m.0) marks ≡ Some (c, l) → Begins c cs
+  by_mark : (l : Lexeme) → cs ≡ [] → find (λ (m : ℕ × Lexeme). c == m.0) punctuators ≡ Some (c, l) → Begins c cs
 
 first_all : (p : ℕ → Bool) (b : ℕ) (bs : List ℕ) → list_all p (b ∷ bs) ≡ true → (p b ≡ true) × (list_all p bs ≡ true)
 first_all p b bs h = by (p b) (list_all p bs) h
@@ -54,25 +54,25 @@ first_all p b bs h = by (p b) (list_all p bs) h
     by false y h = absurd cc
 
 begins : (t : List ℕ) (k : Lexeme) → SpellsToken t k → (c : ℕ) (cs : List ℕ) → t ≡ c ∷ cs → Begins c cs
-begins _ _ (spells_word b bs h k) c cs e = let x : b ≡ c = cc in let y : bs ≡ cs = cc in by_word (ap is_letter (sym x) ∙ h) (ap (list_all is_word_byte) (sym y) ∙ k)
+begins _ _ (spells_identifier b bs h k) c cs e = let x : b ≡ c = cc in let y : bs ≡ cs = cc in by_word (ap is_letter (sym x) ∙ h) (ap (list_all is_identifier_byte) (sym y) ∙ k)
 begins _ _ (spells_decimal b bs h) c cs e = let x : b ≡ c = cc in let y : bs ≡ cs = cc in let f = first_all is_ascii_digit b bs h in by_decimal (ap is_ascii_digit (sym x) ∙ f.0) (ap (list_all is_ascii_digit) (sym y) ∙ f.1)
 begins _ _ (spells_hex b bs h) c cs e = let x : 36 ≡ c = cc in let y : b ∷ bs ≡ cs = cc in by_hex (sym x) b bs (sym y) (ap (list_all is_ascii_hexdigit) (sym y) ∙ h)
 begins _ _ (spells_string text h k m) c cs e = let x : 34 ≡ c = cc in let y : text ++ 34 ∷ [] ≡ cs = cc in by_string (sym x) text (sym y) h k m
 begins _ _ spells_output c cs e = let x : 37 ≡ c = cc in let y : 79 ∷ [] ≡ cs = cc in by_output (sym x) (sym y)
-begins _ _ (spells_mark b l h) c cs e = let x : b ≡ c = cc in let y : [] ≡ cs = cc in by_mark l (sym y) (subst (λ b. find (λ (m : ℕ × Lexeme). b == m.0) marks ≡ Some (b, l)) x h)
+begins _ _ (spells_punctuator b l h) c cs e = let x : b ≡ c = cc in let y : [] ≡ cs = cc in by_mark l (sym y) (subst (λ b. find (λ (m : ℕ × Lexeme). b == m.0) punctuators ≡ Some (b, l)) x h)
 
 apart : (x : ℕ) (xs ys : List ℕ) → xs ≡ [] → xs ≡ x ∷ ys → ⊥
 apart x xs ys e f = let never : [] ≡ x ∷ ys = sym e ∙ f in cc
 
 some_text : (t : List ℕ) (k : Lexeme) → SpellsToken t k → t ≡ [] → ⊥
-some_text _ _ (spells_word b bs h k) e = absurd cc
+some_text _ _ (spells_identifier b bs h k) e = absurd cc
 some_text _ _ (spells_decimal b bs h) e = absurd cc
 some_text _ _ (spells_hex b bs h) e = absurd cc
 some_text _ _ (spells_string text h k m) e = absurd cc
 some_text _ _ spells_output e = absurd cc
-some_text _ _ (spells_mark b l h) e = absurd cc
+some_text _ _ (spells_punctuator b l h) e = absurd cc
 
--- what is so of each text by what it begins with
+-- a property of each token's length, by its first bytes
 module _ (b : ℕ) (bs : List ℕ) (P : ℕ → Type 0) (bound : (m : ℕ) → m ≤ length bs → Begins b (take m bs) → P (suc m)) where
   by_begin : (m : ℕ) (k : Lexeme) → m ≤ length (b ∷ bs) → SpellsToken (take m (b ∷ bs)) k → P m
   by_begin zero k le h = absurd (some_text (take 0 (b ∷ bs)) k h refl)
@@ -81,7 +81,7 @@ module _ (b : ℕ) (bs : List ℕ) (P : ℕ → Type 0) (bound : (m : ℕ) → m
 none_left : (m : ℕ) (xs : List ℕ) → m ≤ length xs → take m xs ≡ [] → m ≡ 0
 none_left m xs le e = omega (arith, length-take m xs, ap length e)
 
--- ---- Bytes of which only one can be so.
+-- ---- Predicates that exclude each other.
 
 letter_no_digit : (b : ℕ) → is_letter b ≡ true → is_ascii_digit b ≡ true → ⊥
 letter_no_digit b h k = grind (arith, common_steps, nat_tests)
@@ -94,21 +94,21 @@ is_it b n e = eq-eqb b n e
 
 -- ---- Each kind of token.
 
-words : (b : ℕ) (bs : List ℕ) → is_letter b ≡ true → IsLongest (b ∷ bs) (word (b ∷ take_while is_word_byte bs)) (1 + length (take_while is_word_byte bs))
+words : (b : ℕ) (bs : List ℕ) → is_letter b ≡ true → IsLongest (b ∷ bs) (identifier (b ∷ take_while is_identifier_byte bs)) (1 + length (take_while is_identifier_byte bs))
 words b bs h = record {
-  within = omega (arith, count, prefix_len-le-length is_word_byte bs);
-  spells = subst (λ t. SpellsToken t (word (b ∷ take_while is_word_byte bs))) (sym front_is) (spells_word b (take_while is_word_byte bs) h (all_front is_word_byte bs));
-  longest = by_begin b bs (λ m. m ≤ 1 + length (take_while is_word_byte bs)) bound;
+  within = omega (arith, count, prefix_len-le-length is_identifier_byte bs);
+  spells = subst (λ t. SpellsToken t (identifier (b ∷ take_while is_identifier_byte bs))) (sym front_is) (spells_identifier b (take_while is_identifier_byte bs) h (all_front is_identifier_byte bs));
+  longest = by_begin b bs (λ m. m ≤ 1 + length (take_while is_identifier_byte bs)) bound;
 }
   where
-    count : length (take_while is_word_byte bs) ≡ prefix_len is_word_byte bs
-    count = length-prefix_len is_word_byte bs
+    count : length (take_while is_identifier_byte bs) ≡ prefix_len is_identifier_byte bs
+    count = length-prefix_len is_identifier_byte bs
 
-    front_is : take (1 + length (take_while is_word_byte bs)) (b ∷ bs) ≡ b ∷ take_while is_word_byte bs
-    front_is = let s : 1 + length (take_while is_word_byte bs) ≡ suc (prefix_len is_word_byte bs) = omega (arith, count) in rw s refl
+    front_is : take (1 + length (take_while is_identifier_byte bs)) (b ∷ bs) ≡ b ∷ take_while is_identifier_byte bs
+    front_is = let s : 1 + length (take_while is_identifier_byte bs) ≡ suc (prefix_len is_identifier_byte bs) = omega (arith, count) in rw s refl
 
-    bound : (m : ℕ) → m ≤ length bs → Begins b (take m bs) → suc m ≤ 1 + length (take_while is_word_byte bs)
-    bound m le (by_word x y) = omega (arith, count, at_most is_word_byte m bs le y)
+    bound : (m : ℕ) → m ≤ length bs → Begins b (take m bs) → suc m ≤ 1 + length (take_while is_identifier_byte bs)
+    bound m le (by_word x y) = omega (arith, count, at_most is_identifier_byte m bs le y)
     bound m le (by_decimal x y) = absurd (letter_no_digit b h x)
     bound m le (by_hex e d ds f y) = let n : is_letter 36 ≡ true = ap is_letter (sym e) ∙ h in absurd cc
     bound m le (by_string e s f x y z) = let n : is_letter 34 ≡ true = ap is_letter (sym e) ∙ h in absurd cc
@@ -136,8 +136,8 @@ decimals b bs g h = record {
     bound m le (by_output e f) = let n : is_ascii_digit 37 ≡ true = ap is_ascii_digit (sym e) ∙ h in absurd cc
     bound m le (by_mark l e f) = omega (arith, none_left m bs le e)
 
-no_mark : (b n : ℕ) (l : Lexeme) → b ≡ n → find (λ (m : ℕ × Lexeme). n == m.0) marks ≡ None → find (λ (m : ℕ × Lexeme). b == m.0) marks ≡ Some (b, l) → ⊥
-no_mark b n l e out some = let never : ◌≡◌ {A = Option (ℕ × Lexeme)} None (Some (b, l)) = sym out ∙ ap (λ n. find (λ (m : ℕ × Lexeme). n == m.0) marks) (sym e) ∙ some in absurd cc
+no_mark : (b n : ℕ) (l : Lexeme) → b ≡ n → find (λ (m : ℕ × Lexeme). n == m.0) punctuators ≡ None → find (λ (m : ℕ × Lexeme). b == m.0) punctuators ≡ Some (b, l) → ⊥
+no_mark b n l e out some = let never : ◌≡◌ {A = Option (ℕ × Lexeme)} None (Some (b, l)) = sym out ∙ ap (λ n. find (λ (m : ℕ × Lexeme). n == m.0) punctuators) (sym e) ∙ some in absurd cc
 
 apart_numbers : (m n : ℕ) → (m == n) ≡ false → m ≡ n → ⊥
 apart_numbers m n h e = true_false (m == n) (eq-eqb m n e) h
@@ -207,7 +207,7 @@ split (y ∷ ys) (c ∷ cs) (suc m) e h =
     let s : 1 + prefix_len is_string_byte cs ≡ suc (prefix_len is_string_byte cs) = omega arith in
     (ap (λ b. take (cond b (1 + prefix_len is_string_byte cs) 0) (c ∷ cs)) (ap is_string_byte x ∙ f.0) ∙ ap (λ n. take n (c ∷ cs)) s ∙ ap (λ c. c ∷ take_while is_string_byte cs) x ∙ ap (λ l. y ∷ l) more.0, more.1)
 
--- what the front of a text has, where it is a string
+-- the properties of a text that begins with a string
 record IsString (bs text : List ℕ) : Type 0 where
   pub closes : begins_with 34 (drop (length text) bs) ≡ true
   pub utf8 : is_utf8 text ≡ true
@@ -247,7 +247,7 @@ strings bs h = record {
         let s : 2 + length (take_while is_string_byte bs) ≡ suc (suc (length (take_while is_string_byte bs))) = omega arith in
         ap (λ n. take n (34 ∷ bs)) s ∙ ap (λ l. 34 ∷ l) (closed (length (take_while is_string_byte bs)) bs h.closes ∙ ap (λ n. take n bs ++ 34 ∷ []) (length-prefix_len is_string_byte bs))
 
-string_front : (bs : List ℕ) → IsFront (34 ∷ bs) (string_after (take_while is_string_byte bs) bs).0 (string_after (take_while is_string_byte bs) bs).1
+string_front : (bs : List ℕ) → IsLeadingToken (34 ∷ bs) (string_after (take_while is_string_byte bs) bs).0 (string_after (take_while is_string_byte bs) bs).1
 string_front bs = by (begins_with 34 (drop (length text) bs)) refl (is_utf8 text) refl (not (list_any (λ b. b == 37) text)) refl
   where
     text : List ℕ
@@ -259,7 +259,7 @@ string_front bs = by (begins_with 34 (drop (length text) bs)) refl (is_utf8 text
     never : (IsString bs (take_while is_string_byte bs) → ⊥) → (m : ℕ) (k : Lexeme) → m ≤ length (34 ∷ bs) → SpellsToken (take m (34 ∷ bs)) k → ⊥
     never out = by_begin 34 bs (λ m. ⊥) (λ m le b. out (string_bound bs m le b).1)
 
-    by : (x : Bool) → begins_with 34 (drop (length (take_while is_string_byte bs)) bs) ≡ x → (y : Bool) → is_utf8 (take_while is_string_byte bs) ≡ y → (z : Bool) → not (list_any (λ b. b == 37) (take_while is_string_byte bs)) ≡ z → IsFront (34 ∷ bs) (answer (x && y && z)).0 (answer (x && y && z)).1
+    by : (x : Bool) → begins_with 34 (drop (length (take_while is_string_byte bs)) bs) ≡ x → (y : Bool) → is_utf8 (take_while is_string_byte bs) ≡ y → (z : Bool) → not (list_any (λ b. b == 37) (take_while is_string_byte bs)) ≡ z → IsLeadingToken (34 ∷ bs) (answer (x && y && z)).0 (answer (x && y && z)).1
     by true h true k true l = strings bs (record { closes = h; utf8 = k; folds = l })
     by true h true k false l = never (λ s. true_false (not (list_any (λ b. b == 37) (take_while is_string_byte bs))) s.folds l)
     by true h false k z l = never (λ s. true_false (is_utf8 (take_while is_string_byte bs)) s.utf8 k)
@@ -280,10 +280,10 @@ output_bound bs m le (by_output f g) = (omega (arith, length-take m bs, ap lengt
     capital (c ∷ cs) (suc m) e = let x : c ≡ 79 = cc in eq-eqb c 79 x
 output_bound bs m le (by_mark l f g) = absurd (no_mark 37 37 l refl refl g)
 
-output_front : (bs : List ℕ) → IsFront (37 ∷ bs) (if◌then◌else◌ {A = Lexeme × ℕ} (begins_with 79 bs) (output, 2) (none, 1)).0 (if◌then◌else◌ {A = Lexeme × ℕ} (begins_with 79 bs) (output, 2) (none, 1)).1
+output_front : (bs : List ℕ) → IsLeadingToken (37 ∷ bs) (if◌then◌else◌ {A = Lexeme × ℕ} (begins_with 79 bs) (output, 2) (none, 1)).0 (if◌then◌else◌ {A = Lexeme × ℕ} (begins_with 79 bs) (output, 2) (none, 1)).1
 output_front bs = by bs (begins_with 79 bs) refl
   where
-    by : (bs : List ℕ) (x : Bool) → begins_with 79 bs ≡ x → IsFront (37 ∷ bs) (if◌then◌else◌ {A = Lexeme × ℕ} x (output, 2) (none, 1)).0 (if◌then◌else◌ {A = Lexeme × ℕ} x (output, 2) (none, 1)).1
+    by : (bs : List ℕ) (x : Bool) → begins_with 79 bs ≡ x → IsLeadingToken (37 ∷ bs) (if◌then◌else◌ {A = Lexeme × ℕ} x (output, 2) (none, 1)).0 (if◌then◌else◌ {A = Lexeme × ℕ} x (output, 2) (none, 1)).1
     by bs false h = by_begin 37 bs (λ m. ⊥) (λ m le b. true_false (begins_with 79 bs) (output_bound bs m le b).1 h)
     by [] true h = absurd cc
     by (c ∷ cs) true h =
@@ -304,10 +304,10 @@ found p (y ∷ ys) x e = by (p y) refl e (λ f. found p ys x f)
     by true h e again = let same : y ≡ x = cc in ap p (sym same) ∙ h
     by false h e again = again e
 
-mark_front : (b : ℕ) (bs : List ℕ) → is_letter b ≡ false → is_ascii_digit b ≡ false → (b == 36) ≡ false → (b == 34) ≡ false → (b == 37) ≡ false → IsFront (b ∷ bs) (mark b) 1
-mark_front b bs letter digit dollar quote percent = by (find (λ (m : ℕ × Lexeme). b == m.0) marks) refl
+mark_front : (b : ℕ) (bs : List ℕ) → is_letter b ≡ false → is_ascii_digit b ≡ false → (b == 36) ≡ false → (b == 34) ≡ false → (b == 37) ≡ false → IsLeadingToken (b ∷ bs) (punctuator b) 1
+mark_front b bs letter digit dollar quote percent = by (find (λ (m : ℕ × Lexeme). b == m.0) punctuators) refl
   where
-    bound : (m : ℕ) → m ≤ length bs → Begins b (take m bs) → (m ≡ 0) × (l : Lexeme) × (find (λ (m : ℕ × Lexeme). b == m.0) marks ≡ Some (b, l))
+    bound : (m : ℕ) → m ≤ length bs → Begins b (take m bs) → (m ≡ 0) × (l : Lexeme) × (find (λ (m : ℕ × Lexeme). b == m.0) punctuators ≡ Some (b, l))
     bound m le (by_word x y) = absurd (true_false (is_letter b) x letter)
     bound m le (by_decimal x y) = absurd (true_false (is_ascii_digit b) x digit)
     bound m le (by_hex f d ds g y) = absurd (true_false (b == 36) (eq-eqb b 36 f) dollar)
@@ -315,39 +315,39 @@ mark_front b bs letter digit dollar quote percent = by (find (λ (m : ℕ × Lex
     bound m le (by_output f g) = absurd (true_false (b == 37) (eq-eqb b 37 f) percent)
     bound m le (by_mark l f g) = (none_left m bs le f, l, g)
 
-    by : (o : Option (ℕ × Lexeme)) → find (λ (m : ℕ × Lexeme). b == m.0) marks ≡ o → IsFront (b ∷ bs) (option_map_or (λ (m : ℕ × Lexeme). m.1) o none) 1
+    by : (o : Option (ℕ × Lexeme)) → find (λ (m : ℕ × Lexeme). b == m.0) punctuators ≡ o → IsLeadingToken (b ∷ bs) (option_map_or (λ (m : ℕ × Lexeme). m.1) o none) 1
     by None h = by_begin b bs (λ m. ⊥) (λ m le x. let there = bound m le x in let never : ◌≡◌ {A = Option (ℕ × Lexeme)} None (Some (b, there.1)) = sym h ∙ there.2 in absurd cc)
     by (Some r) h =
-        let same : b ≡ r.0 = eqb-true b r.0 (found (λ (m : ℕ × Lexeme). b == m.0) marks r h) in
-        let whole : find (λ (m : ℕ × Lexeme). b == m.0) marks ≡ Some (b, r.1) = h ∙ ap (λ n. Some (n, r.1)) (sym same) in
-        find_all (λ (m : ℕ × Lexeme). IsLongest (b ∷ bs) m.1 1 → IsFront (b ∷ bs) m.1 1) (λ (m : ℕ × Lexeme). b == m.0) marks r (λ i. i, (λ i. i, (λ i. i, (λ i. i, (λ i. i, (λ i. i, (λ i. i, (λ i. i, tt)))))))) h
+        let same : b ≡ r.0 = eqb-true b r.0 (found (λ (m : ℕ × Lexeme). b == m.0) punctuators r h) in
+        let whole : find (λ (m : ℕ × Lexeme). b == m.0) punctuators ≡ Some (b, r.1) = h ∙ ap (λ n. Some (n, r.1)) (sym same) in
+        find_all (λ (m : ℕ × Lexeme). IsLongest (b ∷ bs) m.1 1 → IsLeadingToken (b ∷ bs) m.1 1) (λ (m : ℕ × Lexeme). b == m.0) punctuators r (λ i. i, (λ i. i, (λ i. i, (λ i. i, (λ i. i, (λ i. i, (λ i. i, (λ i. i, tt)))))))) h
         (record {
           within = omega arith;
-          spells = spells_mark b r.1 whole;
+          spells = spells_punctuator b r.1 whole;
           longest = by_begin b bs (λ m. m ≤ 1) (λ m le x. omega (arith, (bound m le x).0));
         })
 
-pub longest_tokens : LongestTokens
+pub longest_tokens : TokensAreLongest
 longest_tokens [] = refl
 longest_tokens (b ∷ bs) = by (is_letter b) refl (is_ascii_digit b) refl (b == 36) refl (b == 34) refl (b == 37) refl
   where
     answer : Bool → Bool → Bool → Bool → Bool → Lexeme × ℕ
     answer x y z u v =
-        if x then word_after b (take_while is_word_byte bs)
+        if x then identifier_after b (take_while is_identifier_byte bs)
         else if y then decimal_after b (take_while is_ascii_digit bs)
         else if z then hex_after (take_while is_ascii_hexdigit bs)
         else if u then string_after (take_while is_string_byte bs) bs
         else if v then (if begins_with 79 bs then (output, 2) else (none, 1))
-        else (mark b, 1)
+        else (punctuator b, 1)
 
-    hex_there : (ds : List ℕ) → take_while is_ascii_hexdigit bs ≡ ds → IsFront (36 ∷ bs) (hex_after ds).0 (hex_after ds).1
+    hex_there : (ds : List ℕ) → take_while is_ascii_hexdigit bs ≡ ds → IsLeadingToken (36 ∷ bs) (hex_after ds).0 (hex_after ds).1
     hex_there [] e = no_hex bs e
     hex_there (d ∷ ds) e = hexes d bs ds e
 
-    by : (x : Bool) → is_letter b ≡ x → (y : Bool) → is_ascii_digit b ≡ y → (z : Bool) → (b == 36) ≡ z → (u : Bool) → (b == 34) ≡ u → (v : Bool) → (b == 37) ≡ v → IsFront (b ∷ bs) (answer x y z u v).0 (answer x y z u v).1
+    by : (x : Bool) → is_letter b ≡ x → (y : Bool) → is_ascii_digit b ≡ y → (z : Bool) → (b == 36) ≡ z → (u : Bool) → (b == 34) ≡ u → (v : Bool) → (b == 37) ≡ v → IsLeadingToken (b ∷ bs) (answer x y z u v).0 (answer x y z u v).1
     by true h y i z j u k v l = words b bs h
     by false h true i z j u k v l = decimals b bs h i
-    by false h false i true j u k v l = let e : b ≡ 36 = eqb-true b 36 j in subst (λ b. IsFront (b ∷ bs) (hex_after (take_while is_ascii_hexdigit bs)).0 (hex_after (take_while is_ascii_hexdigit bs)).1) (sym e) (hex_there (take_while is_ascii_hexdigit bs) refl)
-    by false h false i false j true k v l = let e : b ≡ 34 = eqb-true b 34 k in subst (λ b. IsFront (b ∷ bs) (string_after (take_while is_string_byte bs) bs).0 (string_after (take_while is_string_byte bs) bs).1) (sym e) (string_front bs)
-    by false h false i false j false k true l = let e : b ≡ 37 = eqb-true b 37 l in subst (λ b. IsFront (b ∷ bs) (if◌then◌else◌ {A = Lexeme × ℕ} (begins_with 79 bs) (output, 2) (none, 1)).0 (if◌then◌else◌ {A = Lexeme × ℕ} (begins_with 79 bs) (output, 2) (none, 1)).1) (sym e) (output_front bs)
+    by false h false i true j u k v l = let e : b ≡ 36 = eqb-true b 36 j in subst (λ b. IsLeadingToken (b ∷ bs) (hex_after (take_while is_ascii_hexdigit bs)).0 (hex_after (take_while is_ascii_hexdigit bs)).1) (sym e) (hex_there (take_while is_ascii_hexdigit bs) refl)
+    by false h false i false j true k v l = let e : b ≡ 34 = eqb-true b 34 k in subst (λ b. IsLeadingToken (b ∷ bs) (string_after (take_while is_string_byte bs) bs).0 (string_after (take_while is_string_byte bs) bs).1) (sym e) (string_front bs)
+    by false h false i false j false k true l = let e : b ≡ 37 = eqb-true b 37 l in subst (λ b. IsLeadingToken (b ∷ bs) (if◌then◌else◌ {A = Lexeme × ℕ} (begins_with 79 bs) (output, 2) (none, 1)).0 (if◌then◌else◌ {A = Lexeme × ℕ} (begins_with 79 bs) (output, 2) (none, 1)).1) (sym e) (output_front bs)
     by false h false i false j false k false l = mark_front b bs h i j k l

@@ -1,4 +1,4 @@
--- The rows of each area, their names, and what segments need.
+-- The rows of each area, their names, and the needs of segments.
 use Rattle.std.proofs.lemmas.Grind.{common_steps}
 use Rattle.std.proofs.Common.{◌≡◌, ◌≢◌, ◌<◌, ◌≤◌, ℕ, ◌+◌, Bool, true, false, List, [], ◌∷◌, ◌++◌, length, drop, get_or, Option, Some, None, refl, sym, ap, ◌∙◌, arith, ◌-◌, cond, map, Err, nat_lt, take, position, MatchOption, length-append}
 use Rattle.std.specs.Prelude.{◌==◌, ◌||◌, if◌then◌else◌, find, codes}
@@ -6,8 +6,8 @@ use Rattle.std.specs.Option.{option_map}
 use Rattle.std.proofs.lemmas.Bool.Decides.{nat_tests}
 use Rattle.std.proofs.lemmas.List.{drop_all, append_cancel_right, take-append-drop}
 use Rattle.script65.specs.declared.script.SegmentRow.{SegmentRow}
-use Rattle.script65.specs.Placing.{is_in, places_in, has_row, rows_exist, size_of}
-use Rattle.script65.proofs.Eaches.{append_none, drop_item}
+use Rattle.script65.specs.Placing.{is_in, row_indices_in, has_row, rows_exist, size_of}
+use Rattle.script65.proofs.ListLemmas.{append_none, drop_item}
 use Rattle.std.specs.Str.{bytes_eq}
 use Rattle.script65.specs.declared.placement.PlaceFault.TheVariants.{NoRow}
 use Rattle.script65.specs.declared.placement.SegmentNeed.{SegmentNeed}
@@ -16,11 +16,11 @@ use Rattle.std.proofs.lemmas.Slice.Eq.{bytes_eq-Decides}
 use Rattle.std.proofs.Math.Path.{fun_ext}
 use Rattle.std.proofs.Math.Seq.{drop-append_seam}
 use Rattle.script65.specs.declared.reading.entries.ConfigEntry.{ConfigEntry}
-use Rattle.script65.specs.Internal.Tables.{part_at}
+use Rattle.script65.specs.Internal.Tables.{owner_index_by_ending}
 
 -- ---- The rows of each area.
 
--- an item more, where a test holds
+-- one more item, if a test holds
 abbrev pub with_if : Bool → ℕ → List ℕ → List ℕ
 with_if b i m = if b then m ++ i ∷ [] else m
 
@@ -32,9 +32,9 @@ pub added_once : (k i : ℕ) (r : SegmentRow) (o : Option (List ℕ)) → r.load
 unfolding is_in
 added_once k i r o same = grind (arith, common_steps)
 
--- what the members so far and the rest are
+-- the members so far and those in the rest of the rows
 abbrev pub Collects : ℕ → List SegmentRow → ℕ → Option (List ℕ) → Type 0
-Collects k rows i o = (m : List ℕ) × (o ≡ Some m) × (m ++ places_in k i (drop i rows) ≡ places_in k 0 rows)
+Collects k rows i o = (m : List ℕ) × (o ≡ Some m) × (m ++ row_indices_in k i (drop i rows) ≡ row_indices_in k 0 rows)
 
 pub collects_none : (k : ℕ) (rows : List SegmentRow) (o : Option (List ℕ)) → o ≡ Some [] → Collects k rows 0 o
 collects_none k x o e = grind (arith, common_steps)
@@ -42,10 +42,10 @@ collects_none k x o e = grind (arith, common_steps)
 pub collects_more : (k : ℕ) (rows : List SegmentRow) (i : ℕ) (r : SegmentRow) (old new : Option (List ℕ)) → i < length rows → r ≡ get_or rows i r → new ≡ option_map (with_if (is_in k r) i) old → Collects k rows i old → Collects k rows (i + 1) new
 collects_more k rows i r old new lt at e h = grind (arith, common_steps)
 
-pub collects_all : (k : ℕ) (rows : List SegmentRow) (i : ℕ) (o : Option (List ℕ)) → length rows ≤ i → Collects k rows i o → o ≡ Some (places_in k 0 rows)
-collects_all k rows i o le h = h.1 ∙ ap Some (sym (ap (λ l. h.0 ++ places_in k i l) (drop_all i rows le) ∙ append_none h.0) ∙ h.2)
+pub collects_all : (k : ℕ) (rows : List SegmentRow) (i : ℕ) (o : Option (List ℕ)) → length rows ≤ i → Collects k rows i o → o ≡ Some (row_indices_in k 0 rows)
+collects_all k rows i o le h = h.1 ∙ ap Some (sym (ap (λ l. h.0 ++ row_indices_in k i l) (drop_all i rows le) ∙ append_none h.0) ∙ h.2)
 
--- ---- What segments need, by name.
+-- ---- The needs of segments, by name.
 
 or_false : (b : Bool) → (b || false) ≡ b
 or_false true = refl
@@ -90,11 +90,11 @@ same_bytes xs ys e = (bytes_eq-Decides xs ys).0 e
 itself : (xs ys : List ℕ) → xs ≡ ys → bytes_eq xs ys ≡ true
 itself xs ys e = (bytes_eq-Decides xs ys).1 e
 
--- what stands behind `__`
+-- the text after `__`
 pub after_front : (name rest : List ℕ) → bytes_eq (take 2 name) (codes "__") ≡ true → rest ≡ drop 2 name → name ≡ codes "__" ++ rest
 after_front name rest e d = sym (take-append-drop 2 name) ∙ ap (λ l. l ++ drop 2 name) (same_bytes _ _ e) ∙ ap (λ l. codes "__" ++ l) (sym d)
 
--- what stands before an ending
+-- the text before an ending
 pub before_ending : (rest x end : List ℕ) → bytes_eq (drop (length rest - length end) rest) end ≡ true → x ≡ take (length rest - length end) rest → rest ≡ x ++ end
 before_ending rest x end e t =
     sym (take-append-drop (length rest - length end) rest)
@@ -107,11 +107,11 @@ no_ending rest n end e is = grind (arith, common_steps, length-append, drop-appe
 pub same_rest : (a b : List ℕ) → codes "__" ++ a ≡ codes "__" ++ b → a ≡ b
 same_rest a b e = cc
 
--- the name that stands for a part of what has a name
+-- the name of an attribute of a named area or row
 abbrev part_name : List ℕ → List ℕ → List ℕ
 part_name name end = codes "__" ++ (name ++ end)
 
--- names with one ending are the same where the names in them are
+-- names with the same ending are equal exactly if the names in them are
 inner_name : (n m end : List ℕ) → bytes_eq (part_name n end) (part_name m end) ≡ bytes_eq n m
 inner_name n m end = grind (arith, common_steps, append_cancel_right, same_rest, same_bytes, itself, bytes_eq-Decides)
 
@@ -129,14 +129,14 @@ not_less n = grind (arith, nat_tests)
 nowhere : {A : Type 0} (xs : List A) → position (λ x. false) xs ≡ None
 nowhere xs = ap (λ n. cond (nat_lt n (length xs)) (Some n) None) (past_all xs) ∙ ap (λ b. cond b (Some (length xs)) None) (not_less (length xs))
 
--- a name that has no such ending
-pub named_nowhere : (es : List ConfigEntry) (name end : List ℕ) → ((n : List ℕ) → name ≢ part_name n end) → part_at es name end ≡ None
+-- a name without this form
+pub named_nowhere : (es : List ConfigEntry) (name end : List ℕ) → ((n : List ℕ) → name ≢ part_name n end) → owner_index_by_ending es name end ≡ None
 named_nowhere es name end never =
     let P : ConfigEntry → Bool = λ e. bytes_eq name (part_name e.name end) in
     let Q : ConfigEntry → Bool = λ e. false in
     let same : P ≡ Q = fun_ext (λ e. to_false (P e) (λ t. never e.name (same_bytes name (part_name e.name end) t))) in
     ap (λ p. position p es) same ∙ nowhere es
 
--- a name that has it behind a name
-pub named_there : (es : List ConfigEntry) (name n end : List ℕ) → name ≡ part_name n end → part_at es name end ≡ position (λ (e : ConfigEntry). bytes_eq n e.name) es
+-- a name of this form
+pub named_there : (es : List ConfigEntry) (name n end : List ℕ) → name ≡ part_name n end → owner_index_by_ending es name end ≡ position (λ (e : ConfigEntry). bytes_eq n e.name) es
 named_there es name n end is = grind (arith, common_steps, fun_ext, inner_name)

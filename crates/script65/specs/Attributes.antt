@@ -1,34 +1,34 @@
--- The blocks of scripts, their attributes, and what these take: the table.
+-- The table of the blocks of scripts, their attributes, and the kinds of their values.
 use Rattle.std.specs.Prelude.{ℕ, true, false, List, [], ◌∷◌, codes, find, Option}
 use Rattle.std.specs.Option.{option_map}
 use Rattle.std.specs.Str.{str_eq_ignore_ascii_case}
 use Rattle.script65.specs.declared.script.SegmentType.TheVariants.{ReadOnly, ReadWrite, Bss, ZeroPage}
-pub use Rattle.script65.specs.declared.reading.words.Block.{Block}
-pub use Rattle.script65.specs.declared.reading.words.Block.TheVariants.{Memory as memory, Segments as segments, Symbols as symbols}
+pub use Rattle.script65.specs.declared.reading.keyword_tables.Block.{Block}
+pub use Rattle.script65.specs.declared.reading.keyword_tables.Block.TheVariants.{Memory as memory, Segments as segments, Symbols as symbols}
 -- the type of a symbol
-pub use Rattle.script65.specs.declared.reading.words.SymbolType.{SymbolType}
-pub use Rattle.script65.specs.declared.reading.words.SymbolType.TheVariants.{Export as exported, Weak as weak, Import as imported}
+pub use Rattle.script65.specs.declared.reading.keyword_tables.SymbolType.{SymbolType}
+pub use Rattle.script65.specs.declared.reading.keyword_tables.SymbolType.TheVariants.{Export as exported, Weak as weak, Import as imported}
 -- the value of a keyword
-pub use Rattle.script65.specs.declared.reading.words.KeywordValue.{KeywordValue}
-pub use Rattle.script65.specs.declared.reading.words.KeywordValue.TheVariants.{Flag as flag, Access as access, Role as role, Width as width}
+pub use Rattle.script65.specs.declared.reading.keyword_tables.KeywordValue.{KeywordValue}
+pub use Rattle.script65.specs.declared.reading.keyword_tables.KeywordValue.TheVariants.{Flag as flag, Access as access, Role as role, Width as width}
 -- The value of an attribute. A sum without names is a number; one with a name has a value only once areas are
 -- placed.
 pub use Rattle.script65.specs.declared.reading.entries.Value.{Value}
-pub use Rattle.script65.specs.declared.reading.entries.Value.TheVariants.{Number as number, Byte as byte, Sum as unknown_sum, Said as meant, Area as area, File as file, Output as output_file}
+pub use Rattle.script65.specs.declared.reading.entries.Value.TheVariants.{Number as number, Byte as byte, Sum as unknown_sum, Keyword as keyword, Area as area, File as file, Output as output_file}
 -- the kinds of values of attributes: a number from one to another, a byte, a sum, one of some keywords, the
 -- name of an area, a file
-pub use Rattle.script65.specs.declared.reading.words.ValueKind.{ValueKind}
-pub use Rattle.script65.specs.declared.reading.words.ValueKind.TheVariants.{Number as number_from, Byte as a_byte, Sum as a_sum, OneOf as one_of, Area as an_area, File as a_file}
-pub use Rattle.script65.specs.declared.reading.words.KeywordSet.{KeywordSet}
-pub use Rattle.script65.specs.declared.reading.words.KeywordSet.TheVariants.{Flag as yes_or_no, AreaAccess as area_access, RowAccess as row_access, Role as symbol_role, Width as address_width}
+pub use Rattle.script65.specs.declared.reading.keyword_tables.ValueKind.{ValueKind}
+pub use Rattle.script65.specs.declared.reading.keyword_tables.ValueKind.TheVariants.{Number as number_from, Byte as a_byte, Sum as a_sum, OneOf as one_of, Area as an_area, File as a_file}
+pub use Rattle.script65.specs.declared.reading.keyword_tables.KeywordSet.{KeywordSet}
+pub use Rattle.script65.specs.declared.reading.keyword_tables.KeywordSet.TheVariants.{Flag as yes_or_no, AreaAccess as area_access, RowAccess as row_access, Role as symbol_role, Width as address_width}
 
--- words are read in any case
+-- words are compared without regard to case
 abbrev pub find_keyword : {A : Type 0} → List ℕ → List (List ℕ × A) → Option (List ℕ × A)
 find_keyword {A} text rows = find (λ (row : List ℕ × A). str_eq_ignore_ascii_case text row.0) rows
 
 -- the value of a word in a list of keywords
-abbrev pub value_of_word : {A : Type 0} → List ℕ → List (List ℕ × A) → Option A
-value_of_word {A} text rows = option_map (λ (row : List ℕ × A). row.1) (find_keyword text rows)
+abbrev pub value_of_keyword : {A : Type 0} → List ℕ → List (List ℕ × A) → Option A
+value_of_keyword {A} text rows = option_map (λ (row : List ℕ × A). row.1) (find_keyword text rows)
 
 abbrev pub blocks : List (List ℕ × Block)
 blocks = (codes "memory", memory) ∷ (codes "segments", segments) ∷ (codes "symbols", symbols) ∷ []
@@ -53,7 +53,7 @@ keywords address_width =
     ∷ (codes "absolute", width)
     ∷ []
 
--- the attributes of a block, and what they take
+-- the attributes of a block, and the kinds of their values
 abbrev pub attributes : Block → List (List ℕ × ValueKind)
 attributes memory =
     (codes "start", a_sum)

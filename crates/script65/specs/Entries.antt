@@ -6,15 +6,15 @@ use Rattle.std.specs.Str.{bytes_eq}
 use Rattle.script65.specs.declared.fault.Fault.{Fault}
 use Rattle.script65.specs.declared.fault.Fault.TheVariants.{SyntaxError, AttributeMissing, OutOfRange, Excluded}
 use Rattle.script65.specs.AreaSums.{sum_of}
-use Rattle.script65.specs.Attributes.{Block, memory, segments, symbols, SymbolType, imported, KeywordValue, keywords, Value, number, byte, unknown_sum, meant, role, area, file, output_file, ValueKind, number_from, a_byte, one_of, an_area, a_file, value_of_word}
-use Rattle.script65.specs.Tokens.{Lexeme, word, numeral, string, output}
+use Rattle.script65.specs.Attributes.{Block, memory, segments, symbols, SymbolType, imported, KeywordValue, keywords, Value, number, byte, unknown_sum, keyword, role, area, file, output_file, ValueKind, number_from, a_byte, one_of, an_area, a_file, value_of_keyword}
+use Rattle.script65.specs.Tokens.{Lexeme, identifier, numeral, string, output}
 -- ---- Entries.
 
--- a term of a sum: a number, or else a name, and its offset; and whether it has a `-`
+-- a term of a sum: a number or a name, and its offset; and whether it has a `-`
 pub use Rattle.script65.specs.declared.reading.entries.ParsedTerm.{ParsedTerm}
--- an attribute, what is given for it, and of a sum its terms
+-- an attribute, its value, and the terms if that is a sum
 pub use Rattle.script65.specs.declared.reading.entries.AttributeValue.{AttributeValue}
--- an entry: its name, the place of that, and its attributes
+-- an entry: its name, the offset of its name, and its attributes
 pub use Rattle.script65.specs.declared.reading.entries.ConfigEntry.{ConfigEntry}
 -- the entries of all blocks, by the kind of block
 pub use Rattle.script65.specs.declared.reading.entries.Entries.{Entries}
@@ -32,30 +32,30 @@ with_entry memory e es = record es { areas = es.areas ++ e ∷ [] }
 with_entry segments e es = record es { rows = es.rows ++ e ∷ [] }
 with_entry symbols e es = record es { symbols = es.symbols ++ e ∷ [] }
 
-abbrev pub with_given : AttributeValue → ConfigEntry → ConfigEntry
-with_given g e = record e { given = e.given ++ g ∷ [] }
+abbrev pub with_attribute : AttributeValue → ConfigEntry → ConfigEntry
+with_attribute g e = record e { assignments = e.assignments ++ g ∷ [] }
 
--- an entry of this name, at this place, that gives nothing yet
+-- an entry with this name, at this offset, without attributes yet
 abbrev pub new_entry : List ℕ → ℕ → ConfigEntry
-new_entry name at = record { name = name; at = at; given = [] }
+new_entry name at = record { name = name; at = at; assignments = [] }
 
--- a name is given once in blocks of a kind
+-- an entry in blocks of this kind has the name
 abbrev pub has_name : List ℕ → Block → Entries → Bool
 has_name name b es = list_any (λ (e : ConfigEntry). bytes_eq name e.name) (of_kind b es)
 
 -- the value that an entry has for an attribute
-abbrev pub given_for : List ℕ → ConfigEntry → Option AttributeValue
-given_for a e = find (λ (g : AttributeValue). bytes_eq a g.word) e.given
+abbrev pub attribute_for : List ℕ → ConfigEntry → Option AttributeValue
+attribute_for a e = find (λ (g : AttributeValue). bytes_eq a g.identifier) e.assignments
 
-abbrev pub is_given : List ℕ → ConfigEntry → Bool
-is_given a e = is_some (given_for a e)
+abbrev pub has_attribute : List ℕ → ConfigEntry → Bool
+has_attribute a e = is_some (attribute_for a e)
 
--- the terms of its sum, if it is one
-abbrev pub parts_for : List ℕ → ConfigEntry → List ParsedTerm
-parts_for a e = option_map_or (λ (g : AttributeValue). g.parts) (given_for a e) []
+-- the terms of an attribute's sum, and none if it isn't a sum
+abbrev pub terms_for : List ℕ → ConfigEntry → List ParsedTerm
+terms_for a e = option_map_or (λ (g : AttributeValue). g.parsed_terms) (attribute_for a e) []
 
 abbrev pub value_for : List ℕ → ConfigEntry → Option Value
-value_for a e = option_map (λ (g : AttributeValue). g.value) (given_for a e)
+value_for a e = option_map (λ (g : AttributeValue). g.value) (attribute_for a e)
 
 abbrev pub as_number : Value → Option ℕ
 as_number (number n) = Some n
@@ -65,7 +65,7 @@ abbrev pub number_for : List ℕ → ConfigEntry → Option ℕ
 number_for a e = option_and_then as_number (value_for a e)
 
 abbrev pub as_role : Value → Option SymbolType
-as_role (meant (role r)) = Some r
+as_role (keyword (role r)) = Some r
 as_role _ = None
 
 abbrev pub role_for : ConfigEntry → Option SymbolType
@@ -82,64 +82,64 @@ abbrev pub as_value : (ℕ → Value) → Result ℕ Fault → Result Value Faul
 as_value made (Ok n) = Ok (made n)
 as_value made (Err f) = Err f
 
-abbrev pub as_word : Option KeywordValue → Result Value Fault
-as_word (Some m) = Ok (meant m)
-as_word None = Err SyntaxError
+abbrev pub keyword_or_syntax_error : Option KeywordValue → Result Value Fault
+keyword_or_syntax_error (Some m) = Ok (keyword m)
+keyword_or_syntax_error None = Err SyntaxError
 
 -- the value of a token for an attribute of this kind, which isn't a sum
 abbrev pub value_of : ValueKind → Lexeme → Result Value Fault
 value_of (number_from low high) (numeral n) = as_value number (in_range low high n)
 value_of a_byte (numeral n) = as_value byte (in_range 0 0xff n)
-value_of (one_of words) (word w) = as_word (value_of_word w (keywords words))
-value_of an_area (word w) = Ok (area w)
+value_of (one_of keyword_set) (identifier w) = keyword_or_syntax_error (value_of_keyword w (keywords keyword_set))
+value_of an_area (identifier w) = Ok (area w)
 value_of a_file (string s) = Ok (file s)
 value_of a_file output = Ok output_file
 value_of _ _ = Err SyntaxError
 
-abbrev pub a_part : Bool → ℕ → Result ℕ Fault → Result ParsedTerm Fault
-a_part taken at (Ok n) = Ok (record { minus = taken; number = Some n; name = []; at = at })
-a_part taken at (Err f) = Err f
+abbrev pub parsed_number : Bool → ℕ → Result ℕ Fault → Result ParsedTerm Fault
+parsed_number subtracted at (Ok n) = Ok (record { minus = subtracted; number = Some n; name = []; at = at })
+parsed_number subtracted at (Err f) = Err f
 
 -- a token as a term of a sum
-abbrev pub part_of : Bool → ℕ → Lexeme → Result ParsedTerm Fault
-part_of taken at (numeral n) = a_part taken at (in_range 0 0xffffffff n)
-part_of taken at (word w) = Ok (record { minus = taken; number = None; name = w; at = at })
-part_of taken at _ = Err SyntaxError
+abbrev pub parsed_term : Bool → ℕ → Lexeme → Result ParsedTerm Fault
+parsed_term subtracted at (numeral n) = parsed_number subtracted at (in_range 0 0xffffffff n)
+parsed_term subtracted at (identifier w) = Ok (record { minus = subtracted; number = None; name = w; at = at })
+parsed_term subtracted at _ = Err SyntaxError
 
 -- The value of a sum: the sum of its terms, if that isn't negative and is below 2 ^ 32. It is unknown if a
 -- term is a name.
-abbrev pub sum_of_parts : List ParsedTerm → Option Value
-sum_of_parts ps =
+abbrev pub sum_of_terms : List ParsedTerm → Option Value
+sum_of_terms ps =
     if list_any (λ (p : ParsedTerm). not (is_some p.number)) ps then Some unknown_sum
     else option_map number (sum_of (λ (p : ParsedTerm). p.minus) (λ (p : ParsedTerm). unwrap_or p.number 0) ps)
 
 -- the offset of the last term of a sum
-abbrev pub last_part : List ParsedTerm → ℕ
-last_part [] = 0
-last_part (p ∷ []) = p.at
-last_part (p ∷ q ∷ ps) = last_part (q ∷ ps)
+abbrev pub last_term_offset : List ParsedTerm → ℕ
+last_term_offset [] = 0
+last_term_offset (p ∷ []) = p.at
+last_term_offset (p ∷ q ∷ ps) = last_term_offset (q ∷ ps)
 
 -- ---- Entries at their `;`.
 
 -- an area has a start and a size, together at most 2 ^ 32 (a sum with a name counts as 0 here)
-abbrev pub area_closing : ConfigEntry → Option Fault
-area_closing e =
-    if not (is_given (codes "start") e && is_given (codes "size") e) then Some AttributeMissing
+abbrev pub area_entry_fault : ConfigEntry → Option Fault
+area_entry_fault e =
+    if not (has_attribute (codes "start") e && has_attribute (codes "size") e) then Some AttributeMissing
     else if nat_lt (2 ^ 32)
     (unwrap_or (number_for (codes "start") e) 0 + unwrap_or (number_for (codes "size") e) 0)
     then Some OutOfRange
     else None
 
-abbrev pub row_closing : ConfigEntry → Option Fault
-row_closing e = if is_given (codes "load") e then None else Some AttributeMissing
+abbrev pub row_entry_fault : ConfigEntry → Option Fault
+row_entry_fault e = if has_attribute (codes "load") e then None else Some AttributeMissing
 
 -- an export and a weak symbol have a value, an import has none
-abbrev pub symbol_closing : Option SymbolType → Bool → Option Fault
-symbol_closing None valued = Some AttributeMissing
-symbol_closing (Some imported) valued = if valued then Some Excluded else None
-symbol_closing (Some _) valued = if valued then None else Some AttributeMissing
+abbrev pub symbol_entry_fault : Option SymbolType → Bool → Option Fault
+symbol_entry_fault None valued = Some AttributeMissing
+symbol_entry_fault (Some imported) valued = if valued then Some Excluded else None
+symbol_entry_fault (Some _) valued = if valued then None else Some AttributeMissing
 
 abbrev pub entry_fault : Block → ConfigEntry → Option Fault
-entry_fault memory e = area_closing e
-entry_fault segments e = row_closing e
-entry_fault symbols e = symbol_closing (role_for e) (is_given (codes "value") e)
+entry_fault memory e = area_entry_fault e
+entry_fault segments e = row_entry_fault e
+entry_fault symbols e = symbol_entry_fault (role_for e) (has_attribute (codes "value") e)

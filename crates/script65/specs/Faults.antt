@@ -1,4 +1,4 @@
--- Why a script is refused, and why its rows aren't placed.
+-- The errors of scripts and of placements.
 use Rattle.std.specs.Prelude.{Bool, ℕ, true, false, if◌then◌else◌, List, ◌++◌, codes, encode_utf8_all}
 use Rattle.script65.specs.declared.fault.Fault.{Fault}
 use Rattle.script65.specs.declared.fault.Fault.TheVariants.{OutOfMemory, SyntaxError, UnknownAttribute, AttributeTwice, AttributeMissing, NameTwice, NoSuchArea, OutOfRange, Excluded, TooLong, NoSuchName, AmbiguousName}
@@ -8,7 +8,7 @@ use Rattle.std.specs.Fmt.{decimal}
 use Rattle.script65.specs.declared.placement.PlaceFault.{PlaceFault}
 use Rattle.script65.specs.declared.placement.PlaceFault.TheVariants as place
 
--- ---- The faults of scripts: their texts, and which of them come from memory.
+-- ---- The errors of scripts: their messages, and which of them are system errors.
 
 abbrev pub fault_text : Fault → List ℕ
 fault_text OutOfMemory = codes "out of memory"
@@ -25,23 +25,23 @@ fault_text NoSuchName = codes "no such name"
 fault_text AmbiguousName = codes "ambiguous name"
 
 -- whether the message of an error has a name
-abbrev pub names : Fault → Bool
-names NoSuchName = true
-names AmbiguousName = true
-names _ = false
+abbrev pub is_name_fault : Fault → Bool
+is_name_fault NoSuchName = true
+is_name_fault AmbiguousName = true
+is_name_fault _ = false
 
--- a fault, of some with the name that they concern, byte by byte, each as the character of its code (so ASCII as it is)
+-- an error, with the name if it is one of a name; each byte is printed as the character with its code (ASCII unchanged)
 abbrev pub script_fault_text : ScriptFault → List ℕ
 script_fault_text e =
-    if names e.fault then fault_text e.fault ++ codes ": " ++ encode_utf8_all e.name else fault_text e.fault
+    if is_name_fault e.fault then fault_text e.fault ++ codes ": " ++ encode_utf8_all e.name else fault_text e.fault
 
 abbrev pub is_memory_fault : Fault → Bool
 is_memory_fault OutOfMemory = true
 is_memory_fault _ = false
 
--- a fault at a place of the text
-abbrev pub stop_at : Fault → ℕ → FaultAt
-stop_at fault at = record { fault = fault; at = at }
+-- an error at an offset of the text
+abbrev pub fault_at : Fault → ℕ → FaultAt
+fault_at fault at = record { fault = fault; at = at }
 
 abbrev pub is_system_error : FaultAt → Bool
 is_system_error e = is_memory_fault e.fault
@@ -49,9 +49,9 @@ is_system_error e = is_memory_fault e.fault
 abbrev pub is_script_system_error : ScriptFault → Bool
 is_script_system_error e = is_memory_fault e.fault
 
--- ---- The faults of placement: their texts, and which of them come from memory.
+-- ---- The errors of placements: their messages, and which of them are system errors.
 
--- a name is printed byte by byte, each as the character of its code (so ASCII as it is), a number in decimal digits
+-- each byte of a name is printed as the character with its code (ASCII unchanged), a number in decimal digits
 abbrev pub place_fault_text : PlaceFault → List ℕ
 place_fault_text place.OutOfMemory = codes "out of memory"
 place_fault_text (place.NoRow name) = codes "segment has no row: " ++ encode_utf8_all name

@@ -1,4 +1,4 @@
 -- Definitions in terms of the code, for contracts within the crate alone.
 pub mod Reading
-pub mod Standing
+pub mod SumContexts
 pub mod Tables

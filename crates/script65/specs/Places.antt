@@ -12,11 +12,11 @@ use Rattle.script65.specs.declared.placement.Placement.{Placement}
 use Rattle.script65.specs.declared.placement.PlaceFault.{PlaceFault}
 use Rattle.script65.specs.declared.placement.PlaceFault.TheVariants.{NoRow, ReadOnlyArea, StartBelow, Overflow}
 use Rattle.script65.specs.declared.placement.SegmentNeed.{SegmentNeed}
-use Rattle.script65.specs.declared.placing.site.Bounds.{Bounds}
+use Rattle.script65.specs.declared.placing.row_placing.Bounds.{Bounds}
 use Rattle.script65.specs.AreaSums.{SumContextView, bounds_in}
 use Rattle.script65.specs.Placing.{has_row, is_in, is_read_only, place_of, size_of}
 
--- an area and its address, a row and its address
+-- an area and its placement, a row and its placement
 abbrev pub PlacedArea : Type 0
 PlacedArea = MemoryArea × AreaPlacement
 
@@ -25,7 +25,7 @@ PlacedRow = SegmentRow × RowPlacement
 
 -- ---- The end of the rows before a row.
 
--- the address of a row in the area at a place of the script: where it runs, if it runs there, and else where it is loaded
+-- the address of a row in the area at an index of the script: its run address if it runs there, otherwise its load address
 abbrev pub address_in : ℕ → SegmentRow → RowPlacement → ℕ
 address_in k r p = if r.run == k then p.run else p.load
 
@@ -34,115 +34,114 @@ abbrev pub ends_in : ℕ → List PlacedRow → List ℕ
 ends_in k [] = []
 ends_in k (x ∷ xs) = if is_in k x.0 then (address_in k x.0 x.1 + x.1.size) ∷ ends_in k xs else ends_in k xs
 
--- the last of these, or this one where there is none
+-- the last of these, or this one if there is none
 abbrev pub last_or : ℕ → List ℕ → ℕ
 last_or n [] = n
 last_or n (m ∷ ms) = last_or m ms
 
--- the end of these rows of an area: that of the last one, or the area's start where there is none
+-- the end of these rows of an area: that of the last one, or the area's start if there is none
 abbrev pub end_of_rows : ℕ → Bounds → List PlacedRow → ℕ
 end_of_rows k b rows = last_or b.start (ends_in k rows)
 
--- ---- Where a row begins.
+-- ---- The address at which a row begins.
 
--- an alignment of 0, which no script has that was read, is as one of 1
+-- an alignment of 0 counts as 1; no script that was read has one
 abbrev pub unit_of : ℕ → ℕ
 unit_of align = if align == 0 then 1 else align
 
--- The least multiple that isn't below an address: it is a multiple, it isn't below the address, and no other multiple that
--- isn't below the address is below it.
+-- The least multiple of a unit that isn't below an address.
 pub record IsLeastMultiple (unit low at : ℕ) : Type 0 where
   pub alignment : (n : ℕ) × (at ≡ n * unit)
   pub high : low ≤ at
   pub least : (n : ℕ) → low ≤ n * unit → at ≤ n * unit
 
--- at its `start`, or at the area's start plus its `offset`, or at the least multiple of its `align` that isn't below the end
-abbrev pub RunsAt : RowStart → ℕ → Bounds → ℕ → ℕ → Type 0
-RunsAt (begin.Start n) align b low at = at ≡ n
-RunsAt (begin.Offset n) align b low at = at ≡ b.start + n
-RunsAt begin.Aligned align b low at = IsLeastMultiple (unit_of align) low at
+-- at its `start`, or at the area's start plus its `offset`, or at the least multiple of its `align` that isn't below `low`
+abbrev pub IsRunAddress : RowStart → ℕ → Bounds → ℕ → ℕ → Type 0
+IsRunAddress (begin.Start n) align b low at = at ≡ n
+IsRunAddress (begin.Offset n) align b low at = at ≡ b.start + n
+IsRunAddress begin.Aligned align b low at = IsLeastMultiple (unit_of align) low at
 
 -- The address of a row after others that end at `low`: the aligned or given address in its run area; in a
 -- load area that differs, the least multiple of its `align_load` that isn't below `low`.
-pub record BeginsAt (k : ℕ) (b : Bounds) (r : SegmentRow) (low at : ℕ) : Type 0 where
-  pub runs : r.run ≡ k → RunsAt r.begin r.align b low at
+pub record IsRowAddress (k : ℕ) (b : Bounds) (r : SegmentRow) (low at : ℕ) : Type 0 where
+  pub runs : r.run ≡ k → IsRunAddress r.begin r.align b low at
   pub loads : r.run ≢ k → IsLeastMultiple (unit_of r.align_load) low at
 
--- a row of a size begins so, not below the end of those before it, and ends in the area
+-- a row of this size begins at such an address, not below the end of the rows before it, and ends within the area
 pub record FitsArea (k : ℕ) (b : Bounds) (r : SegmentRow) (size low at : ℕ) : Type 0 where
-  pub begins : BeginsAt k b r low at
+  pub begins : IsRowAddress k b r low at
   pub following : low ≤ at
   pub within : at + size ≤ b.end
 
 -- the address of a row that a module has; any other row is placed at the end of those before it
-abbrev pub StandsBy : ℕ → Bounds → SegmentRow → Option ℕ → ℕ → ℕ → Type 0
-StandsBy k b r (Some size) low at = FitsArea k b r size low at
-StandsBy k b r None low at = at ≡ low
+abbrev pub IsAddressForSize : ℕ → Bounds → SegmentRow → Option ℕ → ℕ → ℕ → Type 0
+IsAddressForSize k b r (Some size) low at = FitsArea k b r size low at
+IsAddressForSize k b r None low at = at ≡ low
 
--- in a read-only area only rows run that are read-only
-abbrev pub MayRun : ℕ → MemoryArea → SegmentRow → Type 0
-MayRun k a r = a.read_only ≡ true → r.run ≡ k → is_read_only r.access ≡ true
+-- only read-only rows run in a read-only area
+abbrev pub CanRun : ℕ → MemoryArea → SegmentRow → Type 0
+CanRun k a r = a.read_only ≡ true → r.run ≡ k → is_read_only r.access ≡ true
 
 -- a row of an area, with its size if a module has it, at an address after rows that end at `low`
 pub record IsPlacedAt (k : ℕ) (a : MemoryArea) (b : Bounds) (r : SegmentRow) (size : Option ℕ) (low at : ℕ) : Type 0 where
-  pub may_run : MayRun k a r
-  pub stands : StandsBy k b r size low at
+  pub may_run : CanRun k a r
+  pub stands : IsAddressForSize k b r size low at
 
--- Why a row can't be placed: its run area is read-only and it isn't; or else it would begin below the end of
--- those before it; or else it would end after the area's end, by this number of bytes.
+-- The error of a row that can't be placed: its run area is read-only and it isn't; or else it would begin below the end of
+-- the rows before it; or else it would end after the area's end, by this number of bytes.
 pub data RowFault (k : ℕ) (a : MemoryArea) (b : Bounds) (r : SegmentRow) (size : Option ℕ) (low : ℕ) : PlaceFault → Type 0 where
   read_only : a.read_only ≡ true → r.run ≡ k → is_read_only r.access ≡ false → RowFault k a b r size low (ReadOnlyArea r.name)
-  below : (n at : ℕ) → MayRun k a r → size ≡ Some n → BeginsAt k b r low at → at < low → RowFault k a b r size low (StartBelow r.name)
-  over : (n at more : ℕ) → MayRun k a r → size ≡ Some n → BeginsAt k b r low at → low ≤ at → 0 < more → at + n ≡ b.end + more → RowFault k a b r size low (Overflow a.name more)
+  below : (n at : ℕ) → CanRun k a r → size ≡ Some n → IsRowAddress k b r low at → at < low → RowFault k a b r size low (StartBelow r.name)
+  over : (n at more : ℕ) → CanRun k a r → size ≡ Some n → IsRowAddress k b r low at → low ≤ at → 0 < more → at + n ≡ b.end + more → RowFault k a b r size low (Overflow a.name more)
 
 -- ---- Areas and their rows.
 
 -- each of these rows that is in the area is placed after those before it
-abbrev pub RowsStand : List SegmentNeed → ℕ → MemoryArea → Bounds → List PlacedRow → Type 0
-RowsStand needs k a b rows =
+abbrev pub ArePlacedRows : List SegmentNeed → ℕ → MemoryArea → Bounds → List PlacedRow → Type 0
+ArePlacedRows needs k a b rows =
     (before after : List PlacedRow) (x : PlacedRow) → rows ≡ before ++ x ∷ after → is_in k x.0 ≡ true →
     IsPlacedAt k a b x.0 (size_of needs x.0.name) (end_of_rows k b before) (address_in k x.0 x.1)
 
--- where the sums of an area are evaluated: after these areas, with these rows placed
+-- the context of an area's sums, after these areas and with these rows
 abbrev pub sum_context : Script → List PlacedArea → List PlacedRow → MemoryArea → SumContextView
 sum_context script before rows a = record {
   k = length before;
   own = a;
   areas = script.areas;
   rows = script.rows;
-  area_places = map (λ (x : PlacedArea). x.1) before;
-  row_places = map (λ (x : PlacedRow). x.1) rows;
+  area_placements = map (λ (x : PlacedArea). x.1) before;
+  row_placements = map (λ (x : PlacedRow). x.1) rows;
   start = None;
 }
 
 abbrev pub bounds_of : AreaPlacement → Bounds
-bounds_of place = record { start = place.start; end = place.start + place.size }
+bounds_of placement = record { start = placement.start; end = placement.start + placement.size }
 
 -- An area has the start and the size of its sums, its rows are placed in it one after the other, and its last
 -- address is their end.
-pub record AreaStands (script : Script) (needs : List SegmentNeed) (before : List PlacedArea) (rows : List PlacedRow) (x : PlacedArea) : Type 0 where
+pub record IsPlacedArea (script : Script) (needs : List SegmentNeed) (before : List PlacedArea) (rows : List PlacedRow) (x : PlacedArea) : Type 0 where
   pub bounds : bounds_in (sum_context script before rows x.0) ≡ Ok (bounds_of x.1)
-  pub rows_stand : RowsStand needs (length before) x.0 (bounds_of x.1) rows
+  pub rows_placed : ArePlacedRows needs (length before) x.0 (bounds_of x.1) rows
   pub last : x.1.last ≡ end_of_rows (length before) (bounds_of x.1) rows
 
--- a row has the size that is needed, 0 where no module has it, and one address where it runs in the area in which it is loaded
+-- a row has the size that is needed, or 0 if no module has it, and a single address if its run area is its load area
 pub record IsRow (needs : List SegmentNeed) (x : PlacedRow) : Type 0 where
   pub size : x.1.size ≡ unwrap_or (size_of needs x.0.name) 0
   pub one : x.0.run ≡ x.0.load → x.1.run ≡ x.1.load
 
 -- The rows are those of the script, and each of these areas is placed after those before it.
-pub record AreasStand (script : Script) (needs : List SegmentNeed) (areas : List PlacedArea) (rows : List PlacedRow) : Type 0 where
+pub record ArePlacedAreas (script : Script) (needs : List SegmentNeed) (areas : List PlacedArea) (rows : List PlacedRow) : Type 0 where
   pub these : map (λ (x : PlacedRow). x.0) rows ≡ script.rows
   pub each : AllByRecursion (IsRow needs) rows
-  pub areas_stand : (before after : List PlacedArea) (x : PlacedArea) → areas ≡ before ++ x ∷ after → AreaStands script needs before rows x
+  pub areas_placed : (before after : List PlacedArea) (x : PlacedArea) → areas ≡ before ++ x ∷ after → IsPlacedArea script needs before rows x
 
 -- ---- Placements.
 
 abbrev pub HaveRows : Script → List SegmentNeed → Type 0
 HaveRows script needs = AllByRecursion (λ (n : SegmentNeed). has_row script.rows n.name ≡ true) needs
 
--- a row whose area isn't there has address 0; no script that was read has such a row
-pub record IsElsewhere (areas : ℕ) (x : PlacedRow) : Type 0 where
+-- a row whose area doesn't exist has the address 0; no script that was read has such a row
+pub record HasZeroAddress (areas : ℕ) (x : PlacedRow) : Type 0 where
   pub run : areas ≤ x.0.run → x.1.run ≡ 0
   pub load : areas ≤ x.0.load → x.1.load ≡ 0
 
@@ -151,16 +150,16 @@ pub record IsPlacement (script : Script) (needs : List SegmentNeed) (p : Placeme
   pub have_rows : HaveRows script needs
   pub areas : List PlacedArea
   pub rows : List PlacedRow
-  pub stand : AreasStand script needs areas rows
+  pub stand : ArePlacedAreas script needs areas rows
   pub all : map (λ (x : PlacedArea). x.0) areas ≡ script.areas
-  pub elsewhere : AllByRecursion (IsElsewhere (length script.areas)) rows
-  pub area_places : p.areas ≡ map (λ (x : PlacedArea). x.1) areas
-  pub row_places : p.rows ≡ map (λ (x : PlacedRow). x.1) rows
+  pub elsewhere : AllByRecursion (HasZeroAddress (length script.areas)) rows
+  pub area_placements : p.areas ≡ map (λ (x : PlacedArea). x.1) areas
+  pub row_placements : p.rows ≡ map (λ (x : PlacedRow). x.1) rows
 
 -- each segment that is needed has a row, these areas are placed, and this is the script's next area
 pub record IsNextArea (script : Script) (needs : List SegmentNeed) (areas : List PlacedArea) (rows : List PlacedRow) (a : MemoryArea) : Type 0 where
   pub have_rows : HaveRows script needs
-  pub stand : AreasStand script needs areas rows
+  pub stand : ArePlacedAreas script needs areas rows
   pub rest : List MemoryArea
   pub next : map (λ (x : PlacedArea). x.0) areas ++ a ∷ rest ≡ script.areas
 
@@ -171,7 +170,7 @@ pub record IsRowFault (needs : List SegmentNeed) (k : ℕ) (a : MemoryArea) (b :
   pub after : List PlacedRow
   pub split : rows ≡ before ++ row ∷ after
   pub inside : is_in k row.0 ≡ true
-  pub stand : RowsStand needs k a b before
+  pub stand : ArePlacedRows needs k a b before
   pub fault : RowFault k a b row.0 (size_of needs row.0.name) (end_of_rows k b before) f
 
 -- The first error: of the first need that has no row; or else, once the areas before are placed, of an area's
@@ -186,9 +185,9 @@ abbrev pub PlacementResult : Script → List SegmentNeed → Result Placement Pl
 PlacementResult script needs (Ok p) = IsPlacement script needs p
 PlacementResult script needs (Err f) = FirstFault script needs f
 
--- ---- What holds of every placement.
+-- ---- Placements are unique.
 
--- a script has one placement for these needs, or else one first fault
+-- a script has exactly one placement for these needs, or exactly one first error
 abbrev pub PlacementIsUnique : Type 0
 PlacementIsUnique =
     (script : Script) (needs : List SegmentNeed) → PlacementResult script needs (place_of script needs)

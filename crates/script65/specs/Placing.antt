@@ -1,4 +1,4 @@
--- Where the rows of a script are placed.
+-- The placement of a script, as the code computes it.
 use Rattle.std.specs.Prelude.{Bool, true, false, ℕ, ◌+◌, ◌-◌, ◌*◌, ◌==◌, ◌&&◌, ◌||◌, not, nat_lt, if◌then◌else◌, List, [], ◌∷◌, ◌++◌, map, find, slice_set, Option, Some, None, unwrap_or, Result, Ok, Err}
 use Rattle.script65.specs.declared.script.SegmentType.{SegmentType}
 use Rattle.script65.specs.declared.script.SegmentType.TheVariants.{ReadOnly, ReadWrite, Bss, ZeroPage}
@@ -17,12 +17,12 @@ use Rattle.script65.specs.declared.placement.Placement.{Placement}
 use Rattle.script65.specs.declared.placement.PlaceFault.{PlaceFault}
 use Rattle.script65.specs.declared.placement.PlaceFault.TheVariants.{NoRow, ReadOnlyArea, StartBelow, Overflow}
 use Rattle.script65.specs.declared.placement.SegmentNeed.{SegmentNeed}
-use Rattle.script65.specs.declared.placing.site.Bounds.{Bounds}
-use Rattle.script65.specs.declared.placing.site.RowState.{RowState}
+use Rattle.script65.specs.declared.placing.row_placing.Bounds.{Bounds}
+use Rattle.script65.specs.declared.placing.row_placing.RowState.{RowState}
 use Rattle.base65.specs.Outcome.{◌>>=◌}
 use Rattle.script65.specs.AreaSums.{SumContextView, bounds_in}
 
--- ---- What a segment may hold.
+-- ---- The types of segments.
 
 abbrev pub is_read_only : SegmentType → Bool
 is_read_only ReadOnly = true
@@ -35,7 +35,7 @@ is_written ReadWrite = true
 is_written Bss = false
 is_written ZeroPage = false
 
--- ---- Where the rows of a script are placed.
+-- ---- The placement of a script.
 
 -- the needs of segments
 
@@ -53,7 +53,7 @@ rows_exist rows (n ∷ ns) = if has_row rows n.name then rows_exist rows ns else
 
 -- rows
 
--- whether a row runs or loads in the area at a place of the script
+-- whether a row runs or loads in the area at an index of the script
 unfoldable pub is_in : ℕ → SegmentRow → Bool
 is_in k r = r.run == k || r.load == k
 
@@ -66,7 +66,7 @@ begin_by b begin.Aligned align cursor = rounded_up cursor align
 begin_by b (begin.Start n) align cursor = n
 begin_by b (begin.Offset n) align cursor = b.start + n
 
--- where a row begins: a load area that isn't its run area only aligns it
+-- the address at which a row begins: in a load area that isn't its run area it is only aligned
 unfoldable pub begin_in : ℕ → Bounds → SegmentRow → ℕ → ℕ
 begin_in k b r cursor = if r.run == k then begin_by b r.begin r.align cursor else rounded_up cursor r.align_load
 
@@ -92,16 +92,16 @@ row_after k a b r s cursor =
     if a.read_only && r.run == k && not (is_read_only r.access) then Err (ReadOnlyArea r.name)
     else sized_row k a b r s s.size cursor
 
--- the same in a list of spots, of which it changes the row's
-abbrev pub spots_after : ℕ → MemoryArea → Bounds → SegmentRow → RowState → ℕ → ℕ → List RowState → Result (List RowState × ℕ) PlaceFault
-spots_after k a b r s cursor i ss = row_after k a b r s cursor >>= λ x. Ok (slice_set ss i x.0, x.1)
+-- likewise in a list of row states, in which that of the row is replaced
+abbrev pub row_states_after : ℕ → MemoryArea → Bounds → SegmentRow → RowState → ℕ → ℕ → List RowState → Result (List RowState × ℕ) PlaceFault
+row_states_after k a b r s cursor i ss = row_after k a b r s cursor >>= λ x. Ok (slice_set ss i x.0, x.1)
 
--- the places of the rows of an area, from a place on
-abbrev pub places_in : ℕ → ℕ → List SegmentRow → List ℕ
-places_in k i [] = []
-places_in k i (r ∷ rs) = if is_in k r then i ∷ places_in k (i + 1) rs else places_in k (i + 1) rs
+-- the indices of the rows of an area; the first row of the list has this index
+abbrev pub row_indices_in : ℕ → ℕ → List SegmentRow → List ℕ
+row_indices_in k i [] = []
+row_indices_in k i (r ∷ rs) = if is_in k r then i ∷ row_indices_in k (i + 1) rs else row_indices_in k (i + 1) rs
 
--- the rows of an area, each placed at or after the cursor that the one before leaves
+-- the rows of an area, each placed at or after the cursor after the one before
 abbrev pub rows_from : ℕ → MemoryArea → Bounds → List SegmentRow → List RowState → ℕ → Result (List RowState × ℕ) PlaceFault
 rows_from k a b [] ss cursor = Ok (ss, cursor)
 rows_from k a b (r ∷ rs) [] cursor = Ok ([], cursor)
@@ -112,38 +112,38 @@ rows_from k a b (r ∷ rs) (s ∷ ss) cursor =
 
 -- placements
 
-abbrev pub area_place : Bounds → ℕ → AreaPlacement
-area_place b last = record { start = b.start; size = b.end - b.start; last = last }
+abbrev pub area_placement : Bounds → ℕ → AreaPlacement
+area_placement b last = record { start = b.start; size = b.end - b.start; last = last }
 
-abbrev pub row_place : RowState → RowPlacement
-row_place s = record { load = s.load; run = s.run; size = unwrap_or s.size 0 }
+abbrev pub row_placement : RowState → RowPlacement
+row_placement s = record { load = s.load; run = s.run; size = unwrap_or s.size 0 }
 
--- the values that the sums of the area at an index refer to: these placements of the areas before it, and
--- these of rows
-abbrev pub standing : ℕ → List MemoryArea → List SegmentRow → MemoryArea → List AreaPlacement → List RowState → SumContextView
-standing k areas rows a placed ss = record {
+-- the context of the sums of the area at an index, with these placements of the areas before it and of
+-- rows
+abbrev pub sum_context_at : ℕ → List MemoryArea → List SegmentRow → MemoryArea → List AreaPlacement → List RowState → SumContextView
+sum_context_at k areas rows a placed ss = record {
   k = k;
   own = a;
   areas = areas;
   rows = rows;
-  area_places = placed;
-  row_places = map row_place ss;
+  area_placements = placed;
+  row_placements = map row_placement ss;
   start = None;
 }
 
--- the areas from a place on, one by one: first where each begins and ends, and then its rows
+-- the areas from an index on, one by one: first the bounds of each, and then its rows
 abbrev pub areas_from : ℕ → List MemoryArea → List SegmentRow → List MemoryArea → List AreaPlacement → List RowState → Result Placement PlaceFault
-areas_from k areas rows [] placed ss = Ok (record { areas = placed; rows = map row_place ss })
+areas_from k areas rows [] placed ss = Ok (record { areas = placed; rows = map row_placement ss })
 areas_from k areas rows (a ∷ rest) placed ss =
-    bounds_in (standing k areas rows a placed ss)
+    bounds_in (sum_context_at k areas rows a placed ss)
     >>= λ b. rows_from k a b rows ss b.start
-    >>= λ x. areas_from (k + 1) areas rows rest (placed ++ area_place b x.1 ∷ []) x.0
+    >>= λ x. areas_from (k + 1) areas rows rest (placed ++ area_placement b x.1 ∷ []) x.0
 
 -- a row before anything is placed
 abbrev pub unplaced_row : List SegmentNeed → SegmentRow → RowState
 unplaced_row needs r = record { size = size_of needs r.name; run = 0; load = 0 }
 
--- where the areas and the rows of a script are placed, or the first fault
+-- the placement of the areas and rows of a script, or the first error
 abbrev pub place_of : Script → List SegmentNeed → Result Placement PlaceFault
 place_of script needs =
     rows_exist script.rows needs

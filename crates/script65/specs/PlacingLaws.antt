@@ -3,9 +3,9 @@ use Rattle.std.specs.Prelude.{◌≡◌, ◌≤◌, ◌<◌, ℕ, ◌+◌, ◌^�
 use Rattle.std.specs.List.{AllByRecursion, list_all}
 use Rattle.base65.specs.Outcome.{◌>>=◌}
 use Rattle.base65.specs.SystemErrors.{IsNoSystemError}
-use Rattle.script65.specs.Entries.{Entries, ConfigEntry, ParsedTerm, parts_for}
+use Rattle.script65.specs.Entries.{Entries, ConfigEntry, ParsedTerm, terms_for}
 use Rattle.script65.specs.Scripts.{HasEntries, script_from}
-use Rattle.script65.specs.AreaSums.{come_to, is_known, sum_by, term_value}
+use Rattle.script65.specs.AreaSums.{sum_where, is_known, sum_by, term_value}
 use Rattle.script65.specs.Faults.{is_place_system_error}
 use Rattle.script65.specs.declared.script.MemoryArea.{MemoryArea}
 use Rattle.script65.specs.declared.script.Operand.TheVariants as operand
@@ -17,79 +17,80 @@ use Rattle.script65.specs.declared.placement.PlaceFault.{PlaceFault}
 use Rattle.script65.specs.declared.placement.Placement.{Placement}
 use Rattle.script65.specs.declared.placement.RowPlacement.{RowPlacement}
 use Rattle.script65.specs.declared.placement.SegmentNeed.{SegmentNeed}
-use Rattle.script65.specs.declared.placing.site.Bounds.{Bounds}
-use Rattle.script65.specs.declared.placing.site.RowState.{RowState}
+use Rattle.script65.specs.declared.placing.row_placing.Bounds.{Bounds}
+use Rattle.script65.specs.declared.placing.row_placing.RowState.{RowState}
 use Rattle.script65.specs.Places.{PlacementResult, address_in}
-use Rattle.script65.specs.Placing.{area_place, has_row, is_in, place_of, row_place, rows_exist, rows_from, size_of, unplaced_row}
+use Rattle.script65.specs.Placing.{area_placement, has_row, is_in, place_of, row_placement, rows_exist, rows_from, size_of, unplaced_row}
 
--- ---- There is one.
+-- ---- Placements exist.
 
--- a script has a placement for any needs, or else a first error, which isn't *out of memory*
+-- a script has a placement for any needs, or a first error that isn't *out of memory*
 abbrev pub PlacementExists : Type 0
 PlacementExists = (script : Script) (needs : List SegmentNeed) → (r : Result Placement PlaceFault) × PlacementResult script needs r × IsNoSystemError is_place_system_error r
 
 -- ---- Rows in their areas.
 
 -- of two rows of an area the later one begins at the end of the earlier one, or later
-abbrev pub ComesAfter : ℕ → SegmentRow → RowPlacement → SegmentRow → RowPlacement → Type 0
-ComesAfter k r p later q = is_in k r ≡ true → is_in k later ≡ true → address_in k r p + p.size ≤ address_in k later q
+abbrev pub FollowsRow : ℕ → SegmentRow → RowPlacement → SegmentRow → RowPlacement → Type 0
+FollowsRow k r p later q = is_in k r ≡ true → is_in k later ≡ true → address_in k r p + p.size ≤ address_in k later q
 
-abbrev pub AreAfter : ℕ → SegmentRow → RowPlacement → List SegmentRow → List RowPlacement → Type 0
-AreAfter k r p (later ∷ rs) (q ∷ qs) = ComesAfter k r p later q × AreAfter k r p rs qs
-AreAfter k r p _ _ = ⊤
+abbrev pub AllFollowRow : ℕ → SegmentRow → RowPlacement → List SegmentRow → List RowPlacement → Type 0
+AllFollowRow k r p (later ∷ rs) (q ∷ qs) = FollowsRow k r p later q × AllFollowRow k r p rs qs
+AllFollowRow k r p _ _ = ⊤
 
-abbrev pub AreApart : ℕ → List SegmentRow → List RowPlacement → Type 0
-AreApart k (r ∷ rs) (p ∷ ps) = AreAfter k r p rs ps × AreApart k rs ps
-AreApart k _ _ = ⊤
+abbrev pub AreDisjointRows : ℕ → List SegmentRow → List RowPlacement → Type 0
+AreDisjointRows k (r ∷ rs) (p ∷ ps) = AllFollowRow k r p rs ps × AreDisjointRows k rs ps
+AreDisjointRows k _ _ = ⊤
 
 -- no two rows of an area overlap
-abbrev pub NoOverlap : Type 0
-NoOverlap =
+abbrev pub RowsAreDisjoint : Type 0
+RowsAreDisjoint =
     (script : Script) (needs : List SegmentNeed) (p : Placement) → place_of script needs ≡ Ok p →
-    (k : ℕ) → k < length script.areas → AreApart k script.rows p.rows
+    (k : ℕ) → k < length script.areas → AreDisjointRows k script.rows p.rows
 
 -- a row of an area is within it: neither before its first address nor after its last
-abbrev pub IsWithin : ℕ → AreaPlacement → SegmentRow → RowPlacement → Type 0
-IsWithin k place r p = is_in k r ≡ true → (place.start ≤ address_in k r p) × (address_in k r p + p.size ≤ place.start + place.size)
+abbrev pub IsWithinArea : ℕ → AreaPlacement → SegmentRow → RowPlacement → Type 0
+IsWithinArea k placement r p = is_in k r ≡ true → (placement.start ≤ address_in k r p) × (address_in k r p + p.size ≤ placement.start + placement.size)
 
-abbrev pub AreWithin : ℕ → AreaPlacement → List SegmentRow → List RowPlacement → Type 0
-AreWithin k place (r ∷ rs) (p ∷ ps) = IsWithin k place r p × AreWithin k place rs ps
-AreWithin k place _ _ = ⊤
+abbrev pub AreWithinArea : ℕ → AreaPlacement → List SegmentRow → List RowPlacement → Type 0
+AreWithinArea k placement (r ∷ rs) (p ∷ ps) = IsWithinArea k placement r p × AreWithinArea k placement rs ps
+AreWithinArea k placement _ _ = ⊤
 
--- each row lies within its areas
-abbrev pub AllWithin : Type 0
-AllWithin =
+-- each row is within its areas
+abbrev pub RowsAreWithinAreas : Type 0
+RowsAreWithinAreas =
     (script : Script) (needs : List SegmentNeed) (p : Placement) → place_of script needs ≡ Ok p →
-    (k : ℕ) (place : AreaPlacement) → slice_get p.areas k ≡ Some place → AreWithin k place script.rows p.rows
+    (k : ℕ) (placement : AreaPlacement) → slice_get p.areas k ≡ Some placement → AreWithinArea k placement script.rows p.rows
 
 -- ---- Areas by their sums.
 
--- a number and what is taken are together what is added, the terms read off these places
+-- a number plus the subtracted terms is the sum of the added ones, with the values of terms under these
+-- placements
 abbrev pub HasSum : List AreaPlacement → List RowPlacement → List Term → ℕ → Type 0
 HasSum areas rows ts n =
-    come_to (λ (t : Term). t.minus) (term_value areas rows) ts + n ≡ come_to (λ (t : Term). not t.minus) (term_value areas rows) ts
+    sum_where (λ (t : Term). t.minus) (term_value areas rows) ts + n ≡ sum_where (λ (t : Term). not t.minus) (term_value areas rows) ts
 
 -- The area at an index of the script has the start and the size of its sums, evaluated under the placement
 -- itself. Their names are known there: those of earlier areas and of the rows in these, the sizes of all rows
 -- and, in its size, its own start. Start and size are below 2 ^ 32, and the area ends at the last address or
 -- before it.
-pub record HoldsSums (k : ℕ) (rows : List SegmentRow) (p : Placement) (a : MemoryArea) (place : AreaPlacement) : Type 0 where
-  pub start : HasSum p.areas p.rows a.start place.start
-  pub size : HasSum p.areas p.rows a.size place.size
+pub record SatisfiesSums (k : ℕ) (rows : List SegmentRow) (p : Placement) (a : MemoryArea) (placement : AreaPlacement) : Type 0 where
+  pub start : HasSum p.areas p.rows a.start placement.start
+  pub size : HasSum p.areas p.rows a.size placement.size
   pub start_known : list_all (is_known k false rows) a.start ≡ true
   pub size_known : list_all (is_known k true rows) a.size ≡ true
-  pub start_less : place.start < 2 ^ 32
-  pub size_less : place.size < 2 ^ 32
-  pub inside : place.start + place.size ≤ 2 ^ 32
+  pub start_less : placement.start < 2 ^ 32
+  pub size_less : placement.size < 2 ^ 32
+  pub inside : placement.start + placement.size ≤ 2 ^ 32
 
 -- each area has the start and the size of its sums
-abbrev pub SumsHold : Type 0
-SumsHold =
+abbrev pub AreasSatisfySums : Type 0
+AreasSatisfySums =
     (script : Script) (needs : List SegmentNeed) (p : Placement) → place_of script needs ≡ Ok p →
-    (k : ℕ) (a : MemoryArea) (place : AreaPlacement) → slice_get script.areas k ≡ Some a → slice_get p.areas k ≡ Some place →
-    HoldsSums k script.rows p a place
+    (k : ℕ) (a : MemoryArea) (placement : AreaPlacement) → slice_get script.areas k ≡ Some a → slice_get p.areas k ≡ Some placement →
+    SatisfiesSums k script.rows p a placement
 
--- ---- Areas by numbers alone.
+-- ---- Areas without names in their sums.
 
 -- all terms are numbers, and this is their sum
 pub record AreNumbers (ts : List Term) (n : ℕ) : Type 0 where
@@ -109,48 +110,48 @@ AreFixed [] [] = ⊤
 AreFixed (a ∷ as') (b ∷ bs) = IsFixed a b × AreFixed as' bs
 AreFixed _ _ = ⊥
 
--- the rows of areas with such bounds, area by area
+-- the placement of the rows of areas with such bounds, area by area
 abbrev pub fixed_from : ℕ → List SegmentRow → List MemoryArea → List Bounds → List AreaPlacement → List RowState → Result Placement PlaceFault
 fixed_from k rows (a ∷ rest) (b ∷ bs) placed ss =
     rows_from k a b rows ss b.start
-    >>= λ x. fixed_from (k + 1) rows rest bs (placed ++ area_place b x.1 ∷ []) x.0
-fixed_from k rows _ _ placed ss = Ok (record { areas = placed; rows = map row_place ss })
+    >>= λ x. fixed_from (k + 1) rows rest bs (placed ++ area_placement b x.1 ∷ []) x.0
+fixed_from k rows _ _ placed ss = Ok (record { areas = placed; rows = map row_placement ss })
 
--- where all sums are numbers, a script is placed by these, and no fault is one of a sum
-abbrev pub OnlyNumbers : Type 0
-OnlyNumbers =
+-- if all sums are numbers, a script is placed by these, and no error is one of a sum
+abbrev pub ConstantSumsDetermineAreas : Type 0
+ConstantSumsDetermineAreas =
     (script : Script) (needs : List SegmentNeed) (bounds : List Bounds) → AreFixed script.areas bounds →
     place_of script needs ≡ (rows_exist script.rows needs >>= λ u. fixed_from 0 script.rows script.areas bounds [] (map (unplaced_row needs) script.rows))
 
--- an area of a text has no name in its sums
+-- the sums of an area of a text have no names
 abbrev pub HasNoNames : ConfigEntry → Type 0
 HasNoNames e =
-    AllByRecursion (λ (p : ParsedTerm). is_some p.number ≡ true) (parts_for (codes "start") e)
-    × AllByRecursion (λ (p : ParsedTerm). is_some p.number ≡ true) (parts_for (codes "size") e)
+    AllByRecursion (λ (p : ParsedTerm). is_some p.number ≡ true) (terms_for (codes "start") e)
+    × AllByRecursion (λ (p : ParsedTerm). is_some p.number ≡ true) (terms_for (codes "size") e)
 
--- a script in whose text no sum has a name has such areas: sums were looked at as they were read
-abbrev pub NoNamesFixed : Type 0
-NoNamesFixed =
+-- a script in whose text no sum has a name has such areas, since sums are checked as they are read
+abbrev pub SumsWithoutNamesAreConstant : Type 0
+SumsWithoutNamesAreConstant =
     (bytes : List ℕ) (es : Entries) (script : Script) →
     HasEntries bytes (Ok es) → script_from es ≡ Ok script →
     AllByRecursion HasNoNames es.areas → (bounds : List Bounds) × AreFixed script.areas bounds
 
--- ---- What a placement rests on.
+-- ---- Conditions of placements.
 
--- a placement has a place for each area and for each row
-abbrev pub AllPlaced : Type 0
-AllPlaced =
+-- a placement has an entry for each area and for each row
+abbrev pub PlacementIsComplete : Type 0
+PlacementIsComplete =
     (script : Script) (needs : List SegmentNeed) (p : Placement) → place_of script needs ≡ Ok p →
     (length p.areas ≡ length script.areas) × (length p.rows ≡ length script.rows)
 
 -- each segment that is needed has a row
-abbrev pub RowsThere : Type 0
-RowsThere =
+abbrev pub NeededRowsExist : Type 0
+NeededRowsExist =
     (script : Script) (needs : List SegmentNeed) (p : Placement) → place_of script needs ≡ Ok p →
     AllByRecursion (λ (n : SegmentNeed). has_row script.rows n.name ≡ true) needs
 
--- of needs their names count, and their sizes by name
-abbrev pub SameNeeds : Type 0
-SameNeeds =
+-- needs with the same names, and the same sizes by name, have the same placement or error
+abbrev pub PlacementDependsOnSizes : Type 0
+PlacementDependsOnSizes =
     (script : Script) (needs others : List SegmentNeed) → map (λ (n : SegmentNeed). n.name) needs ≡ map (λ (n : SegmentNeed). n.name) others →
     ((name : List ℕ) → size_of needs name ≡ size_of others name) → place_of script needs ≡ place_of script others

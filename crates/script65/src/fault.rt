@@ -1,4 +1,4 @@
-//! Why a script is refused.
+//! The errors of scripts.
 
 ghost use Rattle.std.specs.Prelude.{◌≡◌, Some};
 ghost use Rattle.script65.specs.declared.fault.Fault.TheVariants.{OutOfMemory};
@@ -8,7 +8,7 @@ use std::alloc::{AllocError, AllocFailed};
 use std::error::Error;
 use std::fmt;
 
-/// Why a script is refused.
+/// An error of a script.
 #[derive(Clone, Copy, Debug)]
 pub enum Fault {
     OutOfMemory = 1,
@@ -26,11 +26,11 @@ pub enum Fault {
 }
 
 impl Fault {
-    ghost use Rattle.script65.specs.Faults.{names};
+    ghost use Rattle.script65.specs.Faults.{is_name_fault};
 
-    /// Returns whether it is a fault of a name.
-    pub fn names(self) -> bool
-        ensures { result ≡ names self }
+    /// Returns whether it is an error of a name.
+    pub fn is_name_fault(self) -> bool
+        ensures { result ≡ is_name_fault self }
     {
         matches!(self, Fault::NoSuchName | Fault::AmbiguousName)
     }
@@ -59,8 +59,7 @@ impl fmt::Display for Fault {
     }
 }
 
-/// A fault of a script, and the line in which it is found, the first line being 1. One of a name has the name, any other
-/// none.
+/// An error of a script, and its line; the first line is 1. The name is empty unless the error is one of a name.
 #[derive(Debug, Drop)]
 pub struct ScriptFault {
     pub fault: Fault,
@@ -75,7 +74,7 @@ impl fmt::Display for ScriptFault {
 
     fn fmt<W: fmt::Write>(&self, f: &mut fmt::Formatter<W>) -> fmt::Result {
         let fault = self.fault;
-        if fault.names() {
+        if fault.is_name_fault() {
             let name = ByteDisplay(self.name.as_slice());
             write!(f, "{fault}: {name}")
         } else {
@@ -86,7 +85,7 @@ impl fmt::Display for ScriptFault {
 
 impl Error for ScriptFault {}
 
-/// A name as it is printed: each byte is the character of its code.
+/// A name to display, each byte as the character with its code.
 #[derive(Clone, Copy)]
 pub struct ByteDisplay<'a>(pub &'a [u8]);
 
@@ -103,7 +102,7 @@ impl fmt::Display for ByteDisplay<'_> {
     }
 }
 
-/// A fault, and where the token begins at which it is found.
+/// An error, and the offset of its token.
 #[derive(Clone, Copy)]
 pub struct FaultAt {
     pub fault: Fault,
@@ -112,10 +111,10 @@ pub struct FaultAt {
 
 impl FaultAt {
     ghost use Rattle.std.specs.Prelude.{◌≡◌};
-    ghost use Rattle.script65.specs.Faults.{stop_at};
+    ghost use Rattle.script65.specs.Faults.{fault_at};
 
     pub fn new(fault: Fault, at: usize) -> Self
-        ensures { result ≡ stop_at fault at }
+        ensures { result ≡ fault_at fault at }
     {
         FaultAt { fault, at }
     }

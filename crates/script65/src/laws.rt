@@ -1,94 +1,94 @@
 //! Laws of scripts and placements.
 
-ghost use Rattle.script65.specs.FirstFaults.{FirstFaults, NumberedFaults};
-ghost use Rattle.script65.specs.Laws.{AllThere, LongestTokens, NoContinuation, ReadingIsUnique, ReadingExists};
+ghost use Rattle.script65.specs.FirstFaults.{FirstFaultsAreExact, TokenFaultsAreExact};
+ghost use Rattle.script65.specs.Laws.{ReferencesAreValid, TokensAreLongest, NoContinuation, ReadingIsUnique, ReadingExists};
 ghost use Rattle.script65.specs.Places.{PlacementIsUnique};
-ghost use Rattle.script65.specs.PlacingLaws.{AllPlaced, AllWithin, NoNamesFixed, NoOverlap, OnlyNumbers, RowsThere, SameNeeds, PlacementExists, SumsHold};
+ghost use Rattle.script65.specs.PlacingLaws.{PlacementIsComplete, RowsAreWithinAreas, SumsWithoutNamesAreConstant, RowsAreDisjoint, ConstantSumsDetermineAreas, NeededRowsExist, PlacementDependsOnSizes, PlacementExists, AreasSatisfySums};
 
-/// A text is one script or has one first fault, at most.
+/// A text has at most one result: a script or a first error.
 pub fn reading_is_unique()
     ensures { ReadingIsUnique }
 {}
 
-/// And it is one at least: no text lacks a script and a fault of its own.
+/// A text has a result: a script, or a first error that isn't *out of memory*.
 pub fn reading_exists()
     ensures { ReadingExists }
 {}
 
-/// Behind the tokens up to a first fault no text goes on as a script.
+/// No text that begins with the tokens up to the one that reveals a first error is a script.
 pub fn no_continuation()
     ensures { NoContinuation }
 {}
 
-/// A first fault that is no syntax error is one of a token by what the grammar writes before it, and each such fault is the
-/// first one.
-pub fn numbered_faults()
-    ensures { NumberedFaults }
+/// A first error that isn't a syntax error is an error of one token, by the grammar of the text before it; and each such
+/// error is the first one.
+pub fn token_faults_are_exact()
+    ensures { TokenFaultsAreExact }
 {}
 
-/// A first fault is one of these, or else a syntax error at the least token with which no text goes on as a script; and each
-/// such fault is the first one.
-pub fn first_faults()
-    ensures { FirstFaults }
+/// A first error is one of these or, if there is none, a syntax error at the first token with which no text continues as a
+/// script; and each such error is the first one.
+pub fn first_faults_are_exact()
+    ensures { FirstFaultsAreExact }
 {}
 
 /// The token at the front of a text is the longest text there that is a token.
-pub fn longest_tokens()
-    ensures { LongestTokens }
+pub fn tokens_are_longest()
+    ensures { TokensAreLongest }
 {}
 
-/// Areas and rows that a script's rows and sums name are there.
-pub fn all_there()
-    ensures { AllThere }
+/// The areas and rows that a script's rows and sums refer to exist.
+pub fn references_are_valid()
+    ensures { ReferencesAreValid }
 {}
 
-/// A script has a placement for any needs, or else a first fault of its own.
+/// A script has a placement for any needs, or a first error that isn't *out of memory*.
 pub fn placement_exists()
     ensures { PlacementExists }
 {}
 
-/// A script has one placement for its needs, or else one first fault: that which the function of a cursor gives.
+/// A script has exactly one placement or first error for its needs: that of placing its rows in order, with a cursor.
 pub fn placement_is_unique()
     ensures { PlacementIsUnique }
 {}
 
 /// No two rows of an area overlap.
-pub fn none_overlap()
-    ensures { NoOverlap }
+pub fn rows_are_disjoint()
+    ensures { RowsAreDisjoint }
 {}
 
-/// Each row lies within the areas in which it runs and loads.
-pub fn all_within()
-    ensures { AllWithin }
+/// Each row is within the areas in which it runs and loads.
+pub fn rows_are_within_areas()
+    ensures { RowsAreWithinAreas }
 {}
 
 /// Each area has the start and the size that its sums have under the placement itself, and all
 /// names in these sums are known there.
-pub fn sums_hold()
-    ensures { SumsHold }
+pub fn areas_satisfy_sums()
+    ensures { AreasSatisfySums }
 {}
 
-/// Where sums are numbers alone, the areas are these, and no fault is one of a sum.
-pub fn only_numbers()
-    ensures { OnlyNumbers }
+/// If all sums are numbers, the areas have these starts and sizes, and no error is one of a sum.
+pub fn constant_sums_determine_areas()
+    ensures { ConstantSumsDetermineAreas }
 {}
 
-/// The same of each text whose sums have no names.
-pub fn no_names_fixed()
-    ensures { NoNamesFixed }
+/// If no sum of a text has a name, all sums of its script are numbers.
+pub fn sums_without_names_are_constant()
+    ensures { SumsWithoutNamesAreConstant }
 {}
 
-/// A placement has a place for each area and for each row.
-pub fn all_placed()
-    ensures { AllPlaced }
+/// A placement has an entry for each area and for each row.
+pub fn placement_is_complete()
+    ensures { PlacementIsComplete }
 {}
 
 /// Each segment that is needed has a row.
-pub fn rows_there()
-    ensures { RowsThere }
+pub fn needed_rows_exist()
+    ensures { NeededRowsExist }
 {}
 
-/// Needs of the same names, and of the same sizes by name, are placed the same.
-pub fn same_needs()
-    ensures { SameNeeds }
+/// Needs with the same names, and the same sizes by name, have the same placement or error.
+pub fn placement_depends_on_sizes()
+    ensures { PlacementDependsOnSizes }
 {}

@@ -1,5 +1,5 @@
-//! Linker scripts: the areas of memory, the rows of segments and the symbols that one defines, and where the segments of a
-//! program are placed by one.
+//! Linker scripts: reads the memory areas, segment rows and symbols that a script defines, and places the segments of a
+//! program.
 #![tactic(auto)]
 
 mod fault;

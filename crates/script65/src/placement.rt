@@ -26,7 +26,7 @@ pub struct AreaPlacement {
     pub last: u64,
 }
 
-/// Where a row's segment is loaded and where it runs, and its size in bytes.
+/// The load address and the run address of a row's segment, and its size in bytes.
 #[derive(Clone, Copy, Debug, PartialEq, Eq)]
 pub struct RowPlacement {
     pub load: u64,
@@ -34,28 +34,29 @@ pub struct RowPlacement {
     pub size: u64,
 }
 
-/// The places of a script's areas and rows, in the script's order.
+/// The placements of a script's areas and rows, in the script's order.
 #[derive(Drop)]
 pub struct Placement {
     pub areas: ListVec<AreaPlacement>,
     pub rows: ListVec<RowPlacement>,
 }
 
-/// Why segments can't be placed, and the name of what it concerns.
+/// An error of placing segments, with the name that it concerns.
 #[derive(Debug, Drop)]
 pub enum PlaceFault {
     OutOfMemory,
-    /// A segment that no row has.
+    /// A segment without a row.
     NoRow(ListVec<u8>),
     /// A row that isn't read-only runs in a read-only area.
     ReadOnlyArea(ListVec<u8>),
-    /// A row that would begin below what is placed before it.
+    /// A row that would begin below the end of the rows before it.
     StartBelow(ListVec<u8>),
-    /// A row that ends after the end of its area: the area, and by how many bytes.
+    /// A row that would end after its area: the area's name, and by how many bytes.
     Overflow(ListVec<u8>, u128),
-    /// A name in an area's sum that stands for what isn't known yet.
+    /// A name in an area's sum whose value isn't known yet.
     NotPlaced(ListVec<u8>),
-    /// An area whose start or size isn't below 2 ^ 32, or that ends after the last address.
+    /// An area whose start or size is negative or not below 2 ^ 32, or that ends after the last
+    /// address.
     AreaOutOfRange(ListVec<u8>),
 }
 

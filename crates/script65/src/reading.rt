@@ -8,47 +8,51 @@ ghost use Rattle.script65.specs.Scripts.{IsScript, fault_in};
 
 use crate::fault::{Fault, FaultAt, ScriptFault};
 use crate::reading::grammar::read_entries;
-use crate::reading::making::make_script;
-use crate::reading::tokens::{line_of, written};
+use crate::reading::script_building::build_script;
+use crate::reading::tokens::{line_of, token_text};
 use crate::script::Script;
 use base65::ListVec;
 use std::alloc::{AllocError, Global};
 
 mod entries;
 mod grammar;
-mod making;
+mod keyword_tables;
 mod naming;
+mod script_building;
 mod tokens;
 mod values;
-mod words;
 
-// The script of a text, or its first fault with the place of that.
+// Reads the script of a text, or returns its first error with the offset.
 fn read_text(alloc: Global, bytes: &[u8]) -> Result<Script, FaultAt>
     ensures { RefinesProp is_system_error (HasScript bytes.now) result }
 {
     let entries = read_entries(alloc, bytes)?;
-    make_script(alloc, &entries)
+    build_script(alloc, &entries)
 }
 
-// The name that a fault is one of.
-fn fault_name(alloc: Global, bytes: &[u8], stop: FaultAt) -> Result<ListVec<u8>, AllocError>
-    ensures { IfOk result (λ name. name ≡ (fault_in bytes.now stop).name) }
+// Returns the name of an error of a name, and an empty one for any other error.
+fn fault_name(
+    alloc: Global,
+    bytes: &[u8],
+    located_fault: FaultAt,
+) -> Result<ListVec<u8>, AllocError>
+    ensures { IfOk result (λ name. name ≡ (fault_in bytes.now located_fault).name) }
 {
-    if stop.fault.names() {
-        ListVec::copy_of(alloc, written(bytes, stop.at))
+    if located_fault.fault.is_name_fault() {
+        ListVec::copy_of(alloc, token_text(bytes, located_fault.at))
     } else {
         Ok(ListVec::new(alloc))
     }
 }
 
-// A fault with its line in place of its place, and with the name that it is one of.
-fn fault_in(alloc: Global, bytes: &[u8], stop: FaultAt) -> ScriptFault
-    ensures { Unless (is_script_system_error result) (result ≡ fault_in bytes.now stop) }
+// Returns the error with its line instead of its offset, and with its name.
+fn fault_in(alloc: Global, bytes: &[u8], located_fault: FaultAt) -> ScriptFault
+    ensures { Unless (is_script_system_error result) (result ≡ fault_in bytes.now located_fault) }
 {
-    match fault_name(alloc, bytes, stop) {
+    match fault_name(alloc, bytes, located_fault) {
         Ok(name) => ScriptFault {
-            fault: stop.fault,
-            line: line_of(bytes, stop.at),
+            fault: located_fault.fault,
+            line: line_of(bytes, located_fault.at),
             name,
         },
         Err(_) => ScriptFault {
@@ -59,9 +63,10 @@ fn fault_in(alloc: Global, bytes: &[u8], stop: FaultAt) -> ScriptFault
     }
 }
 
-/// The script of a text, or its first fault with the line of that. A text has at most 1,048,576 bytes.
+/// Reads the script of a text, or returns its first error with the line. A text longer than 1,048,576
+/// bytes is an error.
 pub fn read_script(alloc: Global, bytes: &[u8]) -> Result<Script, ScriptFault>
     ensures { RefinesProp is_script_system_error (IsScript bytes.now) result }
 {
-    read_text(alloc, bytes).map_err(|stop| fault_in(alloc, bytes, stop))
+    read_text(alloc, bytes).map_err(|located_fault| fault_in(alloc, bytes, located_fault))
 }

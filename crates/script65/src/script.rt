@@ -24,7 +24,7 @@ pub struct MemoryArea {
     pub file: AreaOutput,
     /// Whether the file is as long as the area.
     pub fill: bool,
-    /// The byte of gaps.
+    /// The byte for gaps.
     pub fill_value: u8,
     /// Whether names for the area's start, its size and the first address after its last row are
     /// defined.
@@ -34,13 +34,12 @@ pub struct MemoryArea {
 /// A term of a sum.
 #[derive(Clone, Copy, Debug)]
 pub struct Term {
-    /// Whether it is taken from the sum, and not added to it.
+    /// Whether it is subtracted.
     pub minus: bool,
     pub operand: Operand,
 }
 
-/// The value of a term: a number, or a part of an area or of a row, which is named by its index in
-/// the script.
+/// The value of a term: a number, or an attribute of the area or row at this index of the script.
 #[derive(Clone, Copy, Debug)]
 pub enum Operand {
     Number(u32),
@@ -48,7 +47,7 @@ pub enum Operand {
     Row(usize, RowAttribute),
 }
 
-/// The part of an area that a name refers to.
+/// The attribute of an area that a name refers to.
 #[derive(Clone, Copy, Debug)]
 pub enum AreaAttribute {
     /// Its first address.
@@ -62,7 +61,7 @@ pub enum AreaAttribute {
 impl AreaAttribute {
     ghost use Rattle.script65.specs.AreaSums.{area_ending};
 
-    /// Returns the ending that follows the area's name in the name of this part.
+    /// Returns the ending that follows the area's name in the name of this attribute.
     pub fn ending(self) -> &'static [u8]
         ensures { result.now ≡ area_ending self }
     {
@@ -74,12 +73,12 @@ impl AreaAttribute {
     }
 }
 
-/// The part of a row that a name refers to.
+/// The attribute of a row that a name refers to.
 #[derive(Clone, Copy, Debug)]
 pub enum RowAttribute {
-    /// Where its segment is loaded.
+    /// The load address of its segment.
     Load,
-    /// Where its segment runs.
+    /// The run address of its segment.
     Run,
     /// The size of its segment, in bytes.
     Size,
@@ -88,7 +87,7 @@ pub enum RowAttribute {
 impl RowAttribute {
     ghost use Rattle.script65.specs.AreaSums.{row_ending};
 
-    /// Returns the ending that follows the row's name in the name of this part.
+    /// Returns the ending that follows the row's name in the name of this attribute.
     pub fn ending(self) -> &'static [u8]
         ensures { result.now ≡ row_ending self }
     {
@@ -100,12 +99,12 @@ impl RowAttribute {
     }
 }
 
-/// The file in which an area's bytes are written.
+/// The file to which an area's bytes are written.
 #[derive(Drop)]
 pub enum AreaOutput {
     /// The linker's output.
     Output,
-    /// A file of this name, which may be empty: then nothing is written.
+    /// A file with this name. If the name is empty, nothing is written.
     Named(ListVec<u8>),
 }
 
@@ -135,10 +134,10 @@ impl SegmentType {
     }
 }
 
-/// Where a row begins in the area in which it runs.
+/// The start of a row in its run area.
 #[derive(Clone, Copy, Debug, PartialEq, Eq)]
 pub enum RowStart {
-    /// Behind what is placed before, at a multiple of the row's alignment.
+    /// After the rows before it, at a multiple of the row's alignment.
     Aligned,
     /// At an address.
     Start(u32),
@@ -146,23 +145,23 @@ pub enum RowStart {
     Offset(u32),
 }
 
-/// A segment's row. An area is named by its place in the script's areas.
+/// A segment's row. Its areas are given by index.
 #[derive(Drop)]
 pub struct SegmentRow {
     pub name: ListVec<u8>,
     pub load: usize,
     pub run: usize,
     pub access: SegmentType,
-    /// The alignment in the area in which the row runs.
+    /// The alignment in the run area.
     pub align: u32,
-    /// The alignment in a load area that differs.
+    /// The alignment in a load area that isn't the run area.
     pub align_load: u32,
     pub begin: RowStart,
-    /// The byte between sections and of fills.
+    /// The byte for gaps between sections and for fills.
     pub fill_value: u8,
     /// Whether names for the segment's addresses and size are defined.
     pub define: bool,
-    /// Whether no module need have the segment.
+    /// Whether the segment may be missing from all modules.
     pub optional: bool,
 }
 
@@ -176,10 +175,10 @@ pub struct Symbol {
 /// The type of a symbol in the script.
 #[derive(Clone, Copy, Debug, PartialEq, Eq)]
 pub enum SymbolKind {
-    /// Defines it by a value.
+    /// A definition with this value.
     Export(u32),
-    /// Defines it by a value where nothing else does.
+    /// A definition with this value, if nothing else defines the symbol.
     Weak(u32),
-    /// Needs it to be defined.
+    /// A symbol that must be defined elsewhere.
     Import,
 }

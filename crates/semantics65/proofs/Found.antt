@@ -9,32 +9,32 @@ use Rattle.base65.specs.Outcome.{◌>>=◌}
 use Rattle.syntax65.specs.declared.source_location.SourceLocation.{SourceLocation}
 use Rattle.object65.specs.declared.object.Export.{Export}
 use Rattle.object65.specs.declared.object.Origin.{Origin}
-use Rattle.semantics65.specs.Contents.{Content, Declaration, Exported, ForcedImport, Asserted, exported_name, exported_names}
-use Rattle.semantics65.specs.Module.{Resolution, PieceResult, Piece, LocatedFault, Slot, slot_result, result_then, made_of, resolution_of}
-use Rattle.semantics65.specs.Numbering.{all_said, export_of}
+use Rattle.semantics65.specs.Contents.{Content, Declaration, ExportedSymbol, ForcedImport, LinkAssertion, exported_name, exported_names}
+use Rattle.semantics65.specs.Module.{Resolution, PieceResult, Piece, LocatedFault, Slot, slot_result, result_then, unrepeated_result, resolution_of}
+use Rattle.semantics65.specs.Numbering.{all_declarations, export_of}
 use Rattle.semantics65.specs.Symbols.{Symbols}
-use Rattle.semantics65.specs.declared.laid.Context.{Context}
+use Rattle.semantics65.specs.declared.contexts.Context.{Context}
 
 -- ---- What was found behind what was found.
 
 -- these contents, and what was said
 abbrev pub found_all : List Content → List ℕ → Resolution
-found_all cs said = record { found = Ok cs; warned = said }
+found_all cs said = record { found = Ok cs; printed_warnings = said }
 
 abbrev pub after_found : Result (List Content) LocatedFault → List ℕ → Resolution → Resolution
-after_found (Ok cs) said b = record { found = b.found >>= (λ ds. Ok (cs ++ ds)); warned = said ++ b.warned }
-after_found (Err e) said b = record { found = Err e; warned = said }
+after_found (Ok cs) said b = record { found = b.found >>= (λ ds. Ok (cs ++ ds)); printed_warnings = said ++ b.printed_warnings }
+after_found (Err e) said b = record { found = Err e; printed_warnings = said }
 
 -- the one and then the other
 abbrev pub after : Resolution → Resolution → Resolution
-after a b = after_found a.found a.warned b
+after a b = after_found a.found a.printed_warnings b
 
 prepended : (r : Result (List Content) LocatedFault) → (r >>= (λ ds. Ok ([] ++ ds))) ≡ r
 prepended (Ok ds) = refl
 prepended (Err e) = refl
 
 pub nothing_after : (b : Resolution) → after (found_all [] []) b ≡ b
-nothing_after b = ap (λ r. record { found = r; warned = b.warned }) (prepended b.found)
+nothing_after b = ap (λ r. record { found = r; printed_warnings = b.printed_warnings }) (prepended b.found)
 
 -- a slot more comes to a content
 pub resolved_more : (y : Symbols) (names : List (List ℕ)) (cs : List Content) (said : List ℕ) (x : Slot) (xs : List Slot) (m : PieceResult) → slot_result y names x ≡ Ok m →
@@ -43,7 +43,7 @@ resolved_more y names cs said x xs m made = grind (arith, common_steps, append_a
 
 -- the first that has a fault ends it
 pub resolved_stops : (y : Symbols) (names : List (List ℕ)) (cs : List Content) (said : List ℕ) (x : Slot) (xs : List Slot) (e : LocatedFault) → slot_result y names x ≡ Err e →
-    after (found_all cs said) (resolution_of y names (x ∷ xs)) ≡ record { found = Err e; warned = said }
+    after (found_all cs said) (resolution_of y names (x ∷ xs)) ≡ record { found = Err e; printed_warnings = said }
 resolved_stops y names cs said x xs e made = grind (arith, common_steps, append-nil)
 
 -- ---- Names.
@@ -54,9 +54,9 @@ names_append ss ts = filter_map-append exported_name ss ts
 -- the names of an object's exports are those that were said
 pub exports_named : (at : SourceLocation → Origin) (s i : List ℕ) (ss : List Declaration) → map (λ (e : Export). e.name) (filter_map (export_of at s i) ss) ≡ exported_names ss
 exports_named at s i [] = refl
-exports_named at s i (Exported n place f ∷ ss) = ap (λ ns. n ∷ ns) (exports_named at s i ss)
+exports_named at s i (ExportedSymbol n location f ∷ ss) = ap (λ ns. n ∷ ns) (exports_named at s i ss)
 exports_named at s i (ForcedImport n ∷ ss) = exports_named at s i ss
-exports_named at s i (Asserted act place words f ∷ ss) = exports_named at s i ss
+exports_named at s i (LinkAssertion act location words f ∷ ss) = exports_named at s i ss
 
 -- ---- Contents, each with its slot.
 
@@ -91,7 +91,7 @@ pub record Split (y : Symbols) (names : List (List ℕ)) (xs ys : List Slot) (cs
   pub last : List Content
   pub all : first ++ last ≡ cs
   pub before : AreFound y names xs first
-  pub following : AreFound y (names ++ exported_names (all_said first)) ys last
+  pub following : AreFound y (names ++ exported_names (all_declarations first)) ys last
 
 pub found_split : (y : Symbols) (names : List (List ℕ)) (xs ys : List Slot) (cs : List Content) → AreFound y names (xs ++ ys) cs → Split y names xs ys cs
 found_split y names [] ys cs h = record { first = []; last = cs; all = refl; before = tt; following = subst (λ ns. AreFound y ns ys cs) (sym (append-nil names)) h }
@@ -103,7 +103,7 @@ found_split y names (x ∷ xs) ys (c ∷ cs) (w, made, h) =
       last = rest.last;
       all = ap (λ ds. c ∷ ds) rest.all;
       before = (w, made, rest.before);
-      following = subst (λ ns. AreFound y ns ys rest.last) (append_assoc names (exported_names c.said) (exported_names (all_said rest.first)) ∙ ap (λ ns. names ++ ns) (sym (names_append c.said (all_said rest.first)))) rest.following;
+      following = subst (λ ns. AreFound y ns ys rest.last) (append_assoc names (exported_names c.said) (exported_names (all_declarations rest.first)) ∙ ap (λ ns. names ++ ns) (sym (names_append c.said (all_declarations rest.first)))) rest.following;
     }
 
 -- what is so of whatever such slots come to
@@ -118,7 +118,7 @@ found_all_so y P Q so names (x ∷ xs) (c ∷ cs) (p, all) (w, made, h) = (so na
 -- ---- A piece asks for no section.
 
 abbrev pub asks_none : PieceResult → Type 0
-asks_none m = m.content.asks ≡ false
+asks_none m = m.content.requests_section ≡ false
 
-pub made_asks : (y : Symbols) (place : SourceLocation) (s : Context) (p : Piece) → IfOk (made_of y place s p) asks_none
-made_asks y place s x1 = grind (arith, common_steps)
+pub made_asks : (y : Symbols) (location : SourceLocation) (s : Context) (p : Piece) → IfOk (unrepeated_result y location s p) asks_none
+made_asks y location s x1 = grind (arith, common_steps)

@@ -9,20 +9,20 @@ use Rattle.std.proofs.lemmas.List.{length-append}
 use Rattle.syntax65.specs.declared.lexing.tokens.AddressSize.{AddressSize}
 use Rattle.object65.specs.Objects.{is_among}
 use Rattle.semantics65.specs.declared.contents.Segment.{Segment}
-use Rattle.semantics65.specs.Layout.{first_size, grown_at, named_segments, new_segment, or_last, place_of, segment_at}
+use Rattle.semantics65.specs.Layout.{first_size, with_grown_segment, named_segments, new_segment, existing_or_new_index, segment_index, segment_at}
 use Rattle.ast65.proofs.Lists.{bytes_swap}
 
-pub grown_length : (gs : List Segment) (i count alignment : ℕ) → length (grown_at gs i count alignment) ≡ length gs
+pub grown_length : (gs : List Segment) (i count alignment : ℕ) → length (with_grown_segment gs i count alignment) ≡ length gs
 grown_length [] i count alignment = refl
 grown_length (g ∷ gs) zero count alignment = refl
 grown_length (g ∷ gs) (suc i) count alignment = ap suc (grown_length gs i count alignment)
 
-pub grown_end : (gs : List Segment) (i count alignment : ℕ) → i < length gs → (segment_at (grown_at gs i count alignment) i).end ≡ (segment_at gs i).end + count
+pub grown_end : (gs : List Segment) (i count alignment : ℕ) → i < length gs → (segment_at (with_grown_segment gs i count alignment) i).end ≡ (segment_at gs i).end + count
 grown_end [] i count alignment lt = absurd (omega arith)
 grown_end (g ∷ gs) zero count alignment lt = refl
 grown_end (g ∷ gs) (suc i) count alignment lt = grown_end gs i count alignment (omega arith)
 
-pub grown_names : (gs : List Segment) (i count alignment : ℕ) → map (λ (g : Segment). g.name) (grown_at gs i count alignment) ≡ map (λ (g : Segment). g.name) gs
+pub grown_names : (gs : List Segment) (i count alignment : ℕ) → map (λ (g : Segment). g.name) (with_grown_segment gs i count alignment) ≡ map (λ (g : Segment). g.name) gs
 grown_names [] i count alignment = refl
 grown_names (g ∷ gs) zero count alignment = refl
 grown_names (g ∷ gs) (suc i) count alignment = ap (λ ns. g.name ∷ ns) (grown_names gs i count alignment)
@@ -43,12 +43,12 @@ place_below p (g ∷ gs) i j e = by (p g) e (place_below p gs (i + 1) j)
     by true h f = let k : i ≡ j = cc in omega (arith, k)
     by false h f = let lt = f h in omega (arith, lt)
 
-pub found_below : (gs : List Segment) (n : List ℕ) (j : ℕ) → place_of gs n ≡ Some j → j < length gs
+pub found_below : (gs : List Segment) (n : List ℕ) (j : ℕ) → segment_index gs n ≡ Some j → j < length gs
 found_below gs n j e = let lt = place_below (λ (g : Segment). bytes_eq g.name n) gs 0 j (sym (position_from-zero (λ (g : Segment). bytes_eq g.name n) gs) ∙ e) in omega (arith, lt)
 
 -- ---- A segment that grows.
 
-pub grown_other : (gs : List Segment) (i h count alignment : ℕ) → nat_eq i h ≡ false → segment_at (grown_at gs i count alignment) h ≡ segment_at gs h
+pub grown_other : (gs : List Segment) (i h count alignment : ℕ) → nat_eq i h ≡ false → segment_at (with_grown_segment gs i count alignment) h ≡ segment_at gs h
 grown_other [] i h count alignment apart = refl
 grown_other (g ∷ gs) zero zero count alignment apart = absurd cc
 grown_other (g ∷ gs) zero (suc h) count alignment apart = refl
@@ -62,7 +62,7 @@ pub record Grows (gs hs : List Segment) (current count : ℕ) : Type 0 where
   pub here : (segment_at hs current).end ≡ (segment_at gs current).end + count
   pub others : (g : ℕ) → nat_eq current g ≡ false → (segment_at hs g).end ≡ (segment_at gs g).end
 
-pub grows : (gs : List Segment) (current count alignment : ℕ) → current < length gs → Grows gs (grown_at gs current count alignment) current count
+pub grows : (gs : List Segment) (current count alignment : ℕ) → current < length gs → Grows gs (with_grown_segment gs current count alignment) current count
 grows gs current count alignment lt = record {
   names = grown_names gs current count alignment;
   size = grown_length gs current count alignment;
@@ -76,7 +76,7 @@ grows_none gs current = record { names = refl; size = refl; here = omega arith; 
 -- ---- One more segment.
 
 -- a name without a place is none of theirs
-pub not_among : (n : List ℕ) (gs : List Segment) → place_of gs n ≡ None → is_among (map (λ (g : Segment). g.name) gs) n ≡ false
+pub not_among : (n : List ℕ) (gs : List Segment) → segment_index gs n ≡ None → is_among (map (λ (g : Segment). g.name) gs) n ≡ false
 not_among n gs e = from 0 gs (sym (position_from-zero (λ (g : Segment). bytes_eq g.name n) gs) ∙ e)
   where
     from : (i : ℕ) (hs : List Segment) → position_from (λ (g : Segment). bytes_eq g.name n) i hs ≡ None → is_among (map (λ (g : Segment). g.name) hs) n ≡ false
@@ -96,6 +96,6 @@ end_after (x ∷ gs) n own (suc g) = end_after gs n own g
 pub one_longer : (gs : List Segment) (g : Segment) → length (gs ++ g ∷ []) ≡ length gs + 1
 one_longer gs g = length-append gs (g ∷ [])
 
-pub named_there : (gs : List Segment) (n : List ℕ) (own : Option AddressSize) (place : Option ℕ) → place_of gs n ≡ place → or_last gs place < length (named_segments gs n own place)
+pub named_there : (gs : List Segment) (n : List ℕ) (own : Option AddressSize) (location : Option ℕ) → segment_index gs n ≡ location → existing_or_new_index gs location < length (named_segments gs n own location)
 named_there gs n own None e = let longer : length (gs ++ new_segment n (first_size n own) ∷ []) ≡ length gs + 1 = one_longer gs (new_segment n (first_size n own)) in omega (arith, longer)
 named_there gs n own (Some i) e = found_below gs n i e

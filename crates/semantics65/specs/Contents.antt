@@ -18,21 +18,21 @@ pub data Part : Type 0 where
   -- known bytes
   Known : List ℕ → Part
   -- bytes of the linker's fill value
-  Filled : ℕ → Part
+  ReservedBytes : ℕ → Part
   -- a deferred value, which the linker computes from its form, and the location of its statement
-  Waiting : Width → SourceLocation → Form → Part
+  LinkTimeValue : Width → SourceLocation → Form → Part
 
 -- a declaration of a statement
 pub data Declaration : Type 0 where
   -- a name that the module exports, and the location of the export
-  Exported : List ℕ → SourceLocation → Form → Declaration
+  ExportedSymbol : List ℕ → SourceLocation → Form → Declaration
   -- an import that is requested even if no form uses it
   ForcedImport : List ℕ → Declaration
   -- a condition that the linker checks, and the text that it prints otherwise
-  Asserted : Action → SourceLocation → List ℕ → Form → Declaration
+  LinkAssertion : Action → SourceLocation → List ℕ → Form → Declaration
 
 abbrev pub exported_name : Declaration → Option (List ℕ)
-exported_name (Exported n place f) = Some n
+exported_name (ExportedSymbol n location f) = Some n
 exported_name s = None
 
 -- the exported names of declarations
@@ -44,7 +44,7 @@ pub record Content : Type 0 where
   -- the segment, as an index into the segments
   pub segment : ℕ
   -- whether it requests a section of the segment; a requested section can be without bytes
-  pub asks : Bool
+  pub requests_section : Bool
   -- its parts of the section
   pub parts : List Part
   -- its declarations
@@ -54,15 +54,15 @@ pub record Content : Type 0 where
 
 -- a value that contains this location, namely a part or a list of declarations; an error if an object can't hold the name of
 -- its file
-abbrev pub located_declarations : {A : Type 0} → SourceLocation → A → Result A AsmFault
-located_declarations place a = if is_file_name place.file then Ok a else Err FileNameTooLong
+abbrev pub with_file_name_check : {A : Type 0} → SourceLocation → A → Result A AsmFault
+with_file_name_check location a = if is_file_name location.file then Ok a else Err FileNameTooLong
 
 -- ---- Parts of sections.
 
 -- a value whose form is a literal is checked and stored as bytes; any other is stored as a form
 abbrev pub value_part : Width → SourceLocation → Form → Result Part AsmFault
-value_part width place (lit v) = if fits_width width v then Ok (Known (value_bytes width v)) else Err OutOfRange
-value_part width place f = located_declarations place (Waiting width place f)
+value_part width location (lit v) = if fits_width width v then Ok (Known (value_bytes width v)) else Err OutOfRange
+value_part width location f = with_file_name_check location (LinkTimeValue width location f)
 
 -- a branch stores the distance of its target from the next instruction
 abbrev pub operand_form : Width → Context → Form → Result Form AsmFault
@@ -82,9 +82,9 @@ opcode_part None = Known []
 opcode_part (Some code) = Known (code ∷ [])
 
 -- reserved bytes: of the given value, or else of the linker's fill value
-abbrev pub room_part : ℕ → EncodingChoice → Part
-room_part count (FillByte byte) = Known (replicate count byte)
-room_part count _ = Filled count
+abbrev pub reserve_part : ℕ → EncodingChoice → Part
+reserve_part count (FillByte byte) = Known (replicate count byte)
+reserve_part count _ = ReservedBytes count
 
 -- bytes of a file, from an offset on
 abbrev pub file_bytes : ℕ → Option (List ℕ) → EncodingChoice → List ℕ
@@ -102,26 +102,26 @@ import_fault y n = go (definition_index y (named 0 n))
     go (Some j) = Err (ImportedAndDefined n)
 
 -- the export of a name, if the module defines it; otherwise the result `absent`
-abbrev pub export_said : Symbols → SourceLocation → List ℕ → Result (List Declaration) AsmFault → Option ℕ → Result (List Declaration) AsmFault
-export_said y place n absent None = absent
-export_said y place n absent (Some j) = defined_form y j >>= (λ f. located_declarations place (Exported n place f ∷ []))
+abbrev pub export_declarations : Symbols → SourceLocation → List ℕ → Result (List Declaration) AsmFault → Option ℕ → Result (List Declaration) AsmFault
+export_declarations y location n absent None = absent
+export_declarations y location n absent (Some j) = defined_form y j >>= (λ f. with_file_name_check location (ExportedSymbol n location f ∷ []))
 
 -- an assertion whose form is a literal is decided; any other is passed to the linker
 abbrev pub decided_assertion : Action → SourceLocation → List ℕ → Form → Result (List Declaration) AsmFault
-decided_assertion action.Error place words (lit (pos zero)) = Err (Assertion words)
-decided_assertion act place words (lit v) = Ok []
-decided_assertion act place words f = located_declarations place (Asserted act place words f ∷ [])
+decided_assertion action.Error location words (lit (pos zero)) = Err (Assertion words)
+decided_assertion act location words (lit v) = Ok []
+decided_assertion act location words f = with_file_name_check location (LinkAssertion act location words f ∷ [])
 
 -- ---- Contents of one kind.
 
 -- a request for the section of a segment
 abbrev pub section_request : ℕ → Content
-section_request g = record { segment = g; asks = true; parts = []; said = [] }
+section_request g = record { segment = g; requests_section = true; parts = []; said = [] }
 
 -- a part of a section
 abbrev pub section_part : ℕ → Part → Content
-section_part g p = record { segment = g; asks = false; parts = p ∷ []; said = [] }
+section_part g p = record { segment = g; requests_section = false; parts = p ∷ []; said = [] }
 
 -- declarations
 abbrev pub declaration_content : List Declaration → Content
-declaration_content ss = record { segment = 0; asks = false; parts = []; said = ss }
+declaration_content ss = record { segment = 0; requests_section = false; parts = []; said = ss }

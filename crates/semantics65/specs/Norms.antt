@@ -51,14 +51,14 @@ abbrev pub form_of_definition : (Context → Tree → Result Form AsmFault) → 
 form_of_definition constant_form None = Err NoSuchLabel
 form_of_definition constant_form (Some d) = form_of_value constant_form d.context d.value
 
-abbrev pub form_of_meaning : (Context → Tree → Result Form AsmFault) → Symbols → Binding → Result Form AsmFault
-form_of_meaning constant_form y (imported_as k) = Ok (imp k)
-form_of_meaning constant_form y (defined_at j) = form_of_definition constant_form (slice_get y.definitions j)
+abbrev pub form_of_binding : (Context → Tree → Result Form AsmFault) → Symbols → Binding → Result Form AsmFault
+form_of_binding constant_form y (imported_as k) = Ok (imp k)
+form_of_binding constant_form y (defined_at j) = form_of_definition constant_form (slice_get y.definitions j)
 
 -- The normal form of an expression, if constants are expanded less than this deep.
 abbrev pub norm : ℕ → Symbols → Context → Tree → Result Form AsmFault
 norm zero y s e = Err Circular
-norm (suc n) y s e = form_by (λ operand. binding_of y s operand >>= form_of_meaning (norm n y) y) s e
+norm (suc n) y s e = form_by (λ operand. binding_of y s operand >>= form_of_binding (norm n y) y) s e
 
 -- The normal form of an expression. There are as many constants as definitions at most, so an expression
 -- that must be expanded deeper is circular.
@@ -67,7 +67,7 @@ norm_of y s e = norm (suc (length y.definitions)) y s e
 
 -- the form of the definition at an index
 abbrev pub defined_form : Symbols → ℕ → Result Form AsmFault
-defined_form y j = form_of_meaning (norm_of y) y (defined_at j)
+defined_form y j = form_of_binding (norm_of y) y (defined_at j)
 
 abbrev pub literal_in : Result Form AsmFault → Option ℤ
 literal_in (Ok (lit v)) = Some v
@@ -104,11 +104,11 @@ abbrev pub larger : AddressSize → AddressSize → AddressSize
 larger size.ZeroPage b = b
 larger size.Absolute b = size.Absolute
 
-abbrev pub takes_byte : Op1 → Bool
-takes_byte LowByte = true
-takes_byte HighByte = true
-takes_byte BankByte = true
-takes_byte _ = false
+abbrev pub is_byte_selector : Op1 → Bool
+is_byte_selector LowByte = true
+is_byte_selector HighByte = true
+is_byte_selector BankByte = true
+is_byte_selector _ = false
 
 abbrev pub size_defined : Option Definition → AddressSize
 size_defined None = size.Absolute
@@ -121,10 +121,10 @@ abbrev pub size_of_import : Symbols → Option (List ℕ) → AddressSize
 size_of_import y None = size.Absolute
 size_of_import y (Some n) = if is_zero_page_name y n then size.ZeroPage else size.Absolute
 
-abbrev pub size_of_meaning : Symbols → Result Binding AsmFault → AddressSize
-size_of_meaning y (Ok (defined_at j)) = size_defined (slice_get y.definitions j)
-size_of_meaning y (Ok (imported_as k)) = size_of_import y (slice_get y.imports k)
-size_of_meaning y (Err e) = size.Absolute
+abbrev pub size_of_binding : Symbols → Result Binding AsmFault → AddressSize
+size_of_binding y (Ok (defined_at j)) = size_defined (slice_get y.definitions j)
+size_of_binding y (Ok (imported_as k)) = size_of_import y (slice_get y.imports k)
+size_of_binding y (Err e) = size.Absolute
 
 abbrev pub size_by : AddressSize → Option ℤ → AddressSize
 size_by other None = other
@@ -134,11 +134,11 @@ size_by other (Some v) = size_of_value v
 -- its value if it is constant; a byte after `<`, `>` and `^`; otherwise that of the name, and the largest
 -- of its operands.
 abbrev pub size_of : Symbols → Context → AddressSize → Tree → AddressSize
-size_of y s own (unary op e) = size_by (if takes_byte op then size.ZeroPage else size_of y s own e) (constant_in y s (unary op e))
+size_of y s own (unary op e) = size_by (if is_byte_selector op then size.ZeroPage else size_of y s own e) (constant_in y s (unary op e))
 size_of y s own (binary op e f) = size_by (larger (size_of y s own e) (size_of y s own f)) (constant_in y s (binary op e f))
 size_of y s own here = own
 size_of y s own (number v) = size_of_value (pos v)
-size_of y s own e = size_by (size_of_meaning y (binding_of y s e)) (constant_in y s e)
+size_of y s own e = size_by (size_of_binding y (binding_of y s e)) (constant_in y s e)
 
 -- ---- Instructions.
 
@@ -212,10 +212,10 @@ abbrev pub mode_len : Option Mode → ℕ
 mode_len None = 0
 mode_len (Some mode) = 1 + operand_len (width_of mode)
 
--- a number of bytes
-abbrev pub byte_count : Option ℤ → ℕ
-byte_count (Some (pos n)) = n
-byte_count _ = 0
+-- a constant as a number: a count, an alignment, a byte or an offset in a file; 0 if it is negative or there is none
+abbrev pub nat_or_zero : Option ℤ → ℕ
+nat_or_zero (Some (pos n)) = n
+nat_or_zero _ = 0
 
 abbrev pub optional_value : Symbols → Context → Option Tree → ℤ → Option ℤ
 optional_value y s None default = Some default
@@ -229,40 +229,40 @@ gap offset _ = 0
 -- the bytes of a file from a start on, as many as given; none without a number
 abbrev pub bytes_between : List ℕ → ℕ → Option ℤ → List ℕ
 bytes_between bytes start None = []
-bytes_between bytes start (Some len) = take (byte_count (Some len)) (drop start bytes)
+bytes_between bytes start (Some len) = take (nat_or_zero (Some len)) (drop start bytes)
 
 -- the offset in the file at which a part begins, and its length
 abbrev pub part_start : Symbols → Context → Option Tree → ℕ
-part_start y s start = byte_count (optional_value y s start (pos 0))
+part_start y s start = nat_or_zero (optional_value y s start (pos 0))
 
-abbrev pub part_len : Symbols → Context → Option (List ℕ) → Option Tree → Option Tree → ℕ
-part_len y s None start len = 0
-part_len y s (Some bytes) start len =
+abbrev pub incbin_len : Symbols → Context → Option (List ℕ) → Option Tree → Option Tree → ℕ
+incbin_len y s None start len = 0
+incbin_len y s (Some bytes) start len =
     length (bytes_between bytes (part_start y s start) (optional_value y s len (pos (length bytes - part_start y s start))))
 
 -- The length of a statement in bytes, from what is known at its line and the address size `own` of the segment.
 abbrev pub length_of : Symbols → Context → AddressSize → Statement → ℕ
 length_of y s own (Instruction m operand) = mode_len (mode_of y s own m operand)
 length_of y s own (Values width items) = sum_by (item_len width) items
-length_of y s own (Reserve n v) = byte_count (constant_in y s n)
+length_of y s own (Reserve n v) = nat_or_zero (constant_in y s n)
 length_of y s own (Align n v) = gap s.offset (constant_in y s n)
-length_of y s own (Incbin bytes start len) = part_len y s bytes start len
+length_of y s own (Incbin bytes start len) = incbin_len y s bytes start len
 length_of y s own _ = 0
 
 -- ---- Encoding decisions.
 
-abbrev pub mode_settled : Option Mode → EncodingChoice
-mode_settled None = Undecided
-mode_settled (Some mode) = InMode mode
+abbrev pub mode_encoding : Option Mode → EncodingChoice
+mode_encoding None = Undecided
+mode_encoding (Some mode) = InMode mode
 
-abbrev pub fill_settled : Symbols → Context → Option Tree → EncodingChoice
-fill_settled y s None = Undecided
-fill_settled y s (Some v) = FillByte (byte_count (constant_in y s v))
+abbrev pub fill_encoding : Symbols → Context → Option Tree → EncodingChoice
+fill_encoding y s None = Undecided
+fill_encoding y s (Some v) = FillByte (nat_or_zero (constant_in y s v))
 
 -- the encoding decisions of a statement at its line, given the address size `own` of the segment
-abbrev pub settled_of : Symbols → Context → AddressSize → Statement → EncodingChoice
-settled_of y s own (Instruction m operand) = mode_settled (mode_of y s own m operand)
-settled_of y s own (Reserve n v) = fill_settled y s v
-settled_of y s own (Align n v) = fill_settled y s v
-settled_of y s own (Incbin bytes start len) = FileOffset (part_start y s start)
-settled_of y s own _ = Undecided
+abbrev pub encoding_of : Symbols → Context → AddressSize → Statement → EncodingChoice
+encoding_of y s own (Instruction m operand) = mode_encoding (mode_of y s own m operand)
+encoding_of y s own (Reserve n v) = fill_encoding y s v
+encoding_of y s own (Align n v) = fill_encoding y s v
+encoding_of y s own (Incbin bytes start len) = FileOffset (part_start y s start)
+encoding_of y s own _ = Undecided

@@ -1,5 +1,5 @@
 -- The object of contents: its sections, imports and files by number. Then the conditions for an object: on statements
--- (`IsWellFormedStatement`), on a layout (`IsSoundLayout`) and on contents (`AreSound`).
+-- (`IsWellFormedStatement`), on a layout (`IsWellFormedLayout`) and on contents (`AreWellFormedContents`).
 use Rattle.std.specs.Prelude.{ℕ, zero, ◌+◌, nat_eq, Bool, true, false, not, List, [], ◌∷◌, ◌++◌, map, filter_map, Option, Some, None, unwrap_or, slice_get, if◌then◌else◌, ◌≡◌, ◌≤◌, ◌<◌, nat_lt, length, sum_by, take, ⊤}
 use Rattle.std.specs.List.{position, list_any, flat_map, filter, list_all, AllByRecursion}
 use Rattle.std.specs.Str.{bytes_eq}
@@ -11,7 +11,7 @@ use Rattle.object65.specs.declared.object.Fragment.TheVariants.{Literal, Fill, V
 use Rattle.semantics65.specs.Types.{Object, SourceLocation, Segment, Statement}
 use Rattle.object65.specs.declared.object.Origin.{Origin}
 use Rattle.object65.specs.declared.object.Section.{Section}
-use Rattle.semantics65.specs.Contents.{Content, Part, Known, Filled, Waiting, Declaration, Exported, ForcedImport, Asserted, exported_names}
+use Rattle.semantics65.specs.Contents.{Content, Part, Known, ReservedBytes, LinkTimeValue, Declaration, ExportedSymbol, ForcedImport, LinkAssertion, exported_names}
 use Rattle.semantics65.specs.Layout.{powers, Layout}
 use Rattle.syntax65.specs.Tokens.{Lexeme}
 use Rattle.syntax65.specs.declared.lexing.tokens.TokenKind.{TokenKind}
@@ -21,7 +21,7 @@ use Rattle.object65.specs.Laws.{IsFolded}
 use Rattle.object65.specs.Objects.{are_names, is_file_name, is_name, section_limit, width_len}
 use Rattle.ast65.specs.declared.language.Statement.TheVariants as statement
 use Rattle.semantics65.specs.Symbols.{LaidOutStatement, Symbols, symbols_of}
-use Rattle.semantics65.specs.Norms.{length_of, settled_of}
+use Rattle.semantics65.specs.Norms.{length_of, encoding_of}
 
 -- ---- Numbers.
 
@@ -47,11 +47,11 @@ renumbered_form sections imports (binary op f g) = binary op (renumbered_form se
 
 -- ---- Sections, in the order of the first request.
 
-abbrev pub segments_asked : List Content → List ℕ
-segments_asked cs = map (λ c. c.segment) (filter (λ c. c.asks) cs)
+abbrev pub segment_requests : List Content → List ℕ
+segment_requests cs = map (λ c. c.segment) (filter (λ c. c.requests_section) cs)
 
 abbrev pub section_keys : List Content → List ℕ
-section_keys cs = distinct_keys [] (segments_asked cs)
+section_keys cs = distinct_keys [] (segment_requests cs)
 
 -- ---- Imports, in the order in which stored forms first use them.
 
@@ -64,8 +64,8 @@ imports_in (binary op f g) = imports_in f ++ imports_in g
 
 abbrev pub part_imports : Part → List ℕ
 part_imports (Known bytes) = []
-part_imports (Filled n) = []
-part_imports (Waiting width place f) = imports_in f
+part_imports (ReservedBytes n) = []
+part_imports (LinkTimeValue width location f) = imports_in f
 
 abbrev pub optional_key : Option ℕ → List ℕ
 optional_key None = []
@@ -76,13 +76,13 @@ abbrev pub key_of : List (List ℕ) → List ℕ → Option ℕ
 key_of names n = position (λ m. bytes_eq m n) names
 
 -- the keys of imports, in their order
-abbrev pub said_imports : List (List ℕ) → Declaration → List ℕ
-said_imports names (Exported n place f) = imports_in f
-said_imports names (ForcedImport n) = optional_key (key_of names n)
-said_imports names (Asserted act place words f) = imports_in f
+abbrev pub declaration_imports : List (List ℕ) → Declaration → List ℕ
+declaration_imports names (ExportedSymbol n location f) = imports_in f
+declaration_imports names (ForcedImport n) = optional_key (key_of names n)
+declaration_imports names (LinkAssertion act location words f) = imports_in f
 
 abbrev pub content_imports : List (List ℕ) → Content → List ℕ
-content_imports names c = flat_map part_imports c.parts ++ flat_map (said_imports names) c.said
+content_imports names c = flat_map part_imports c.parts ++ flat_map (declaration_imports names) c.said
 
 abbrev pub import_keys : List (List ℕ) → List Content → List ℕ
 import_keys names cs = distinct_keys [] (flat_map (content_imports names) cs)
@@ -95,8 +95,8 @@ name_of names k = unwrap_or (slice_get names k) []
 -- the fragment of a part, given the origin of each location
 abbrev pub fragment_of : (at : SourceLocation → Origin) (sections imports : List ℕ) → Part → Fragment
 fragment_of at sections imports (Known bytes) = Literal bytes
-fragment_of at sections imports (Filled n) = Fill n
-fragment_of at sections imports (Waiting width place f) = Value width (at place) (renumbered_form sections imports f)
+fragment_of at sections imports (ReservedBytes n) = Fill n
+fragment_of at sections imports (LinkTimeValue width location f) = Value width (at location) (renumbered_form sections imports f)
 
 -- a fragment without bytes
 abbrev pub is_empty : Fragment → Bool
@@ -111,9 +111,9 @@ merged_fragments (Literal a) (Literal b ∷ fs) = merged_fragments (Literal (a +
 merged_fragments (Fill m) (Fill n ∷ fs) = merged_fragments (Fill (m + n)) fs
 merged_fragments f (g ∷ fs) = f ∷ merged_fragments g fs
 
-abbrev pub all_joined : List Fragment → List Fragment
-all_joined [] = []
-all_joined (f ∷ fs) = merged_fragments f fs
+abbrev pub merged_neighbours : List Fragment → List Fragment
+merged_neighbours [] = []
+merged_neighbours (f ∷ fs) = merged_fragments f fs
 
 -- the fragments of parts, without the empty ones
 abbrev pub fragments_of : (at : SourceLocation → Origin) (sections imports : List ℕ) → List Part → List Fragment
@@ -138,53 +138,53 @@ abbrev pub section_of : (at : SourceLocation → Origin) → List Segment → (s
 section_of at segments sections imports cs g = record {
   name = segment_name (slice_get segments g);
   align = segment_power (slice_get segments g);
-  fragments = all_joined (fragments_of at sections imports (parts_in cs g));
+  fragments = merged_neighbours (fragments_of at sections imports (parts_in cs g));
 }
 
 -- ---- Exports and assertions.
 
 abbrev pub export_of : (at : SourceLocation → Origin) (sections imports : List ℕ) → Declaration → Option Export
-export_of at sections imports (Exported n place f) = Some (record { name = n; origin = at place; form = renumbered_form sections imports f })
+export_of at sections imports (ExportedSymbol n location f) = Some (record { name = n; origin = at location; form = renumbered_form sections imports f })
 export_of at sections imports _ = None
 
 abbrev pub assert_of : (at : SourceLocation → Origin) (sections imports : List ℕ) → Declaration → Option Assert
-assert_of at sections imports (Asserted act place words f) = Some (record { action = act; origin = at place; text = words; form = renumbered_form sections imports f })
+assert_of at sections imports (LinkAssertion act location words f) = Some (record { action = act; origin = at location; text = words; form = renumbered_form sections imports f })
 assert_of at sections imports _ = None
 
-abbrev pub all_said : List Content → List Declaration
-all_said cs = flat_map (λ c. c.said) cs
+abbrev pub all_declarations : List Content → List Declaration
+all_declarations cs = flat_map (λ c. c.said) cs
 
 -- ---- Files, in the order in which the object first names them.
 
 -- appends names that aren't there yet, in order of first occurrence
-abbrev pub names_once : List (List ℕ) → List (List ℕ) → List (List ℕ)
-names_once found [] = found
-names_once found (n ∷ ns) = names_once (if list_any (bytes_eq n) found then found else found ++ n ∷ []) ns
+abbrev pub distinct_names : List (List ℕ) → List (List ℕ) → List (List ℕ)
+distinct_names found [] = found
+distinct_names found (n ∷ ns) = distinct_names (if list_any (bytes_eq n) found then found else found ++ n ∷ []) ns
 
 abbrev pub part_files : Part → List (List ℕ)
 part_files (Known bytes) = []
-part_files (Filled n) = []
-part_files (Waiting width place f) = place.file ∷ []
+part_files (ReservedBytes n) = []
+part_files (LinkTimeValue width location f) = location.file ∷ []
 
 abbrev pub export_files : Declaration → List (List ℕ)
-export_files (Exported n place f) = place.file ∷ []
+export_files (ExportedSymbol n location f) = location.file ∷ []
 export_files _ = []
 
 abbrev pub assert_files : Declaration → List (List ℕ)
-assert_files (Asserted act place words f) = place.file ∷ []
+assert_files (LinkAssertion act location words f) = location.file ∷ []
 assert_files _ = []
 
 -- the files of the values of each section in turn, then of exports, then of assertions
-abbrev pub files_named : List Content → List (List ℕ)
-files_named cs = flat_map (λ g. flat_map part_files (parts_in cs g)) (section_keys cs)
-    ++ flat_map export_files (all_said cs) ++ flat_map assert_files (all_said cs)
+abbrev pub referenced_files : List Content → List (List ℕ)
+referenced_files cs = flat_map (λ g. flat_map part_files (parts_in cs g)) (section_keys cs)
+    ++ flat_map export_files (all_declarations cs) ++ flat_map assert_files (all_declarations cs)
 
 abbrev pub files_of : List Content → List (List ℕ)
-files_of cs = names_once [] (files_named cs)
+files_of cs = distinct_names [] (referenced_files cs)
 
 -- the origin of a location: the index of its file among these, and the line
-abbrev pub in_files : List (List ℕ) → SourceLocation → Origin
-in_files files place = record { file = position (bytes_eq place.file) files; line = place.line }
+abbrev pub origin_in_files : List (List ℕ) → SourceLocation → Origin
+origin_in_files files location = record { file = position (bytes_eq location.file) files; line = location.line }
 
 -- ---- The object.
 
@@ -198,23 +198,23 @@ object_by version files at segments names cs =
       files = files;
       imports = map (name_of names) imports;
       sections = map (section_of at segments sections imports cs) sections;
-      exports = filter_map (export_of at sections imports) (all_said cs);
-      asserts = filter_map (assert_of at sections imports) (all_said cs);
+      exports = filter_map (export_of at sections imports) (all_declarations cs);
+      asserts = filter_map (assert_of at sections imports) (all_declarations cs);
     }
 
 abbrev pub object_with : List Segment → List (List ℕ) → List Content → Object
-object_with segments names cs = object_by 2 (files_of cs) (in_files (files_of cs)) segments names cs
+object_with segments names cs = object_by 2 (files_of cs) (origin_in_files (files_of cs)) segments names cs
 
 -- ---- Tokens and statements.
 
 -- the text of a token: if it is an identifier, an object can hold it
-abbrev pub IsNamed : TokenKind → List ℕ → Type 0
-IsNamed token.Identifier t = is_name t ≡ true
-IsNamed _ t = ⊤
+abbrev pub IsSymbolName : TokenKind → List ℕ → Type 0
+IsSymbolName token.Identifier t = is_name t ≡ true
+IsSymbolName _ t = ⊤
 
 -- the same for tokens, of which `t.0` is the kind and `t.1` the text
 abbrev pub AreSymbolNames : List Lexeme → Type 0
-AreSymbolNames ts = AllByRecursion (λ t. IsNamed t.0 t.1) ts
+AreSymbolNames ts = AllByRecursion (λ t. IsSymbolName t.0 t.1) ts
 
 -- the names that a statement imports, exports or gives a segment fit an object, and an assertion's text has at most 255 bytes
 abbrev pub IsWellFormedStatement : Statement → Type 0
@@ -236,17 +236,17 @@ statements_in ls g = filter (λ l. nat_eq l.context.segment g) ls
 -- size has no effect: its length is 0, and its encoding `Undecided`.
 pub record IsMeasured (y : Symbols) (l : LaidOutStatement) : Type 0 where
   pub length : l.length ≡ length_of y l.context l.size l.stated
-  pub settled : l.settled ≡ settled_of y l.context l.size l.stated
+  pub encoding : l.encoding ≡ encoding_of y l.context l.size l.stated
 
 -- A layout whose names and sizes fit into an object, and whose lengths and encoding decisions are those of the layout rules.
-pub record IsSoundLayout (y : Layout) : Type 0 where
+pub record IsWellFormedLayout (y : Layout) : Type 0 where
   pub named : are_names (map (λ g. g.name) y.cursor.segments) ≡ true
   pub sound : AllByRecursion (λ l. IsWellFormedStatement l.stated) y.laid
   -- each statement is in one of the segments
-  pub standing : AllByRecursion (λ l. l.context.segment < length y.cursor.segments) y.laid
+  pub segments_exist : AllByRecursion (λ l. l.context.segment < length y.cursor.segments) y.laid
   pub measured : (i : ℕ) (l : LaidOutStatement) → slice_get y.laid i ≡ Some l → IsMeasured (symbols_of (take i y.laid)) l
   -- the statements in a segment are not longer than a section can be
-  pub room : (g : ℕ) → sum_by (λ l. l.length) (statements_in y.laid g) ≤ section_limit
+  pub sections_fit : (g : ℕ) → sum_by (λ l. l.length) (statements_in y.laid g) ≤ section_limit
 
 -- ---- Contents.
 
@@ -259,42 +259,42 @@ sections_in (prefix op f) = sections_in f
 sections_in (binary op f g) = sections_in f ++ sections_in g
 
 -- a form that can be stored, given the segments with a section and the number of imports
-pub record IsSoundForm (asked : List ℕ) (count : ℕ) (f : Form) : Type 0 where
+pub record IsWellFormedForm (requested : List ℕ) (count : ℕ) (f : Form) : Type 0 where
   pub folded : IsFolded f
-  pub sections : list_all (λ g. list_any (nat_eq g) asked) (sections_in f) ≡ true
+  pub sections : list_all (λ g. list_any (nat_eq g) requested) (sections_in f) ≡ true
   pub imports : list_all (λ k. nat_lt k count) (imports_in f) ≡ true
 
 -- a located form that can be stored: an object can hold the name of its file and the form
-pub record IsSoundAt (asked : List ℕ) (count : ℕ) (place : SourceLocation) (f : Form) : Type 0 where
-  pub file : is_file_name place.file ≡ true
-  pub form : IsSoundForm asked count f
+pub record IsWellFormedLocatedForm (requested : List ℕ) (count : ℕ) (location : SourceLocation) (f : Form) : Type 0 where
+  pub file : is_file_name location.file ≡ true
+  pub form : IsWellFormedForm requested count f
 
-abbrev pub IsSoundPart : List ℕ → ℕ → Part → Type 0
-IsSoundPart asked count (Known bytes) = ⊤
-IsSoundPart asked count (Filled n) = ⊤
-IsSoundPart asked count (Waiting width place f) = IsSoundAt asked count place f × (is_literal f ≡ false)
+abbrev pub IsWellFormedPart : List ℕ → ℕ → Part → Type 0
+IsWellFormedPart requested count (Known bytes) = ⊤
+IsWellFormedPart requested count (ReservedBytes n) = ⊤
+IsWellFormedPart requested count (LinkTimeValue width location f) = IsWellFormedLocatedForm requested count location f × (is_literal f ≡ false)
 
-abbrev pub IsSoundDeclaration : List ℕ → ℕ → Declaration → Type 0
-IsSoundDeclaration asked count (Exported n place f) = (is_name n ≡ true) × IsSoundAt asked count place f
-IsSoundDeclaration asked count (ForcedImport n) = ⊤
-IsSoundDeclaration asked count (Asserted act place words f) = (length words < 256) × IsSoundAt asked count place f × (is_literal f ≡ false)
+abbrev pub IsWellFormedDeclaration : List ℕ → ℕ → Declaration → Type 0
+IsWellFormedDeclaration requested count (ExportedSymbol n location f) = (is_name n ≡ true) × IsWellFormedLocatedForm requested count location f
+IsWellFormedDeclaration requested count (ForcedImport n) = ⊤
+IsWellFormedDeclaration requested count (LinkAssertion act location words f) = (length words < 256) × IsWellFormedLocatedForm requested count location f × (is_literal f ≡ false)
 
-pub record IsSoundContent (asked : List ℕ) (count : ℕ) (c : Content) : Type 0 where
-  pub parts : AllByRecursion (IsSoundPart asked count) c.parts
-  pub said : AllByRecursion (IsSoundDeclaration asked count) c.said
+pub record IsWellFormedContent (requested : List ℕ) (count : ℕ) (c : Content) : Type 0 where
+  pub parts : AllByRecursion (IsWellFormedPart requested count) c.parts
+  pub said : AllByRecursion (IsWellFormedDeclaration requested count) c.said
 
 abbrev pub part_len : Part → ℕ
 part_len (Known bytes) = length bytes
-part_len (Filled n) = n
-part_len (Waiting width place f) = width_len width
+part_len (ReservedBytes n) = n
+part_len (LinkTimeValue width location f) = width_len width
 
 -- the conditions for the object of contents with these segments and imports
-pub record AreSound (segments : List Segment) (names : List (List ℕ)) (cs : List Content) : Type 0 where
+pub record AreWellFormedContents (segments : List Segment) (names : List (List ℕ)) (cs : List Content) : Type 0 where
   pub named : are_names (map (λ g. g.name) segments) ≡ true
   pub imported : are_names names ≡ true
-  pub exported : are_names (exported_names (all_said cs)) ≡ true
+  pub exported : are_names (exported_names (all_declarations cs)) ≡ true
   -- each content is in one of the segments
-  pub standing : AllByRecursion (λ c. c.segment < length segments) cs
+  pub segments_exist : AllByRecursion (λ c. c.segment < length segments) cs
   -- the parts in a segment are not longer than a section can be
-  pub room : (g : ℕ) → sum_by part_len (parts_in cs g) ≤ section_limit
-  pub contents : AllByRecursion (IsSoundContent (section_keys cs) (length names)) cs
+  pub sections_fit : (g : ℕ) → sum_by part_len (parts_in cs g) ≤ section_limit
+  pub contents : AllByRecursion (IsWellFormedContent (section_keys cs) (length names)) cs

@@ -6,9 +6,9 @@ use Rattle.std.specs.List.{flat_map, list_any, position}
 use Rattle.std.specs.Str.{bytes_eq}
 use Rattle.syntax65.specs.declared.lexing.tokens.AddressSize.TheVariants as size
 
--- ---- The context of statements: locations, scopes, regions, segments, offsets.
+-- ---- Laid-out statements.
 
--- a statement with its layout
+-- a statement with its location, its context (scope, region, segment and offset), its length and its encoding decisions
 pub record LaidOutStatement : Type 0 where
   pub stated : Statement
   pub place : SourceLocation
@@ -17,7 +17,7 @@ pub record LaidOutStatement : Type 0 where
   pub length : ℕ
   -- the address size of the name it defines: that of a constant's expression at its line, or of the segment
   pub size : AddressSize
-  pub settled : EncodingChoice
+  pub encoding : EncodingChoice
 
 -- a name before a colon and that of a proc open a new region of cheap local labels
 abbrev pub opens_region : Statement → Bool
@@ -128,17 +128,17 @@ zero_page_names (Global size.ZeroPage names) = names
 zero_page_names _ = []
 
 -- adds names that aren't there yet, in order of first occurrence
-abbrev pub with_new : List (List ℕ) → List (List ℕ) → List (List ℕ)
-with_new known [] = known
-with_new known (n ∷ names) = with_new (if list_any (λ k. bytes_eq n k) known then known else known ++ n ∷ []) names
+abbrev pub with_new_names : List (List ℕ) → List (List ℕ) → List (List ℕ)
+with_new_names known [] = known
+with_new_names known (n ∷ names) = with_new_names (if list_any (λ k. bytes_eq n k) known then known else known ++ n ∷ []) names
 
 -- ---- The symbol table.
 abbrev pub symbols_of : List LaidOutStatement → Symbols
 symbols_of ls = record {
   definitions = flat_map definitions_of ls;
   scopes = flat_map (λ l. scope_opened l.context.scope l.stated) ls;
-  imports = with_new [] (flat_map (λ l. imports_of l.stated) ls);
-  zero_page = with_new [] (flat_map (λ l. zero_page_names l.stated) ls);
+  imports = with_new_names [] (flat_map (λ l. imports_of l.stated) ls);
+  zero_page = with_new_names [] (flat_map (λ l. zero_page_names l.stated) ls);
 }
 
 -- ---- Lookup.
@@ -227,20 +227,20 @@ abbrev pub display_name : Bool → List (List ℕ) → List ℕ
 display_name false parts = qualified_name parts
 display_name true parts = codes "::" ++ qualified_name parts
 
-abbrev pub or_fault : AsmFault → Option ℕ → Option ℕ → Result Binding AsmFault
-or_fault e (Some i) other = Ok (defined_at i)
-or_fault e None (Some k) = Ok (imported_as k)
-or_fault e None None = Err e
+abbrev pub binding_or_fault : AsmFault → Option ℕ → Option ℕ → Result Binding AsmFault
+binding_or_fault e (Some i) other = Ok (defined_at i)
+binding_or_fault e None (Some k) = Ok (imported_as k)
+binding_or_fault e None None = Err e
 
 -- the binding of a plain name: in the innermost scope around the use that defines it; otherwise an import
-abbrev pub plain_meaning : Symbols → ℕ → List ℕ → Result Binding AsmFault
-plain_meaning y scope n = or_fault (Undefined n) (first_found (λ s. definition_index y (named s n)) (scopes_from y.scopes scope)) (import_index y n)
+abbrev pub plain_binding : Symbols → ℕ → List ℕ → Result Binding AsmFault
+plain_binding y scope n = binding_or_fault (Undefined n) (first_found (λ s. definition_index y (named s n)) (scopes_from y.scopes scope)) (import_index y n)
 
 -- the binding of a name after `::`: in the scope itself; imports belong to the global scope
-abbrev pub member_meaning : Symbols → List ℕ → AsmFault → AsmFault → Option ℕ → Result Binding AsmFault
-member_meaning y n absent lost None = Err lost
-member_meaning y n absent lost (Some zero) = or_fault absent (definition_index y (named zero n)) (import_index y n)
-member_meaning y n absent lost (Some (suc i)) = or_fault absent (definition_index y (named (suc i) n)) None
+abbrev pub member_binding : Symbols → List ℕ → AsmFault → AsmFault → Option ℕ → Result Binding AsmFault
+member_binding y n absent lost None = Err lost
+member_binding y n absent lost (Some zero) = binding_or_fault absent (definition_index y (named zero n)) (import_index y n)
+member_binding y n absent lost (Some (suc i)) = binding_or_fault absent (definition_index y (named (suc i) n)) None
 
 -- The scope of a name with `::`, among the scopes opened before the use. The first part is searched from
 -- the innermost scope outward, or in the global scope after a leading `::`.
@@ -249,39 +249,40 @@ scope_from cs scope true scopes = nested_scope cs scopes (Some zero)
 scope_from cs scope false [] = None
 scope_from cs scope false (n ∷ scopes) = nested_scope cs scopes (first_found (λ s. scope_in cs s n) (scopes_from cs scope))
 
--- all parts but the last, and the last
-abbrev pub scopes_of : List (List ℕ) → List (List ℕ)
-scopes_of [] = []
-scopes_of (n ∷ []) = []
-scopes_of (n ∷ m ∷ parts) = n ∷ scopes_of (m ∷ parts)
+-- the parts of a name before the last, which are a path of scopes
+abbrev pub scope_path : List (List ℕ) → List (List ℕ)
+scope_path [] = []
+scope_path (n ∷ []) = []
+scope_path (n ∷ m ∷ parts) = n ∷ scope_path (m ∷ parts)
 
+-- the last part of a name
 abbrev pub last_of : List (List ℕ) → List ℕ
 last_of [] = []
 last_of (n ∷ []) = n
 last_of (n ∷ m ∷ parts) = last_of (m ∷ parts)
 
-abbrev pub scoped_meaning : Symbols → Context → Bool → List (List ℕ) → Result Binding AsmFault
-scoped_meaning y s global parts =
-    member_meaning y (last_of parts) (Undefined (display_name global parts)) (NoSuchScope (display_name global parts)) (scope_from (take s.opened y.scopes) s.scope global (scopes_of parts))
+abbrev pub scoped_binding : Symbols → Context → Bool → List (List ℕ) → Result Binding AsmFault
+scoped_binding y s global parts =
+    member_binding y (last_of parts) (Undefined (display_name global parts)) (NoSuchScope (display_name global parts)) (scope_from (take s.opened y.scopes) s.scope global (scope_path parts))
 
 -- ---- Labels.
 
 -- a cheap local label of the same region
-abbrev pub cheap_meaning : Symbols → ℕ → List ℕ → Result Binding AsmFault
-cheap_meaning y region n = or_fault (Undefined n) (definition_index y (cheap_in region n)) None
+abbrev pub cheap_binding : Symbols → ℕ → List ℕ → Result Binding AsmFault
+cheap_binding y region n = binding_or_fault (Undefined n) (definition_index y (cheap_in region n)) None
 
 -- the unnamed label with this number
-abbrev pub unnamed_meaning : Symbols → ℕ → Result Binding AsmFault
-unnamed_meaning y k = or_fault NoSuchLabel (definition_index y (unnamed_at k)) None
+abbrev pub unnamed_binding : Symbols → ℕ → Result Binding AsmFault
+unnamed_binding y k = binding_or_fault NoSuchLabel (definition_index y (unnamed_at k)) None
 
-abbrev pub backward_meaning : Symbols → ℕ → ℕ → Result Binding AsmFault
-backward_meaning y k n = if nat_le n k then unnamed_meaning y (k - n) else Err NoSuchLabel
+abbrev pub backward_binding : Symbols → ℕ → ℕ → Result Binding AsmFault
+backward_binding y k n = if nat_le n k then unnamed_binding y (k - n) else Err NoSuchLabel
 
 -- ---- The binding of an operand.
 abbrev pub binding_of : Symbols → Context → Tree → Result Binding AsmFault
-binding_of y s (name false (n ∷ [])) = plain_meaning y s.scope n
-binding_of y s (name global parts) = scoped_meaning y s global parts
-binding_of y s (cheap n) = cheap_meaning y s.region n
-binding_of y s (forward n) = unnamed_meaning y (s.unnamed + n - 1)
-binding_of y s (backward n) = backward_meaning y s.unnamed n
+binding_of y s (name false (n ∷ [])) = plain_binding y s.scope n
+binding_of y s (name global parts) = scoped_binding y s global parts
+binding_of y s (cheap n) = cheap_binding y s.region n
+binding_of y s (forward n) = unnamed_binding y (s.unnamed + n - 1)
+binding_of y s (backward n) = backward_binding y s.unnamed n
 binding_of y s _ = Err NoSuchLabel

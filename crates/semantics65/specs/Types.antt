@@ -15,6 +15,6 @@ pub use Rattle.ast65.specs.declared.language.Operand.TheVariants.{Immediate, Add
 pub use Rattle.ast65.specs.declared.language.Statement.{Statement}
 pub use Rattle.ast65.specs.declared.language.Statement.TheVariants.{Constant, Instruction, Values, Reserve, Align, Incbin, Import, Export, Global, ForceImport, Assert, IncbinPath, Label, CheapLabel, UnnamedLabel, OpenProc, OpenScope}
 pub use Rattle.semantics65.specs.declared.contents.Segment.{Segment}
-pub use Rattle.semantics65.specs.declared.laid.Context.{Context}
-pub use Rattle.semantics65.specs.declared.laid.EncodingChoice.{EncodingChoice}
-pub use Rattle.semantics65.specs.declared.laid.EncodingChoice.TheVariants.{InMode, FillByte, FileOffset, Undecided}
+pub use Rattle.semantics65.specs.declared.contexts.Context.{Context}
+pub use Rattle.semantics65.specs.declared.contexts.EncodingChoice.{EncodingChoice}
+pub use Rattle.semantics65.specs.declared.contexts.EncodingChoice.TheVariants.{InMode, FillByte, FileOffset, Undecided}

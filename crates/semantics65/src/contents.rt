@@ -9,14 +9,14 @@ use syntax65::AddressSize;
 #[derive(Drop)]
 pub enum Declaration {
     /// A name that the module exports.
-    Exported {
+    ExportedSymbol {
         name: ListVec<u8>,
         form: Norm,
     },
     /// An import that is requested even if no form uses it.
     ForcedImport(ListVec<u8>),
     /// A condition that the linker checks.
-    Asserted {
+    LinkAssertion {
         action: Action,
         text: ListVec<u8>,
         form: Norm,

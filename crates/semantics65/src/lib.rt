@@ -3,7 +3,7 @@
 #![tactic(auto)]
 
 mod contents;
-mod laid;
+mod contexts;
 
 pub use contents::{Declaration, Segment};
-pub use laid::{Context, EncodingChoice, GLOBAL_SCOPE, LocationRef};
+pub use contexts::{Context, EncodingChoice, GLOBAL_SCOPE, LocationRef};

@@ -16,9 +16,9 @@ use Rattle.syntax65.specs.Tokens.{Lexeme}
 use Rattle.syntax65.specs.declared.lexing.tokens.TokenKind.{TokenKind}
 use Rattle.syntax65.specs.declared.lexing.tokens.TokenKind.TheVariants as token
 use Rattle.object65.specs.Objects.{is_name, is_printed}
-use Rattle.expand65.specs.Fronts.{name_in, names_from}
-use Rattle.expand65.specs.Lines.{own_token, all_local, with_local, with_locals, Substitution, argument_at, substituted_line, replacement_for}
-use Rattle.expand65.specs.Macros.{is_made, new_names, arguments_of, braces_after, parts_within, put_in_first, without_braces}
+use Rattle.expand65.specs.LineStart.{name_in, names_from}
+use Rattle.expand65.specs.Lines.{local_name_token, all_local, with_local, with_locals, Substitution, argument_at, substituted_line, replacement_for}
+use Rattle.expand65.specs.Macros.{is_generated_name, new_names, arguments_of, braces_after, arguments_within, prepend_to_first, without_braces}
 use Rattle.sources65.proofs.FitTokens.{all_drop, all_take, AreFit, IsFit, IsTokenFit}
 use Rattle.sources65.proofs.SoundForms.{all_append}
 
@@ -52,10 +52,10 @@ IsBase name = (is_name name ≡ true) × (length name ≤ 200)
 abbrev pub AreBases : List (List ℕ) → Type 0
 AreBases names = AllByRecursion IsBase names
 
-own_fit : (m : Files) (name : List ℕ) (number : ℕ) → IsBase name → number ≤ most → AreFit m (own_token number name ∷ [])
+own_fit : (m : Files) (name : List ℕ) (number : ℕ) → IsBase name → number ≤ most → AreFit m (local_name_token number name ∷ [])
 own_fit m name number base small = (subst (IsFit m token.Identifier) (sym (append_assoc name (codes "?") (decimal number))) (named, λ h. absurd (made h)), tt)
   where
-    made : is_made (name ++ tail_of number) ≡ false → ⊥
+    made : is_generated_name (name ++ tail_of number) ≡ false → ⊥
     made h = let all = list_any-append (λ b. b == 63) name (tail_of number) in grind (arith, common_steps)
 
     named : is_name (name ++ tail_of number) ≡ true
@@ -78,21 +78,21 @@ lookup_each P test (e ∷ es) h = grind (arith, common_steps, (lookup_each P tes
 
 -- ---- How many arguments there are.
 
-first_few : (t : Lexeme) (parts : List (List Lexeme)) → length (put_in_first t parts) ≤ length parts + 1
+first_few : (t : Lexeme) (parts : List (List Lexeme)) → length (prepend_to_first t parts) ≤ length parts + 1
 first_few t x1 = grind arith
 
-parts_few : (d : ℕ) (ts : List Lexeme) → length (parts_within d ts) ≤ length ts + 1
+parts_few : (d : ℕ) (ts : List Lexeme) → length (arguments_within d ts) ≤ length ts + 1
 parts_few d [] = omega arith
-parts_few d (t ∷ ts) = grind (arith, common_steps, (parts_few 0 ts), (parts_few (braces_after d t) ts), (first_few t (parts_within (braces_after d t) ts)))
+parts_few d (t ∷ ts) = grind (arith, common_steps, (parts_few 0 ts), (parts_few (braces_after d t) ts), (first_few t (arguments_within (braces_after d t) ts)))
 
 pub arguments_few : (ts : List Lexeme) → length (arguments_of ts) ≤ length ts + 1
 arguments_few [] = omega arith
-arguments_few (t ∷ ts) = let same = length-map (parts_within 0 (t ∷ ts)) without_braces in let few = parts_few 0 (t ∷ ts) in omega (arith, same, few)
+arguments_few (t ∷ ts) = let same = length-map (arguments_within 0 (t ∷ ts)) without_braces in let few = parts_few 0 (t ∷ ts) in omega (arith, same, few)
 
 -- ---- What is replaced, and by what.
 
 -- none of them was made
-bases : (m : Files) (names : List (List ℕ)) → list_any is_made names ≡ false → AllByRecursion (IsFit m token.Identifier) names → AreBases names
+bases : (m : Files) (names : List (List ℕ)) → list_any is_generated_name names ≡ false → AllByRecursion (IsFit m token.Identifier) names → AreBases names
 bases m [] none h = tt
 bases m (n ∷ names) none h = grind (arith, common_steps, (bases m names))
 
@@ -132,10 +132,10 @@ module _ (m : Files) where
 
   -- ---- Arguments.
 
-  first_fit : (t : Lexeme) (parts : List (List Lexeme)) → IsFit m t.0 t.1 → AreAllFit parts → AreAllFit (put_in_first t parts)
+  first_fit : (t : Lexeme) (parts : List (List Lexeme)) → IsFit m t.0 t.1 → AreAllFit parts → AreAllFit (prepend_to_first t parts)
   first_fit t x1 fit h = grind (arith, common_steps)
 
-  parts_fit : (d : ℕ) (ts : List Lexeme) → AreFit m ts → AreAllFit (parts_within d ts)
+  parts_fit : (d : ℕ) (ts : List Lexeme) → AreFit m ts → AreAllFit (arguments_within d ts)
   parts_fit d [] h = (tt, tt)
   parts_fit d (t ∷ ts) h = grind (arith, common_steps, (parts_fit 0 ts h.1), (parts_fit (braces_after d t) ts h.1), first_fit)
 
@@ -166,7 +166,7 @@ module _ (m : Files) where
 
   locals_fit : (number : ℕ) (names : List (List ℕ)) (es : List (List ℕ × List Lexeme)) → number ≤ most → AreBases names → AreLocalsFit es → AreLocalsFit (all_local number names es)
   locals_fit number [] es small bases h = h
-  locals_fit number (name ∷ names) es small bases h = locals_fit number names (with_local es name (own_token number name ∷ [])) small bases.1 (local_fit es name (own_token number name ∷ []) h (own_fit m name number bases.0 small))
+  locals_fit number (name ∷ names) es small bases h = locals_fit number names (with_local es name (local_name_token number name ∷ [])) small bases.1 (local_fit es name (local_name_token number name ∷ []) h (own_fit m name number bases.0 small))
 
   pub with_locals_fit : (names : List (List ℕ)) (r : Substitution) → AreBases names → IsReplacingFit r → IsReplacingFit (with_locals names r)
   with_locals_fit names r bases fit = grind (arith, common_steps, locals_fit)

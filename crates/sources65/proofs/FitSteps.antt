@@ -9,7 +9,7 @@ use Rattle.base65.specs.Outcome.{◌>>=◌}
 use Rattle.base65.specs.Store.{Files}
 use Rattle.syntax65.specs.Tokens.{Lexeme}
 use Rattle.syntax65.specs.Trees.{Tree}
-use Rattle.syntax65.specs.declared.expressions.words.ExprFault.{ExprFault}
+use Rattle.syntax65.specs.declared.expressions.operators.ExprFault.{ExprFault}
 use Rattle.syntax65.specs.declared.fault.ExpandFault.{ExpandFault}
 use Rattle.syntax65.specs.declared.fault.ExpandFault.TheVariants as faults
 use Rattle.syntax65.specs.declared.lexing.tokens.TokenKind.{TokenKind}
@@ -17,15 +17,15 @@ use Rattle.syntax65.specs.declared.source_location.SourceLocation.{SourceLocatio
 use Rattle.expand65.specs.Blocks.{Block, Branch, CompleteBlock}
 use Rattle.expand65.specs.declared.blocks.BlockKind.{BlockKind}
 use Rattle.expand65.specs.declared.blocks.BlockKind.TheVariants as kind
-use Rattle.expand65.specs.declared.fronts.Directive.{Directive}
-use Rattle.expand65.specs.declared.fronts.Directive.TheVariants.{Macro, EndMacro, ExitMacro, Local, Repeat, EndRepeat, If, ElseIf, Else, EndIf, Include, Error, End}
-use Rattle.expand65.specs.declared.fronts.ConditionKind.{ConditionKind}
-use Rattle.expand65.specs.declared.fronts.ConditionKind.TheVariants.{True}
-use Rattle.expand65.specs.Expansion.{line_step, at_mark, bytes_in, directive_step, file_named, first_file, first_state, include_file, IsStep, last_condition, StepReaches, Next, statement, nothing, fault, not_opened, opened_in, ReachesNext, further, given, label_step, step_after, step_from, unless_mislabelled}
-use Rattle.expand65.specs.Fronts.{front_directive, is_mislabelled, label_len, line_directive, string_of, ok_or_unknown}
-use Rattle.expand65.specs.Lines.{Definition, in_line, Item, line_limit, played, labelled, branch, RemainingInput, remaining_input, lines_of, InputEnd, Substitution, file_lines_after, outside_macro, repeat_substitution, LineAndRest, TakesNextLine, iterations}
-use Rattle.expand65.specs.Macros.{arguments_of, call_result, with_one_more_call, definition_step, with_input, exit_macro, exit_result, given_to, header_of, local_line, macro_at, macro_of, mark_from, ordinary, repeat_line, repeat_of, iterations_step}
-use Rattle.expand65.specs.State.{condition_step, else_line, ended_if, after_false_condition, goes, gives, ends, stops, if_alone, if_line, leads, parses, decides, takes, takes_block, searches, EnvironmentView, State, ExpandedStatement, label, plain, ExpansionStep, StepResult, unless_refused, with_items, with_remaining}
+use Rattle.expand65.specs.declared.line_start.Directive.{Directive}
+use Rattle.expand65.specs.declared.line_start.Directive.TheVariants.{Macro, EndMacro, ExitMacro, Local, Repeat, EndRepeat, If, ElseIf, Else, EndIf, Include, Error, End}
+use Rattle.expand65.specs.declared.line_start.ConditionKind.{ConditionKind}
+use Rattle.expand65.specs.declared.line_start.ConditionKind.TheVariants.{True}
+use Rattle.expand65.specs.Expansion.{line_step, end_mark_step, bytes_in, directive_step, file_named, first_file, first_state, include_file, IsStep, last_condition, StepReaches, Next, statement, nothing, fault, not_opened, first_state_in, ReachesNext, further, yielded, label_step, step_after, step_from, unless_mislabelled}
+use Rattle.expand65.specs.LineStart.{first_directive, is_mislabelled, label_len, line_directive, string_of, ok_or_not_understood}
+use Rattle.expand65.specs.Lines.{Definition, line_location, Item, line_limit, body_line, label_rest, elseif_rest, RemainingInput, remaining_input, lines_of, InputEnd, Substitution, file_lines_after, after_innermost_macro, repeat_substitution, LineAndRest, ReadsNextLine, iterations}
+use Rattle.expand65.specs.Macros.{arguments_of, call_result, with_one_more_call, definition_step, with_input, exit_macro, exit_result, call_substitution, header_of, local_line, macro_at, macro_of, new_end_mark, plain_line_result, repeat_line, repeat_of, iterations_step}
+use Rattle.expand65.specs.State.{condition_step, else_line, endif_result, after_false_condition, continues, yields, ends, raises, if_alone, if_line, finishes, parses, decides, reads_line, reads_block, searches, EnvironmentView, State, ExpandedStatement, label, plain, ExpansionStep, StepResult, and_then_step, with_items, with_remaining}
 use Rattle.sources65.proofs.FitItems.{AreLines, after_mark, block_fit, fewer, IsLeftFit, IsOutsideFit, IsTakenFit, localised_fit, localised_tokens, outside_fit, played_lines, pushed_fit, taken_fit, turns_lines, written_lines}
 use Rattle.sources65.proofs.FitLines.{AreAllFit, arguments_few, arguments_fit, Each, lookup_each, new_names_fit}
 use Rattle.sources65.proofs.FitTokens.{all_drop, all_take, AreFit, IsTokenFit}
@@ -52,32 +52,32 @@ module _ (m : Files) where
 
   module _ (n : ℕ) where
     abbrev pub IsKept : StepResult → Type 0
-    IsKept (goes t) = IsStateFit n t
-    IsKept (gives x t) = AreFit m (tokens_of x) × IsStateFit (n + length (tokens_of x)) t
+    IsKept (continues t) = IsStateFit n t
+    IsKept (yields x t) = AreFit m (tokens_of x) × IsStateFit (n + length (tokens_of x)) t
     IsKept (ends t) = ⊤
-    IsKept (stops e) = ⊤
+    IsKept (raises e) = ⊤
 
     -- a step that leads to nothing else, whatever it reads
     abbrev Keeps : ExpansionStep → Type 0
-    Keeps (leads x) = IsKept x
+    Keeps (finishes x) = IsKept x
     Keeps (parses ts next) = (q : Result (Tree × ℕ) ExprFault) → Keeps (next q)
     Keeps (decides k test ts next) = (c : Result Bool ExpandFault) → Keeps (next c)
-    Keeps (takes l next) = (t : LineAndRest) → TakesNextLine l t → Keeps (next t)
-    Keeps (takes_block k l next) = (b : CompleteBlock) (x : RemainingInput) → Block k 0 [] l (Ok (b, x)) → IsKept (next b x)
+    Keeps (reads_line l next) = (t : LineAndRest) → ReadsNextLine l t → Keeps (next t)
+    Keeps (reads_block k l next) = (b : CompleteBlock) (x : RemainingInput) → Block k 0 [] l (Ok (b, x)) → IsKept (next b x)
     Keeps (searches l names next) = (q : Result (List ℕ × List ℕ) ExpandFault) → Keeps (next q)
 
     led_fit : (step : ExpansionStep) (r : StepResult) → Keeps step → StepReaches m step r → IsKept r
-    led_fit (leads x) r fit h = subst IsKept (sym h) fit
+    led_fit (finishes x) r fit h = subst IsKept (sym h) fit
     led_fit (parses ts next) r fit (q, p, h) = led_fit (next q) r (fit q) h
     led_fit (decides k test ts next) r fit (c, p, h) = led_fit (next c) r (fit c) h
-    led_fit (takes l next) r fit (t, p, h) = led_fit (next t) r (fit t p) h
-    led_fit (takes_block k l next) r fit (Ok (b, x), p, h) = subst IsKept (sym h) (fit b x p)
-    led_fit (takes_block k l next) r fit (Err e, p, h) = subst IsKept (sym h) tt
+    led_fit (reads_line l next) r fit (t, p, h) = led_fit (next t) r (fit t p) h
+    led_fit (reads_block k l next) r fit (Ok (b, x), p, h) = subst IsKept (sym h) (fit b x p)
+    led_fit (reads_block k l next) r fit (Err e, p, h) = subst IsKept (sym h) tt
     led_fit (searches l names next) r fit h = led_fit (next (first_file m names)) r (fit (first_file m names)) h
 
     -- ---- What steps go through.
 
-    unless : {A : Type 0} (s : State) (q : Result A ExpandFault) (after : A → ExpansionStep) → ((x : A) → q ≡ Ok x → Keeps (after x)) → Keeps (unless_refused s q after)
+    unless : {A : Type 0} (s : State) (q : Result A ExpandFault) (after : A → ExpansionStep) → ((x : A) → q ≡ Ok x → Keeps (after x)) → Keeps (and_then_step s q after)
     unless s (Ok x) after h = h x refl
     unless s (Err f) after h = tt
 
@@ -108,7 +108,7 @@ module _ (m : Files) where
       else_on (Some (false, bs)) = λ b x p. record { left = (block kind.RemainingBranches b x p).1; macros = fit.macros }
       else_on _ = tt
 
-      end_if_on : (o : Option (Bool × List Bool)) → IsKept (ended_if s o)
+      end_if_on : (o : Option (Bool × List Bool)) → IsKept (endif_result s o)
       end_if_on x1 = grind (arith, common_steps)
 
       -- ---- Macros.
@@ -126,28 +126,28 @@ module _ (m : Files) where
       -- ---- Repeats and included files.
 
       repeats_on : (count : ℕ) (variable : List (List ℕ)) → Keeps (iterations_step s count variable)
-      repeats_on count variable = λ b x p. (let h = block kind.Repeat b x p in enters (with_remaining s x) (iterations (repeat_substitution variable) b.0 0 count) (mark_from s false None) x.place (record { left = h.1; macros = fit.macros }) (turns_lines m variable b.0 0 count h.0))
+      repeats_on count variable = λ b x p. (let h = block kind.Repeat b x p in enters (with_remaining s x) (iterations (repeat_substitution variable) b.0 0 count) (new_end_mark s false None) x.place (record { left = h.1; macros = fit.macros }) (turns_lines m variable b.0 0 count h.0))
 
       repeat_on : (k : EnvironmentView) (ts : List Lexeme) → Keeps (repeat_line k s ts)
       repeat_on k ts = λ q. unless s (repeat_of k ts q) _ (λ h e. repeats_on h.0 h.1)
 
       include_on : (file : List ℕ) → Keeps (include_file s file)
-      include_on file = λ q. unless s q _ (λ f e. enters s (file_lines_after 0 (lines_of f.1)) (mark_from s false (Some s.left.place)) (record { file = f.0; line = 0 }) fit (written_lines m 0 (lines_of f.1)))
+      include_on file = λ q. unless s q _ (λ f e. enters s (file_lines_after 0 (lines_of f.1)) (new_end_mark s false (Some s.left.place)) (record { file = f.0; line = 0 }) fit (written_lines m 0 (lines_of f.1)))
 
       directed_on : (k : EnvironmentView) (d : Directive) (ts : List Lexeme) → AreFit m ts → Keeps (directive_step k s d ts)
-      directed_on k Macro ts h = unless s (ok_or_unknown (header_of ts)) _ (λ x e. defines_on x.0 x.1 (macro_of s.macros x.0))
-      directed_on k EndMacro ts h = alone s ts (leads (not_opened s)) tt
-      directed_on k ExitMacro ts h = alone s ts (leads (exit_macro s)) (exits_on (outside_macro s.left.items s.left.place) (outside_fit m (n + s.expansions) s.left.items s.left.room s.left.place fit.left))
+      directed_on k Macro ts h = unless s (ok_or_not_understood (header_of ts)) _ (λ x e. defines_on x.0 x.1 (macro_of s.macros x.0))
+      directed_on k EndMacro ts h = alone s ts (finishes (not_opened s)) tt
+      directed_on k ExitMacro ts h = alone s ts (finishes (exit_macro s)) (exits_on (after_innermost_macro s.left.items s.left.place) (outside_fit m (n + s.expansions) s.left.items s.left.room s.left.place fit.left))
       directed_on k Local ts h = local_on ts h
       directed_on k Repeat ts h = repeat_on k ts
-      directed_on k EndRepeat ts h = alone s ts (leads (not_opened s)) tt
+      directed_on k EndRepeat ts h = alone s ts (finishes (not_opened s)) tt
       directed_on k (If test) ts h = if_on k test ts
       directed_on k ElseIf ts h = else_on (last_condition s)
       directed_on k Else ts h = alone s ts (else_line s (last_condition s)) (else_on (last_condition s))
-      directed_on k EndIf ts h = alone s ts (leads (ended_if s (last_condition s))) (end_if_on (last_condition s))
-      directed_on k Include ts h = unless s (ok_or_unknown (string_of ts)) (include_file s) (λ file e. include_on file)
-      directed_on k Error ts h = unless s (ok_or_unknown (string_of ts)) (λ text. leads (stops (faults.Error text, s.left.place))) (λ text e. tt)
-      directed_on k End ts h = alone s ts (leads (goes (with_items s []))) (let few = fit.left.few in record { left = record { items = tt; few = omega (arith, few) }; macros = fit.macros })
+      directed_on k EndIf ts h = alone s ts (finishes (endif_result s (last_condition s))) (end_if_on (last_condition s))
+      directed_on k Include ts h = unless s (ok_or_not_understood (string_of ts)) (include_file s) (λ file e. include_on file)
+      directed_on k Error ts h = unless s (ok_or_not_understood (string_of ts)) (λ text. finishes (raises (faults.Error text, s.left.place))) (λ text e. tt)
+      directed_on k End ts h = alone s ts (finishes (continues (with_items s []))) (let few = fit.left.few in record { left = record { items = tt; few = omega (arith, few) }; macros = fit.macros })
 
     -- ---- Calls, and other lines.
 
@@ -156,11 +156,11 @@ module _ (m : Files) where
         let few = fit.left.few in
         let less = arguments_few ts in
         let inner : IsStateFit n (with_one_more_call s) = record { left = fewer m (n + (s.expansions + 1)) ((n + suc (length ts)) + s.expansions) s.left (omega arith) fit.left; macros = fit.macros } in
-        let given : Substitution = given_to d (arguments_of ts) (s.expansions + 1) in
-        let lines = played_lines m given d.body (record { arguments = arguments_fit m ts h; count = (omega (arith, few, less), tt); locals = tt; number = omega (arith, few) }) body in
-        grind (arith, common_steps, (enters (with_one_more_call s) (map (played given) d.body) (mark_from s true None) s.left.place inner lines))
+        let yielded : Substitution = call_substitution d (arguments_of ts) (s.expansions + 1) in
+        let lines = played_lines m yielded d.body (record { arguments = arguments_fit m ts h; count = (omega (arith, few, less), tt); locals = tt; number = omega (arith, few) }) body in
+        grind (arith, common_steps, (enters (with_one_more_call s) (map (body_line yielded) d.body) (new_end_mark s true None) s.left.place inner lines))
 
-    ordinary_on : (s : State) (ts : List Lexeme) → IsStateFit (n + length ts) s → AreFit m ts → IsKept (ordinary s ts)
+    ordinary_on : (s : State) (ts : List Lexeme) → IsStateFit (n + length ts) s → AreFit m ts → IsKept (plain_line_result s ts)
     ordinary_on s [] fit h = fewer_given n 0 s fit
     ordinary_on s (t ∷ ts) fit h = grind (arith, common_steps, (macro_fit s.macros t.0 t.1 fit.macros), (calls_on s ts fit h.1))
 
@@ -182,7 +182,7 @@ module _ (m : Files) where
 
     -- ---- A step.
 
-    mark_on : (s : State) (is : List Item) → IsStateFit n s → IsLeftFit m (n + s.expansions) (remaining_input is s.left.room s.left.place) → IsKept (at_mark s is)
+    mark_on : (s : State) (is : List Item) → IsStateFit n s → IsLeftFit m (n + s.expansions) (remaining_input is s.left.room s.left.place) → IsKept (end_mark_step s is)
     mark_on s x1 fit h = grind (arith, common_steps, after_mark)
 
     after_on : (k : EnvironmentView) (s : State) → IsStateFit n s → (t : LineAndRest) → IsTakenFit m (n + s.expansions) t → Keeps (step_after k s t)
@@ -192,9 +192,9 @@ module _ (m : Files) where
 
     -- the first line, and what else is left
     from_on : (k : EnvironmentView) (s : State) (is : List Item) → IsStateFit n s → IsLeftFit m (n + s.expansions) (remaining_input is s.left.room s.left.place) → Keeps (step_from k s is)
-    from_on k s (labelled ts ∷ is) fit h = let few = h.few in acted_on k (with_items s is) ts (front_directive ts) (record { left = record { items = h.items.1; few = omega (arith, few) }; macros = fit.macros }) h.items.0
-    from_on k s (branch ts ∷ is) fit h = if_on (with_items s is) (record { left = record { items = h.items.1; few = h.few }; macros = fit.macros }) k True ts
-    from_on k s _ fit h = λ t takes. after_on k s fit t (taken_fit m (n + s.expansions) s.left t fit.left takes)
+    from_on k s (label_rest ts ∷ is) fit h = let few = h.few in acted_on k (with_items s is) ts (first_directive ts) (record { left = record { items = h.items.1; few = omega (arith, few) }; macros = fit.macros }) h.items.0
+    from_on k s (elseif_rest ts ∷ is) fit h = if_on (with_items s is) (record { left = record { items = h.items.1; few = h.few }; macros = fit.macros }) k True ts
+    from_on k s _ fit h = λ t reads_line. after_on k s fit t (taken_fit m (n + s.expansions) s.left t fit.left reads_line)
 
   step_fit : (n : ℕ) (k : EnvironmentView) (s : State) (r : StepResult) → IsStateFit n s → IsStep m k s r → IsKept n r
   unfolding IsStep
@@ -208,18 +208,18 @@ module _ (m : Files) where
   IsNextFit n (fault e) = ⊤
 
   pub next_fit : (n : ℕ) (k : EnvironmentView) (s : State) (x : Next) → IsStateFit n s → ReachesNext m k s x → IsNextFit n x
-  next_fit n k s x fit (further _ t _ step more) = next_fit n k t x (step_fit n k s (goes t) fit step) more
-  next_fit n k s x fit (given _ t y step) = step_fit n k s (gives y t) fit step
+  next_fit n k s x fit (further _ t _ step more) = next_fit n k t x (step_fit n k s (continues t) fit step) more
+  next_fit n k s x fit (yielded _ t y step) = step_fit n k s (yields y t) fit step
   next_fit n k s x fit _ = tt
 
   -- ---- A source's first state.
 
   first_fit : (file : List ℕ) (folders : List (List ℕ)) (bytes : List ℕ) → IsStateFit 0 (first_state file folders bytes)
   first_fit file folders bytes =
-      let none : IsLeftFit m 0 (remaining_input [] line_limit (in_line file 0)) = record { items = tt; few = omega arith } in
-      record { left = pushed_fit m 0 (file_lines_after 0 (lines_of bytes)) (record { is_macro = false; conditions = 0; back = None }) (remaining_input [] line_limit (in_line file 0)) (in_line file 0) none (written_lines m 0 (lines_of bytes)); macros = tt }
+      let none : IsLeftFit m 0 (remaining_input [] line_limit (line_location file 0)) = record { items = tt; few = omega arith } in
+      record { left = pushed_fit m 0 (file_lines_after 0 (lines_of bytes)) (record { is_macro = false; conditions = 0; return_location = None }) (remaining_input [] line_limit (line_location file 0)) (line_location file 0) none (written_lines m 0 (lines_of bytes)); macros = tt }
 
-  pub opened_fit : (file : List ℕ) (folders : List (List ℕ)) (s : State) → opened_in m file folders ≡ Ok s → IsStateFit 0 s
+  pub opened_fit : (file : List ℕ) (folders : List (List ℕ)) (s : State) → first_state_in m file folders ≡ Ok s → IsStateFit 0 s
   opened_fit file folders s h = by (bytes_in (file_named m file)) h
     where
       by : (q : Result (List ℕ) ExpandFault) → (q >>= (λ bytes. Ok (first_state file folders bytes))) ≡ Ok s → IsStateFit 0 s

@@ -6,14 +6,14 @@ use Rattle.std.specs.List.{AllByRecursion, prefix_len}
 use Rattle.std.proofs.lemmas.List.{length-drop}
 use Rattle.base65.specs.Store.{Files}
 use Rattle.syntax65.specs.Forms.{IsForm, IsToken, is_blank}
-use Rattle.syntax65.specs.Tokens.{IsRead, Lexeme, HasTokens, after_blanks}
+use Rattle.syntax65.specs.Tokens.{IsRead, Lexeme, HasTokens, without_leading_blanks}
 use Rattle.syntax65.specs.declared.lexing.tokens.LexFault.{LexFault}
 use Rattle.syntax65.specs.declared.lexing.tokens.TokenKind.{TokenKind}
 use Rattle.syntax65.specs.declared.lexing.tokens.TokenKind.TheVariants as token
-use Rattle.syntax65.proofs.Fronts.{empty}
+use Rattle.syntax65.proofs.FirstToken.{empty}
 use Rattle.object65.specs.Objects.{is_name}
-use Rattle.expand65.specs.Macros.{is_made}
-use Rattle.semantics65.specs.Numbering.{AreSymbolNames, IsNamed}
+use Rattle.expand65.specs.Macros.{is_generated_name}
+use Rattle.semantics65.specs.Numbering.{AreSymbolNames, IsSymbolName}
 use Rattle.semantics65.proofs.Segments.{all_same}
 use Rattle.sources65.proofs.Sounding.{short_name}
 
@@ -33,7 +33,7 @@ all_take P (suc n) (x ∷ xs) h = (h.0, all_take P n xs h.1)
 
 -- an identifier is a name, and a short one unless it was made
 abbrev pub IsFit : Files → TokenKind → List ℕ → Type 0
-IsFit m token.Identifier t = (is_name t ≡ true) × (is_made t ≡ false → length t ≤ 200)
+IsFit m token.Identifier t = (is_name t ≡ true) × (is_generated_name t ≡ false → length t ≤ 200)
 IsFit m _ t = ⊤
 
 abbrev pub IsTokenFit : Files → Lexeme → Type 0
@@ -42,37 +42,37 @@ IsTokenFit m t = IsFit m t.0 t.1
 abbrev pub AreFit : Files → List Lexeme → Type 0
 AreFit m ts = AllByRecursion (IsTokenFit m) ts
 
-is_named : (m : Files) (k : TokenKind) (t : List ℕ) → IsFit m k t → IsNamed k t
+is_named : (m : Files) (k : TokenKind) (t : List ℕ) → IsFit m k t → IsSymbolName k t
 is_named m x1 t h = grind (arith, common_steps)
 
 pub are_named : (m : Files) (ts : List Lexeme) → AreFit m ts → AreSymbolNames ts
-are_named m ts h = all_same (IsTokenFit m) (λ t. IsNamed t.0 t.1) (λ t fit. is_named m t.0 t.1 fit) ts h
+are_named m ts h = all_same (IsTokenFit m) (λ t. IsSymbolName t.0 t.1) (λ t fit. is_named m t.0 t.1 fit) ts h
 
 -- ---- The tokens of a line.
 
 token_fit : (m : Files) (first : Bool) (k : TokenKind) (t text : List ℕ) → t ≡ take (length t) text → IsToken first k (length t) text → IsFit m k t
 token_fit m first token.Identifier t text at is =
     let short : length t ≤ 200 = subst (λ (n : List ℕ). length n ≤ 200) (sym at) is.short in
-    (short_name t (subst (IsForm token.Identifier) (sym at) is.longest.stands.form) short, λ none. short)
+    (short_name t (subst (IsForm token.Identifier) (sym at) is.longest.form_matches.form) short, λ none. short)
 token_fit m first _ t text at is = tt
 
 tokens_fit : (m : Files) (first : Bool) (line : List ℕ) (ts : List Lexeme) (end : Option LexFault) → HasTokens first line ts end → AreFit m ts
 tokens_fit m first line [] end h = tt
 tokens_fit m first line (t ∷ ts) end h =
-    (token_fit m first t.0 t.1 (after_blanks line) h.0 h.1, tokens_fit m false (drop (length t.1) (after_blanks line)) ts end h.2)
+    (token_fit m first t.0 t.1 (without_leading_blanks line) h.0 h.1, tokens_fit m false (drop (length t.1) (without_leading_blanks line)) ts end h.2)
 
 some_bytes : (first : Bool) (k : TokenKind) (n : ℕ) (text : List ℕ) → IsToken first k n text → 0 < n
-some_bytes first k zero text h = absurd (empty first k text h.longest.stands)
+some_bytes first k zero text h = absurd (empty first k text h.longest.form_matches)
 some_bytes first k (suc n) text h = omega arith
 
 tokens_few : (first : Bool) (line : List ℕ) (ts : List Lexeme) (end : Option LexFault) → HasTokens first line ts end → length ts ≤ length line
 tokens_few first line [] end h = omega arith
 tokens_few first line (t ∷ ts) end h =
-    let few = tokens_few false (drop (length t.1) (after_blanks line)) ts end h.2 in
-    let some = some_bytes first t.0 (length t.1) (after_blanks line) h.1 in
-    let room = h.1.longest.stands.room in
+    let few = tokens_few false (drop (length t.1) (without_leading_blanks line)) ts end h.2 in
+    let some = some_bytes first t.0 (length t.1) (without_leading_blanks line) h.1 in
+    let room = h.1.longest.form_matches.fits in
     let text = length-drop (prefix_len is_blank line) line in
-    let rest = length-drop (length t.1) (after_blanks line) in
+    let rest = length-drop (length t.1) (without_leading_blanks line) in
     omega (arith, few, some, room, text, rest)
 
 -- a line's tokens are fit, and no more than these

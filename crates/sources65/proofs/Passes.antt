@@ -10,10 +10,10 @@ use Rattle.ast65.specs.declared.fault.AsmFault.{AsmFault}
 use Rattle.ast65.specs.declared.language.Statement.{Statement}
 use Rattle.syntax65.specs.declared.source_location.SourceLocation.{SourceLocation}
 use Rattle.semantics65.specs.Symbols.{LaidOutStatement, needs_section, Symbols, symbols_of}
-use Rattle.semantics65.specs.declared.laid.Context.{Context}
-use Rattle.semantics65.specs.Layout.{Layout, Cursor, laid_out_statement, layout_after, nothing_laid, line_fault, unless_fault}
+use Rattle.semantics65.specs.declared.contexts.Context.{Context}
+use Rattle.semantics65.specs.Layout.{Layout, Cursor, laid_out_statement, layout_after, empty_layout, line_fault, unless_fault}
 use Rattle.semantics65.specs.Numbering.{object_with}
-use Rattle.sources65.specs.Machine.{LayoutIsReachable, OnePassSuffices, MachineSimulatesLayout, SimulatesLayout, PieceStep, at_once, later, PieceSteps, State, StepsWithoutError, StepsTo, UnlessFault, with_section_request, with_fixup, initial_state, outcome_of_state, with_content, with_symbols, machine_semantics}
+use Rattle.sources65.specs.Machine.{LayoutIsReachable, OnePassSuffices, MachineSimulatesLayout, SimulatesLayout, PieceStep, emitted_now, deferred_piece_step, PieceSteps, State, StepsWithoutError, StepsTo, UnlessFault, with_section_request, with_fixup, initial_state, outcome_of_state, with_content, with_symbols, machine_semantics}
 use Rattle.semantics65.specs.Module.{LocatedFault, Outcome, outcome_of, stdout_text, warning_text, PieceResult, Piece, pieces_of, Resolution, Slot, resolved, deferred, slot_result, module_resolution, result_then, resolution_of, slots_of}
 use Rattle.sources65.specs.Reading.{IsLaidOut, layout_semantics}
 use Rattle.semantics65.specs.Norms.{Extends}
@@ -45,7 +45,7 @@ same_later y z more (a ∷ xs) [] h = absurd h
 same_later y z more (a ∷ xs) (b ∷ ys) (one, h) = ((λ x names e. one x names (extends_then y z x more e)), same_later y z more xs ys h)
 
 same_after : (r : Result PieceResult LocatedFault) (f g : PieceResult → Resolution) → ((m : PieceResult) → f m ≡ g m) → result_then r f ≡ result_then r g
-same_after (Ok m) f g same = ap (λ (a : Resolution). record { found = a.found >>= (λ cs. Ok (m.content ∷ cs)); warned = m.warning ++ a.warned }) (same m)
+same_after (Ok m) f g same = ap (λ (a : Resolution). record { found = a.found >>= (λ cs. Ok (m.content ∷ cs)); printed_warnings = m.warning ++ a.printed_warnings }) (same m)
 same_after (Err e) f g same = refl
 
 resolved_same : (y z : Symbols) → Extends y z → (names : List (List ℕ)) (xs ys : List Slot) → AreSame y xs ys → resolution_of z names xs ≡ resolution_of z names ys
@@ -64,7 +64,7 @@ holding t slots = record t { slots = slots }
 
 -- a piece that waits
 abbrev waiting : SourceLocation → Context → Piece → Slot
-waiting place s p = deferred (record { place = place; context = s; piece = p })
+waiting location s p = deferred (record { place = location; context = s; piece = p })
 
 -- what a step adds to a state: slots, which come to the same as these
 record Adds (t u : State) (xs : List Slot) : Type 0 where
@@ -72,20 +72,20 @@ record Adds (t u : State) (xs : List Slot) : Type 0 where
   same : u ≡ holding t (t.slots ++ slots)
   comes : AreSame t.symbols slots xs
 
-put_one : (place : SourceLocation) (s : Context) (t u : State) (p : Piece) → PieceStep place s t p u → Adds t u (waiting place s p ∷ [])
-put_one place s t _ p (at_once c settled) = record { slots = resolved c ∷ []; same = refl; comes = ((λ z names e. sym (settled z names e)), tt) }
-put_one place s t _ p later = record { slots = waiting place s p ∷ []; same = refl; comes = ((λ z names e. refl), tt) }
+put_one : (location : SourceLocation) (s : Context) (t u : State) (p : Piece) → PieceStep location s t p u → Adds t u (waiting location s p ∷ [])
+put_one location s t _ p (emitted_now c settled) = record { slots = resolved c ∷ []; same = refl; comes = ((λ z names e. sym (settled z names e)), tt) }
+put_one location s t _ p deferred_piece_step = record { slots = waiting location s p ∷ []; same = refl; comes = ((λ z names e. refl), tt) }
 
-put_all : (place : SourceLocation) (s : Context) (t u : State) (ps : List Piece) → PieceSteps place s t ps u → Adds t u (map (waiting place s) ps)
-put_all place s t u [] h = record { slots = []; same = h ∙ ap (holding t) (sym (append-nil t.slots)); comes = tt }
-put_all place s t u (p ∷ ps) h =
-    let one = put_one place s t h.0 p h.1 in
+put_all : (location : SourceLocation) (s : Context) (t u : State) (ps : List Piece) → PieceSteps location s t ps u → Adds t u (map (waiting location s) ps)
+put_all location s t u [] h = record { slots = []; same = h ∙ ap (holding t) (sym (append-nil t.slots)); comes = tt }
+put_all location s t u (p ∷ ps) h =
+    let one = put_one location s t h.0 p h.1 in
     let v = holding t (t.slots ++ one.slots) in
-    let rest = put_all place s v u ps (subst (λ w. PieceSteps place s w ps u) one.same h.2) in
+    let rest = put_all location s v u ps (subst (λ w. PieceSteps location s w ps u) one.same h.2) in
     record {
       slots = one.slots ++ rest.slots;
       same = rest.same ∙ ap (holding t) (append_assoc t.slots one.slots rest.slots);
-      comes = same_append t.symbols one.slots (waiting place s p ∷ []) rest.slots (map (waiting place s) ps) one.comes rest.comes;
+      comes = same_append t.symbols one.slots (waiting location s p ∷ []) rest.slots (map (waiting location s) ps) one.comes rest.comes;
     }
 
 -- ---- Statements.
@@ -100,8 +100,8 @@ pub record Follows (y : Layout) (t : State) : Type 0 where
   pub comes : AreSame (symbols_of y.laid) slots (flat_map slots_of y.laid)
 
 -- what is known behind a statement is what is known of it and those before it
-known_for : (y : Layout) (place : SourceLocation) (x : Statement) (slots : List Slot) → with_symbols (state_for y slots) (laid_out_statement (symbols_of y.laid) y.cursor place x) ≡ state_for (layout_after y place x) slots
-known_for y place x slots = grind (arith, common_steps, symbols_push, flat_push)
+known_for : (y : Layout) (location : SourceLocation) (x : Statement) (slots : List Slot) → with_symbols (state_for y slots) (laid_out_statement (symbols_of y.laid) y.cursor location x) ≡ state_for (layout_after y location x) slots
+known_for y location x slots = grind (arith, common_steps, symbols_push, flat_push)
 
 -- a statement asks for its section, or doesn't
 abbrev asking_slots : LaidOutStatement → List Slot
@@ -118,45 +118,45 @@ itself : (y : Symbols) (xs : List Slot) → AreSame y xs xs
 itself y [] = tt
 itself y (x ∷ xs) = ((λ z names e. refl), itself y xs)
 
-statement_follows : (y : Layout) (slots : List Slot) (place : SourceLocation) (x : Statement) (u : State) → AreSame (symbols_of y.laid) slots (flat_map slots_of y.laid) →
-    (let l : LaidOutStatement = laid_out_statement (symbols_of y.laid) y.cursor place x in PieceSteps place l.context (with_section_request (state_for y slots) l) (pieces_of l.length l.settled x) u → Follows (layout_after y place x) (with_symbols u l))
-statement_follows y slots place x u comes puts =
+statement_follows : (y : Layout) (slots : List Slot) (location : SourceLocation) (x : Statement) (u : State) → AreSame (symbols_of y.laid) slots (flat_map slots_of y.laid) →
+    (let l : LaidOutStatement = laid_out_statement (symbols_of y.laid) y.cursor location x in PieceSteps location l.context (with_section_request (state_for y slots) l) (pieces_of l.length l.encoding x) u → Follows (layout_after y location x) (with_symbols u l))
+statement_follows y slots location x u comes puts =
     let z = symbols_of y.laid in
-    let l = laid_out_statement z y.cursor place x in
-    let ps = pieces_of l.length l.settled x in
+    let l = laid_out_statement z y.cursor location x in
+    let ps = pieces_of l.length l.encoding x in
     let t = state_for y (slots ++ asking_slots l) in
-    let put = put_all place l.context t u ps (subst (λ v. PieceSteps place l.context v ps u) (asked_is (state_for y slots) l) puts) in
-    let own = same_append z (asking_slots l) (asking_slots l) put.slots (map (waiting place l.context) ps) (itself z (asking_slots l)) put.comes in
+    let put = put_all location l.context t u ps (subst (λ v. PieceSteps location l.context v ps u) (asked_is (state_for y slots) l) puts) in
+    let own = same_append z (asking_slots l) (asking_slots l) put.slots (map (waiting location l.context) ps) (itself z (asking_slots l)) put.comes in
     let all = same_append z slots (flat_map slots_of y.laid) (asking_slots l ++ put.slots) (slots_of l) comes own in
     let grows = subst (Extends z) (sym (symbols_push y.laid l)) (extends_after z l) in
     record {
       slots = slots ++ (asking_slots l ++ put.slots);
-      same = ap (λ v. with_symbols v l) put.same ∙ known_for y place x ((slots ++ asking_slots l) ++ put.slots) ∙ ap (state_for (layout_after y place x)) (append_assoc slots (asking_slots l) put.slots);
+      same = ap (λ v. with_symbols v l) put.same ∙ known_for y location x ((slots ++ asking_slots l) ++ put.slots) ∙ ap (state_for (layout_after y location x)) (append_assoc slots (asking_slots l) put.slots);
       comes = subst (AreSame (symbols_of (y.laid ++ l ∷ [])) (slots ++ (asking_slots l ++ put.slots))) (sym (flat_push slots_of y.laid l)) (same_later z (symbols_of (y.laid ++ l ∷ [])) grows (slots ++ (asking_slots l ++ put.slots)) (flat_map slots_of y.laid ++ slots_of l) all);
     }
 
-step_follows : (y : Layout) (slots : List Slot) (place : SourceLocation) (x : Statement) (r : Result State AsmFault) → AreSame (symbols_of y.laid) slots (flat_map slots_of y.laid) → (o : Option AsmFault) → UnlessFault o (StepsWithoutError (state_for y slots) (laid_out_statement (symbols_of y.laid) y.cursor place x)) r → Matches Follows (λ q. q ≡ unless_fault o (layout_after y place x)) r
-step_follows y slots place x r c (Some e) is = subst (Matches Follows (λ q. q ≡ Err e)) (sym is) refl
-step_follows y slots place x r c None is = subst (Matches Follows (λ q. q ≡ unless_fault None (layout_after y place x))) (sym is.2) (layout_after y place x, refl, statement_follows y slots place x is.0 c is.1)
+step_follows : (y : Layout) (slots : List Slot) (location : SourceLocation) (x : Statement) (r : Result State AsmFault) → AreSame (symbols_of y.laid) slots (flat_map slots_of y.laid) → (o : Option AsmFault) → UnlessFault o (StepsWithoutError (state_for y slots) (laid_out_statement (symbols_of y.laid) y.cursor location x)) r → Matches Follows (λ q. q ≡ unless_fault o (layout_after y location x)) r
+step_follows y slots location x r c (Some e) is = subst (Matches Follows (λ q. q ≡ Err e)) (sym is) refl
+step_follows y slots location x r c None is = subst (Matches Follows (λ q. q ≡ unless_fault None (layout_after y location x))) (sym is.2) (layout_after y location x, refl, statement_follows y slots location x is.0 c is.1)
 
 pub takes_follows : Simulates Follows IsLaidOut StepsTo
-takes_follows y t place x r follows takes =
-    let takes' : StepsTo (state_for y follows.slots) place x r = subst (λ v. StepsTo v place x r) follows.same takes in
-    step_follows y follows.slots place x r follows.comes (line_fault (symbols_of y.laid) y.cursor x) takes'
+takes_follows y t location x r follows takes =
+    let takes' : StepsTo (state_for y follows.slots) location x r = subst (λ v. StepsTo v location x r) follows.same takes in
+    step_follows y follows.slots location x r follows.comes (line_fault (symbols_of y.laid) y.cursor x) takes'
 
 -- ---- All statements.
 
-pub begun_follows : Follows nothing_laid initial_state
+pub begun_follows : Follows empty_layout initial_state
 begun_follows = record { slots = []; same = refl; comes = tt }
 
 same_scope : (y : Layout) (t : State) → Follows y t → y.cursor.scope ≡ t.cursor.scope
 same_scope y t follows = ap (λ (v : State). v.cursor.scope) (sym follows.same)
 
-same_meaning : (y : Layout) (t : State) → Follows y t → layout_semantics.meaning y ≡ machine_semantics.meaning t
-same_meaning y t follows = ap machine_semantics.meaning (sym follows.same)
+same_meaning : (y : Layout) (t : State) → Follows y t → layout_semantics.environment y ≡ machine_semantics.environment t
+same_meaning y t follows = ap machine_semantics.environment (sym follows.same)
 
 pub laying_stands_in : StandIn Follows layout_semantics machine_semantics
-laying_stands_in = record { takes = takes_follows; meaning = same_meaning; scope = same_scope }
+laying_stands_in = record { step_relation = takes_follows; environment = same_meaning; scope = same_scope }
 
 pub stands_for : (y : Layout) (slots : List Slot) → AreSame (symbols_of y.laid) slots (flat_map slots_of y.laid) → SimulatesLayout y (state_for y slots)
 stands_for y slots comes = record {
@@ -169,7 +169,7 @@ stands_for y slots comes = record {
 
 pub runs_laid : MachineSimulatesLayout
 runs_laid m job r runs =
-    let all = source_matches Follows layout_semantics machine_semantics laying_stands_in m job nothing_laid initial_state r begun_follows runs in
+    let all = source_matches Follows layout_semantics machine_semantics laying_stands_in m job empty_layout initial_state r begun_follows runs in
     let follows : Follows all.0 r.following = all.2 in
     (all.0, all.1, subst (SimulatesLayout all.0) (sym follows.same) (stands_for all.0 follows.slots follows.comes))
 
@@ -177,7 +177,7 @@ runs_laid m job r runs =
 
 -- what is answered, by what stands behind the last line
 abbrev answered : Symbols → Cursor → Resolution → (out err : List ℕ) → Outcome
-answered z w f out err = record { result = f.found >>= (λ cs. Ok (object_with w.segments z.imports cs)); out = out; err = err ++ f.warned }
+answered z w f out err = record { result = f.found >>= (λ cs. Ok (object_with w.segments z.imports cs)); out = out; err = err ++ f.printed_warnings }
 
 concluded_for : (y : Layout) (t : State) (fault : Option LocatedFault) → SimulatesLayout y t → outcome_of_state t fault ≡ outcome_of y fault
 concluded_for y t None for =
@@ -194,35 +194,35 @@ one_pass m job r runs = grind (arith, common_steps, runs_laid, concluded_for)
 -- ---- Whatever is laid can be reached.
 
 -- every piece may wait
-all_wait : (place : SourceLocation) (s : Context) (t : State) (ps : List Piece) → (u : State) × PieceSteps place s t ps u
-all_wait place s t [] = (t, refl)
-all_wait place s t (p ∷ ps) =
-    let v = with_fixup t (record { place = place; context = s; piece = p }) in
-    let rest = all_wait place s v ps in
-    (rest.0, (v, later, rest.1))
+all_wait : (location : SourceLocation) (s : Context) (t : State) (ps : List Piece) → (u : State) × PieceSteps location s t ps u
+all_wait location s t [] = (t, refl)
+all_wait location s t (p ∷ ps) =
+    let v = with_fixup t (record { place = location; context = s; piece = p }) in
+    let rest = all_wait location s v ps in
+    (rest.0, (v, deferred_piece_step, rest.1))
 
-laid_steps : (y : Layout) (slots : List Slot) (place : SourceLocation) (x : Statement) → AreSame (symbols_of y.laid) slots (flat_map slots_of y.laid) → (o : Option AsmFault) → Matches (λ t z. Follows z t) (λ q. UnlessFault o (StepsWithoutError (state_for y slots) (laid_out_statement (symbols_of y.laid) y.cursor place x)) q) (unless_fault o (layout_after y place x))
-laid_steps y slots place x c (Some e) = refl
-laid_steps y slots place x c None =
-    let l = laid_out_statement (symbols_of y.laid) y.cursor place x in
-    let put = all_wait place l.context (with_section_request (state_for y slots) l) (pieces_of l.length l.settled x) in
-    (with_symbols put.0 l, (put.0, put.1, refl), statement_follows y slots place x put.0 c put.1)
+laid_steps : (y : Layout) (slots : List Slot) (location : SourceLocation) (x : Statement) → AreSame (symbols_of y.laid) slots (flat_map slots_of y.laid) → (o : Option AsmFault) → Matches (λ t z. Follows z t) (λ q. UnlessFault o (StepsWithoutError (state_for y slots) (laid_out_statement (symbols_of y.laid) y.cursor location x)) q) (unless_fault o (layout_after y location x))
+laid_steps y slots location x c (Some e) = refl
+laid_steps y slots location x c None =
+    let l = laid_out_statement (symbols_of y.laid) y.cursor location x in
+    let put = all_wait location l.context (with_section_request (state_for y slots) l) (pieces_of l.length l.encoding x) in
+    (with_symbols put.0 l, (put.0, put.1, refl), statement_follows y slots location x put.0 c put.1)
 
 laid_takes : Simulates (λ t z. Follows z t) StepsTo IsLaidOut
-laid_takes t y place x r follows is =
+laid_takes t y location x r follows is =
     let o = line_fault (symbols_of y.laid) y.cursor x in
-    let m = laid_steps y follows.slots place x follows.comes o in
-    let there : Matches (λ t z. Follows z t) (StepsTo t place x) (unless_fault o (layout_after y place x)) = subst (λ v. Matches (λ t z. Follows z t) (StepsTo v place x) (unless_fault o (layout_after y place x))) (sym follows.same) m in
-    subst (Matches (λ t z. Follows z t) (StepsTo t place x)) (sym is) there
+    let m = laid_steps y follows.slots location x follows.comes o in
+    let there : Matches (λ t z. Follows z t) (StepsTo t location x) (unless_fault o (layout_after y location x)) = subst (λ v. Matches (λ t z. Follows z t) (StepsTo v location x) (unless_fault o (layout_after y location x))) (sym follows.same) m in
+    subst (Matches (λ t z. Follows z t) (StepsTo t location x)) (sym is) there
 
 running_stands_in : StandIn (λ t z. Follows z t) machine_semantics layout_semantics
 running_stands_in = record {
-  takes = laid_takes;
-  meaning = λ t y follows. sym (same_meaning y t follows);
+  step_relation = laid_takes;
+  environment = λ t y follows. sym (same_meaning y t follows);
   scope = λ t y follows. sym (same_scope y t follows);
 }
 
 pub laid_runs : LayoutIsReachable
 laid_runs m job r laid_out_statement =
-    let all = source_matches (λ t z. Follows z t) machine_semantics layout_semantics running_stands_in m job initial_state nothing_laid r begun_follows laid_out_statement in
+    let all = source_matches (λ t z. Follows z t) machine_semantics layout_semantics running_stands_in m job initial_state empty_layout r begun_follows laid_out_statement in
     (all.0, all.1)

@@ -5,21 +5,21 @@ use Rattle.std.specs.List.{flat_map, list_any}
 use Rattle.std.specs.Str.{bytes_eq}
 use Rattle.std.proofs.lemmas.Grind.{common_steps, flat_map-append}
 use Rattle.std.proofs.lemmas.List.{append-nil}
-use Rattle.semantics65.specs.Symbols.{LaidOutStatement, Symbols, symbols_of, with_new}
+use Rattle.semantics65.specs.Symbols.{LaidOutStatement, Symbols, symbols_of, with_new_names}
 use Rattle.semantics65.specs.Norms.{Extends}
-use Rattle.sources65.specs.Machine.{symbols_after, IsSettled, FinalSettles}
+use Rattle.sources65.specs.Machine.{symbols_after, HasFinalContent, FinalFormIsResolved}
 use Rattle.base65.specs.Outcome.{◌>>=◌}
-use Rattle.semantics65.specs.Module.{at_place, given, value_result}
+use Rattle.semantics65.specs.Module.{with_location, known_part, value_result}
 use Rattle.semantics65.specs.Contents.{Part, section_part}
 use Rattle.syntax65.specs.declared.source_location.SourceLocation.{SourceLocation}
-use Rattle.semantics65.specs.declared.laid.Context.{Context}
+use Rattle.semantics65.specs.declared.contexts.Context.{Context}
 
 -- ---- Symbol tables that grow.
 
 pub flat_push : {A B : Type 0} (f : A → List B) (xs : List A) (x : A) → flat_map f (xs ++ x ∷ []) ≡ flat_map f xs ++ f x
 flat_push f xs x = flat_map-append f xs (x ∷ []) ∙ ap (λ zs. flat_map f xs ++ zs) (append-nil (f x))
 
-pub new_append : (known xs ys : List (List ℕ)) → with_new known (xs ++ ys) ≡ with_new (with_new known xs) ys
+pub new_append : (known xs ys : List (List ℕ)) → with_new_names known (xs ++ ys) ≡ with_new_names (with_new_names known xs) ys
 new_append known [] ys = refl
 new_append known (x ∷ xs) ys = new_append (if list_any (λ k. bytes_eq x k) known then known else known ++ x ∷ []) xs ys
 
@@ -44,9 +44,9 @@ extends_then x y z a b = grind (arith, common_steps)
 -- ---- Which pieces are settled at their line.
 
 -- what needs no value
-pub settled_given : (y : Symbols) (place : SourceLocation) (s : Context) (p : Part) → IsSettled y place s (given p) (section_part s.segment p)
-settled_given y place s p z names e = refl
+pub settled_given : (y : Symbols) (location : SourceLocation) (s : Context) (p : Part) → HasFinalContent y location s (known_part p) (section_part s.segment p)
+settled_given y location s p z names e = refl
 
 -- a value whose form is final
-pub final_settles : FinalSettles
-final_settles y place s why e f c final there z names more = ap (at_place place) (ap (λ r. r >>= value_result place s why) (final z more) ∙ there)
+pub final_settles : FinalFormIsResolved
+final_settles y location s why e f c final there z names more = ap (with_location location) (ap (λ r. r >>= value_result location s why) (final z more) ∙ there)

@@ -4,38 +4,38 @@ use Rattle.std.specs.Prelude.{Result, Ok, Err, nat_le, ◌-◌, slice_get, take}
 use Rattle.base65.specs.Outcome.{◌>>=◌}
 use Rattle.base65.proofs.SystemErrors.{Own, bad, choice, good, next}
 use Rattle.syntax65.specs.Trees.{Tree, number, here, name, cheap, forward, backward, unary, binary}
-use Rattle.object65.specs.Folding.{fold1, fold2, lacks_memory}
+use Rattle.object65.specs.Folding.{fold1, fold2, is_form_memory_fault}
 use Rattle.object65.specs.Form.{Form}
 use Rattle.object65.specs.declared.folding.FormFault.{FormFault}
 use Rattle.object65.specs.declared.folding.FormFault.TheVariants as form
-use Rattle.object65.proofs.SomeObject.{some_fold}
+use Rattle.object65.proofs.ObjectExistence.{some_fold}
 use Rattle.ast65.specs.Faults.{is_system_error}
 use Rattle.sources65.specs.Laws.{FormExists}
-use Rattle.semantics65.specs.Norms.{defined_form, fold_result, form_by, form_of_definition, form_of_meaning, form_of_value, norm, norm_of}
-use Rattle.semantics65.specs.Symbols.{Definition, Binding, defined_at, imported_as, cheap_in, definition_index, first_found, import_index, last_of, binding_of, member_meaning, named, or_fault, plain_meaning, scope_from, scoped_meaning, scopes_from, scopes_of, display_name, Symbols, unnamed_at, unnamed_meaning}
+use Rattle.semantics65.specs.Norms.{defined_form, fold_result, form_by, form_of_definition, form_of_binding, form_of_value, norm, norm_of}
+use Rattle.semantics65.specs.Symbols.{Definition, Binding, defined_at, imported_as, cheap_in, definition_index, first_found, import_index, last_of, binding_of, member_binding, named, binding_or_fault, plain_binding, scope_from, scoped_binding, scopes_from, scope_path, display_name, Symbols, unnamed_at, unnamed_binding}
 use Rattle.semantics65.specs.Types.{AsmFault, NoSuchLabel, NoSuchScope, Undefined}
-use Rattle.semantics65.specs.declared.laid.Context.{Context}
+use Rattle.semantics65.specs.declared.contexts.Context.{Context}
 
 -- ---- What names mean.
 
-fault_own : (e : AsmFault) → is_system_error e ≡ false → (a b : Option ℕ) → Own is_system_error (or_fault e a b)
+fault_own : (e : AsmFault) → is_system_error e ≡ false → (a b : Option ℕ) → Own is_system_error (binding_or_fault e a b)
 fault_own e h (Some i) b = good _
 fault_own e h None (Some k) = good _
 fault_own e h None None = bad e h
 
-member_own : (y : Symbols) (n : List ℕ) (absent lost : AsmFault) → is_system_error absent ≡ false → is_system_error lost ≡ false → (o : Option ℕ) → Own is_system_error (member_meaning y n absent lost o)
+member_own : (y : Symbols) (n : List ℕ) (absent lost : AsmFault) → is_system_error absent ≡ false → is_system_error lost ≡ false → (o : Option ℕ) → Own is_system_error (member_binding y n absent lost o)
 member_own y n absent lost h j None = bad lost j
 member_own y n absent lost h j (Some zero) = fault_own absent h (definition_index y (named zero n)) (import_index y n)
 member_own y n absent lost h j (Some (suc i)) = fault_own absent h (definition_index y (named (suc i) n)) None
 
-scoped_own : (y : Symbols) (s : Context) (global : Bool) (parts : List (List ℕ)) → Own is_system_error (scoped_meaning y s global parts)
+scoped_own : (y : Symbols) (s : Context) (global : Bool) (parts : List (List ℕ)) → Own is_system_error (scoped_binding y s global parts)
 scoped_own y s global parts =
-    member_own y (last_of parts) (Undefined (display_name global parts)) (NoSuchScope (display_name global parts)) refl refl (scope_from (take s.opened y.scopes) s.scope global (scopes_of parts))
+    member_own y (last_of parts) (Undefined (display_name global parts)) (NoSuchScope (display_name global parts)) refl refl (scope_from (take s.opened y.scopes) s.scope global (scope_path parts))
 
-plain_own : (y : Symbols) (scope : ℕ) (n : List ℕ) → Own is_system_error (plain_meaning y scope n)
+plain_own : (y : Symbols) (scope : ℕ) (n : List ℕ) → Own is_system_error (plain_binding y scope n)
 plain_own y scope n = fault_own (Undefined n) refl (first_found (λ s. definition_index y (named s n)) (scopes_from y.scopes scope)) (import_index y n)
 
-unnamed_own : (y : Symbols) (k : ℕ) → Own is_system_error (unnamed_meaning y k)
+unnamed_own : (y : Symbols) (k : ℕ) → Own is_system_error (unnamed_binding y k)
 unnamed_own y k = fault_own NoSuchLabel refl (definition_index y (unnamed_at k)) None
 
 meaning_own : (y : Symbols) (s : Context) (e : Tree) → Own is_system_error (binding_of y s e)
@@ -48,7 +48,7 @@ meaning_own y s _ = bad NoSuchLabel refl
 
 -- ---- Forms.
 
-pub folded_own : (q : Result Form FormFault) → Own lacks_memory q → Own is_system_error (fold_result q)
+pub folded_own : (q : Result Form FormFault) → Own is_form_memory_fault q → Own is_system_error (fold_result q)
 folded_own (Ok f) h = good f
 folded_own (Err form.OutOfMemory) h = absurd (let e : true ≡ false = h.own in cc)
 folded_own (Err form.NoValue) h = bad _ refl
@@ -75,14 +75,14 @@ module _ (constant : Context → Tree → Result Form AsmFault) (own : (s : Cont
   definition_own None = bad NoSuchLabel refl
   definition_own (Some d) = value_own d.context d.value
 
-  meant_own : (y : Symbols) (w : Binding) → Own is_system_error (form_of_meaning constant y w)
+  meant_own : (y : Symbols) (w : Binding) → Own is_system_error (form_of_binding constant y w)
   meant_own y (imported_as k) = good _
   meant_own y (defined_at j) = definition_own (slice_get y.definitions j)
 
 within_own : (n : ℕ) (y : Symbols) (s : Context) (e : Tree) → Own is_system_error (norm n y s e)
 within_own zero y s e = bad _ refl
 within_own (suc n) y s e =
-    by_own (λ operand. binding_of y s operand >>= form_of_meaning (norm n y) y)
+    by_own (λ operand. binding_of y s operand >>= form_of_binding (norm n y) y)
     (λ operand. next (binding_of y s operand) _ (meaning_own y s operand) (λ w. meant_own (norm n y) (λ t f. within_own n y t f) y w)) s e
 
 pub norm_own : (y : Symbols) (s : Context) (e : Tree) → Own is_system_error (norm_of y s e)

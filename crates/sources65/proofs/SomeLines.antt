@@ -7,12 +7,12 @@ use Rattle.syntax65.specs.Trees.{Tree, name, unary, binary}
 use Rattle.syntax65.specs.declared.lexing.tokens.AddressSize.{AddressSize}
 use Rattle.ast65.specs.Faults.{is_system_error}
 use Rattle.ast65.specs.declared.language.Statement.TheVariants as statement
-use Rattle.semantics65.specs.Layout.{alignment_fault, block_fault, changed_size, context_of, Cursor, defined_twice, first_fault, form_fault, is_open, Layout, layout_after, line_fault, lost_scope, lost_scopes, missing_file, multiple_fault, opened_twice, operand_fault, or_then, own_size, part_fault, place_of, placing_faults, pop_fault, powers, scope_name, size_fault, stands_outside, trees_of, unless_fault, unless_there, when, where_there}
+use Rattle.semantics65.specs.Layout.{alignment_fault, block_fault, changed_size, context_of, Cursor, defined_twice, first_fault, form_fault, is_not_global, Layout, layout_after, line_fault, missing_scope_fault, missing_scopes_fault, missing_file, alignment_value_fault, opened_twice, operand_fault, or_then, own_size, part_fault, segment_index, layout_faults, pop_fault, powers, scope_name, size_fault, is_global_only, trees_of, unless_fault, fault_if_none, fault_if, fault_if_some}
 use Rattle.semantics65.specs.Norms.{constant_in, mode_of}
 use Rattle.sources65.specs.Reading.{with_statement}
-use Rattle.semantics65.specs.Symbols.{Key, named, cheap_in, unnamed_at, key_defined, Scope, scope_from, scope_in, scopes_of, display_name, Symbols, symbols_of, definition_index}
+use Rattle.semantics65.specs.Symbols.{Key, named, cheap_in, unnamed_at, key_defined, Scope, scope_from, scope_in, scope_path, display_name, Symbols, symbols_of, definition_index}
 use Rattle.semantics65.specs.Types.{AsmFault, BadAlignment, BadOperand, BadPart, BadScope, DefinedTwice, FileNotFound, NoSuchForm, NoSuchScope, NotUnderstood, SourceLocation, PopWithoutPush, ScopeTwice, SectionTooLarge, SizeChanged, Statement}
-use Rattle.semantics65.specs.declared.laid.Context.{Context}
+use Rattle.semantics65.specs.declared.contexts.Context.{Context}
 use Rattle.semantics65.specs.declared.contents.Segment.{Segment}
 
 -- a fault, if there is one, that comes from no outside
@@ -25,15 +25,15 @@ never = record { own = tt }
 always : (e : AsmFault) → is_system_error e ≡ false → MayFail (Some e)
 always e h = record { own = h }
 
-when_own : (b : Bool) (e : AsmFault) → is_system_error e ≡ false → MayFail (when b e)
+when_own : (b : Bool) (e : AsmFault) → is_system_error e ≡ false → MayFail (fault_if b e)
 when_own true e h = always e h
 when_own false e h = never
 
-unless_own : {A : Type 0} (o : Option A) (e : AsmFault) → is_system_error e ≡ false → MayFail (unless_there o e)
+unless_own : {A : Type 0} (o : Option A) (e : AsmFault) → is_system_error e ≡ false → MayFail (fault_if_none o e)
 unless_own None e h = always e h
 unless_own (Some x) e h = never
 
-where_own : {A : Type 0} (o : Option A) (e : AsmFault) → is_system_error e ≡ false → MayFail (where_there o e)
+where_own : {A : Type 0} (o : Option A) (e : AsmFault) → is_system_error e ≡ false → MayFail (fault_if_some o e)
 where_own None e h = never
 where_own (Some x) e h = always e h
 
@@ -43,16 +43,16 @@ then_own None b h j = j
 
 -- ---- Names and scopes.
 
-scope_own : (cs : List Scope) (scope : ℕ) (e : Tree) → MayFail (lost_scope cs scope e)
+scope_own : (cs : List Scope) (scope : ℕ) (e : Tree) → MayFail (missing_scope_fault cs scope e)
 scope_own cs scope (name false (n ∷ [])) = never
-scope_own cs scope (name global parts) = unless_own (scope_from cs scope global (scopes_of parts)) (NoSuchScope (display_name global parts)) refl
+scope_own cs scope (name global parts) = unless_own (scope_from cs scope global (scope_path parts)) (NoSuchScope (display_name global parts)) refl
 scope_own cs scope (unary op e) = scope_own cs scope e
-scope_own cs scope (binary op e f) = then_own (lost_scope cs scope e) (lost_scope cs scope f) (scope_own cs scope e) (scope_own cs scope f)
+scope_own cs scope (binary op e f) = then_own (missing_scope_fault cs scope e) (missing_scope_fault cs scope f) (scope_own cs scope e) (scope_own cs scope f)
 scope_own cs scope _ = never
 
-scopes_own : (cs : List Scope) (scope : ℕ) (es : List Tree) → MayFail (lost_scopes cs scope es)
+scopes_own : (cs : List Scope) (scope : ℕ) (es : List Tree) → MayFail (missing_scopes_fault cs scope es)
 scopes_own cs scope [] = never
-scopes_own cs scope (e ∷ es) = then_own (lost_scope cs scope e) (lost_scopes cs scope es) (scope_own cs scope e) (scopes_own cs scope es)
+scopes_own cs scope (e ∷ es) = then_own (missing_scope_fault cs scope e) (missing_scopes_fault cs scope es) (scope_own cs scope e) (scopes_own cs scope es)
 
 opened_own : (cs : List Scope) (scope : ℕ) (o : Option (List ℕ)) → MayFail (opened_twice cs scope o)
 opened_own cs scope None = never
@@ -76,7 +76,7 @@ operand_own y s (statement.Align n v) = when_own _ BadOperand refl
 operand_own y s (statement.Incbin bytes start len) = when_own _ BadOperand refl
 operand_own y s _ = never
 
-multiple_own : (o : Option ℤ) → MayFail (multiple_fault o)
+multiple_own : (o : Option ℤ) → MayFail (alignment_value_fault o)
 multiple_own None = always BadAlignment refl
 multiple_own (Some (pos n)) = when_own (not (list_any (λ m. m == n) powers)) BadAlignment refl
 multiple_own (Some (negsuc n)) = always BadAlignment refl
@@ -100,7 +100,7 @@ changed_own gs (Some own) None = never
 changed_own gs None o = never
 
 size_own : (gs : List Segment) (x : Statement) → MayFail (size_fault gs x)
-size_own gs (statement.Segment n own) = changed_own gs own (place_of gs n)
+size_own gs (statement.Segment n own) = changed_own gs own (segment_index gs n)
 size_own gs _ = never
 
 block_own : (cs : List Scope) (scope : ℕ) (x : Statement) → MayFail (block_fault cs scope x)
@@ -123,7 +123,7 @@ first_own [] h = never
 first_own (Some e ∷ os) h = h.0
 first_own (None ∷ os) h = first_own os h.1
 
-placing_own : (y : Symbols) (w : Cursor) (x : Statement) → AllMayFail (placing_faults y w x)
+placing_own : (y : Symbols) (w : Cursor) (x : Statement) → AllMayFail (layout_faults y w x)
 placing_own y w x = (
   mode_own y (context_of w) (own_size w) x,
   (
@@ -139,7 +139,7 @@ placing_own y w x = (
             (
               block_own y.scopes w.scope x,
               (
-                pop_own w.kept x,
+                pop_own w.pushed_segments x,
                 (when_own _ SectionTooLarge refl, tt),
               ),
             ),
@@ -152,11 +152,11 @@ placing_own y w x = (
 
 line_own : (y : Symbols) (w : Cursor) (x : Statement) → MayFail (line_fault y w x)
 line_own y w x = first_own
-    (when (stands_outside x && is_open w.scope) NotUnderstood
-    ∷ lost_scopes y.scopes w.scope (trees_of x)
+    (fault_if (is_global_only x && is_not_global w.scope) NotUnderstood
+    ∷ missing_scopes_fault y.scopes w.scope (trees_of x)
     ∷ opened_twice y.scopes w.scope (scope_name x)
     ∷ defined_twice y (key_defined (context_of w) x)
-    ∷ placing_faults y w x) (
+    ∷ layout_faults y w x) (
       when_own _ NotUnderstood refl,
       (
         scopes_own y.scopes w.scope (trees_of x),
@@ -174,5 +174,5 @@ found_own : {A : Type 0} (o : Option AsmFault) (x : A) → MayFail o → Own is_
 found_own None x h = good x
 found_own (Some e) x h = bad e h.own
 
-pub statement_own : (y : Layout) (place : SourceLocation) (x : Statement) → Own is_system_error (with_statement y place x)
-statement_own y place x = found_own (line_fault (symbols_of y.laid) y.cursor x) (layout_after y place x) (line_own (symbols_of y.laid) y.cursor x)
+pub statement_own : (y : Layout) (location : SourceLocation) (x : Statement) → Own is_system_error (with_statement y location x)
+statement_own y location x = found_own (line_fault (symbols_of y.laid) y.cursor x) (layout_after y location x) (line_own (symbols_of y.laid) y.cursor x)

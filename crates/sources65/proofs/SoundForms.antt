@@ -11,7 +11,7 @@ use Rattle.object65.specs.Folding.{fold1, fold2}
 use Rattle.object65.specs.Form.{Form, lit, sec, imp, prefix, binary}
 use Rattle.object65.specs.Laws.{IsFolded}
 use Rattle.object65.proofs.Foldings.{normal_law}
-use Rattle.semantics65.specs.Norms.{fold_result, defined_form, form_by, form_of_meaning, form_of_value, norm, norm_of}
+use Rattle.semantics65.specs.Norms.{fold_result, defined_form, form_by, form_of_binding, form_of_value, norm, norm_of}
 use Rattle.std.specs.List.{AllByRecursion, flat_map}
 use Rattle.base65.specs.Outcome.{◌>>=◌}
 use Rattle.syntax65.specs.Trees.{Tree, number, here, name, cheap, forward, backward, unary}
@@ -19,8 +19,8 @@ use Rattle.syntax65.specs.declared.lexing.tokens.AddressSize.{AddressSize}
 use Rattle.ast65.specs.declared.fault.AsmFault.{AsmFault}
 use Rattle.ast65.specs.declared.fault.AsmFault.TheVariants.{Undefined, NoSuchScope, NoSuchLabel}
 use Rattle.ast65.specs.declared.language.Statement.{Statement}
-use Rattle.semantics65.specs.Symbols.{LaidOutStatement, needs_section, has_here, Binding, defined_at, imported_as, backward_meaning, first_found, last_of, binding_of, member_meaning, or_fault, plain_meaning, scope_from, scoped_meaning, scopes_from, scopes_of, display_name, unnamed_meaning, Definition, Symbols, definition_index, definition_with, definitions_of, import_index, key_defined, named, unnamed_at, value_defined}
-use Rattle.semantics65.specs.declared.laid.Context.{Context}
+use Rattle.semantics65.specs.Symbols.{LaidOutStatement, needs_section, has_here, Binding, defined_at, imported_as, backward_binding, first_found, last_of, binding_of, member_binding, binding_or_fault, plain_binding, scope_from, scoped_binding, scopes_from, scope_path, display_name, unnamed_binding, Definition, Symbols, definition_index, definition_with, definitions_of, import_index, key_defined, named, unnamed_at, value_defined}
+use Rattle.semantics65.specs.declared.contexts.Context.{Context}
 
 -- ---- The sections and imports that forms hold.
 
@@ -114,30 +114,30 @@ abbrev MeansWell : (ℕ → Bool) → Binding → Type 0
 MeansWell r (defined_at j) = ⊤
 MeansWell r (imported_as k) = r k ≡ true
 
-meaning_well : (q r : ℕ → Bool) (y : Symbols) (a : Context → Tree → Result Form AsmFault) → Pass q r y → FormsWell q r a → (m : Binding) → MeansWell r m → IfOk (form_of_meaning a y m) (IsWell q r)
+meaning_well : (q r : ℕ → Bool) (y : Symbols) (a : Context → Tree → Result Form AsmFault) → Pass q r y → FormsWell q r a → (m : Binding) → MeansWell r m → IfOk (form_of_binding a y m) (IsWell q r)
 meaning_well q r y a pass h x1 w = grind (arith, common_steps, value_well, item_of)
 
 -- ---- Names.
 
-found_well : (r : ℕ → Bool) (z : AsmFault) (o p : Option ℕ) → ((k : ℕ) → p ≡ Some k → r k ≡ true) → IfOk (or_fault z o p) (MeansWell r)
+found_well : (r : ℕ → Bool) (z : AsmFault) (o p : Option ℕ) → ((k : ℕ) → p ≡ Some k → r k ≡ true) → IfOk (binding_or_fault z o p) (MeansWell r)
 found_well r z x1 p h = grind (arith, common_steps)
 
 no_import : (r : ℕ → Bool) (k : ℕ) → None ≡ Some k → r k ≡ true
 no_import r k e = absurd cc
 
-plain_well : (q r : ℕ → Bool) (y : Symbols) (scope : ℕ) (n : List ℕ) → Pass q r y → IfOk (plain_meaning y scope n) (MeansWell r)
+plain_well : (q r : ℕ → Bool) (y : Symbols) (scope : ℕ) (n : List ℕ) → Pass q r y → IfOk (plain_binding y scope n) (MeansWell r)
 plain_well q r y scope n pass = found_well r (Undefined n) (first_found (λ s. definition_index y (named s n)) (scopes_from y.scopes scope)) (import_index y n) (pass.imports n)
 
-member_well : (q r : ℕ → Bool) (y : Symbols) (n : List ℕ) (absent lost : AsmFault) (scope : Option ℕ) → Pass q r y → IfOk (member_meaning y n absent lost scope) (MeansWell r)
+member_well : (q r : ℕ → Bool) (y : Symbols) (n : List ℕ) (absent lost : AsmFault) (scope : Option ℕ) → Pass q r y → IfOk (member_binding y n absent lost scope) (MeansWell r)
 member_well q r y n absent lost x1 pass = grind (arith, common_steps)
 
-scoped_well : (q r : ℕ → Bool) (y : Symbols) (s : Context) (global : Bool) (parts : List (List ℕ)) → Pass q r y → IfOk (scoped_meaning y s global parts) (MeansWell r)
-scoped_well q r y s global parts pass = member_well q r y (last_of parts) (Undefined (display_name global parts)) (NoSuchScope (display_name global parts)) (scope_from (take s.opened y.scopes) s.scope global (scopes_of parts)) pass
+scoped_well : (q r : ℕ → Bool) (y : Symbols) (s : Context) (global : Bool) (parts : List (List ℕ)) → Pass q r y → IfOk (scoped_binding y s global parts) (MeansWell r)
+scoped_well q r y s global parts pass = member_well q r y (last_of parts) (Undefined (display_name global parts)) (NoSuchScope (display_name global parts)) (scope_from (take s.opened y.scopes) s.scope global (scope_path parts)) pass
 
-unnamed_well : (r : ℕ → Bool) (y : Symbols) (k : ℕ) → IfOk (unnamed_meaning y k) (MeansWell r)
+unnamed_well : (r : ℕ → Bool) (y : Symbols) (k : ℕ) → IfOk (unnamed_binding y k) (MeansWell r)
 unnamed_well r y k = found_well r NoSuchLabel (definition_index y (unnamed_at k)) None (no_import r)
 
-backward_well : (r : ℕ → Bool) (y : Symbols) (k n : ℕ) → IfOk (backward_meaning y k n) (MeansWell r)
+backward_well : (r : ℕ → Bool) (y : Symbols) (k n : ℕ) → IfOk (backward_binding y k n) (MeansWell r)
 backward_well r y k n = grind (arith, common_steps)
 
 operand_well : (q r : ℕ → Bool) (y : Symbols) (s : Context) (e : Tree) → Pass q r y → IfOk (binding_of y s e) (MeansWell r)
@@ -148,8 +148,8 @@ operand_well q r y s x1 pass = search (rules, plain_well, scoped_well, found_wel
 norm_each : (q r : ℕ → Bool) (y : Symbols) → Pass q r y → (n : ℕ) → FormsWell q r (norm n y)
 norm_each q r y pass zero = λ s e k. tt
 norm_each q r y pass (suc n) = λ s e k.
-    form_well q r (λ t. binding_of y s t >>= form_of_meaning (norm n y) y) s
-    (λ t. well_then (MeansWell r) (IsWell q r) (binding_of y s t) (form_of_meaning (norm n y) y) (operand_well q r y s t pass) (λ m w. meaning_well q r y (norm n y) pass (norm_each q r y pass n) m w)) e k
+    form_well q r (λ t. binding_of y s t >>= form_of_binding (norm n y) y) s
+    (λ t. well_then (MeansWell r) (IsWell q r) (binding_of y s t) (form_of_binding (norm n y) y) (operand_well q r y s t pass) (λ m w. meaning_well q r y (norm n y) pass (norm_each q r y pass n) m w)) e k
 
 pub norm_well : (q r : ℕ → Bool) (y : Symbols) → Pass q r y → (s : Context) (e : Tree) → (has_here e ≡ true → q s.segment ≡ true) → IfOk (norm_of y s e) (IsWell q r)
 norm_well q r y pass = norm_each q r y pass (suc (length y.definitions))

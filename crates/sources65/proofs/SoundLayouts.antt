@@ -7,18 +7,18 @@ use Rattle.std.proofs.lemmas.Bool.Decides.{nat_tests}
 use Rattle.std.proofs.lemmas.List.{map-append}
 use Rattle.syntax65.specs.declared.lexing.tokens.AddressSize.{AddressSize}
 use Rattle.object65.specs.Objects.{are_names, is_name, section_limit}
-use Rattle.object65.proofs.Reached.{names_push}
+use Rattle.object65.proofs.ReachedStates.{names_push}
 use Rattle.semantics65.specs.declared.contents.Segment.{Segment}
 use Rattle.ast65.specs.declared.fault.AsmFault.{AsmFault}
 use Rattle.syntax65.specs.declared.source_location.SourceLocation.{SourceLocation}
 use Rattle.semantics65.specs.Symbols.{LaidOutStatement, Symbols, symbols_of}
-use Rattle.semantics65.specs.declared.laid.Context.{Context}
+use Rattle.semantics65.specs.declared.contexts.Context.{Context}
 use Rattle.ast65.specs.declared.language.Statement.{Statement}
 use Rattle.ast65.specs.declared.language.Statement.TheVariants as statement
-use Rattle.semantics65.specs.Layout.{Layout, Cursor, current_after, grown_at, kept_after, laid_out_statement, layout_after, multiple_of, named_segments, nothing_laid, own_size, place_of, segment_at, segments_after, size_stated, context_of, line_fault, unless_fault}
+use Rattle.semantics65.specs.Layout.{Layout, Cursor, current_after, with_grown_segment, pushed_segments_after, laid_out_statement, layout_after, statement_alignment, named_segments, empty_layout, own_size, segment_index, segment_at, segments_after, size_stated, context_of, line_fault, unless_fault}
 use Rattle.sources65.specs.Reading.{IsLaidOut}
-use Rattle.semantics65.specs.Norms.{length_of, settled_of}
-use Rattle.semantics65.specs.Numbering.{IsMeasured, IsWellFormedStatement, IsSoundLayout, statements_in}
+use Rattle.semantics65.specs.Norms.{length_of, encoding_of}
+use Rattle.semantics65.specs.Numbering.{IsMeasured, IsWellFormedStatement, IsWellFormedLayout, statements_in}
 use Rattle.semantics65.proofs.Segments.{Grows, all_more, all_same, end_after, grows, grows_none, not_among, one_longer}
 
 -- ---- Faults that there aren't.
@@ -36,7 +36,7 @@ is_segment _ = false
 same_length : (y : Symbols) (s : Context) (own : AddressSize) (x : Statement) → length_of y s own x ≡ length_of y s (size_stated y s own x) x
 same_length y s own x1 = grind (arith, common_steps)
 
-same_settled : (y : Symbols) (s : Context) (own : AddressSize) (x : Statement) → settled_of y s own x ≡ settled_of y s (size_stated y s own x) x
+same_settled : (y : Symbols) (s : Context) (own : AddressSize) (x : Statement) → encoding_of y s own x ≡ encoding_of y s (size_stated y s own x) x
 same_settled y s own x1 = grind (arith, common_steps)
 
 -- ---- What holds behind each statement.
@@ -69,7 +69,7 @@ abbrev MeasuredAfter : List LaidOutStatement → LaidOutStatement → Type 0
 MeasuredAfter before l = IsMeasured (symbols_of before) l
 
 abbrev pub IsGood : Layout → Type 0
-IsGood y = Good y.laid y.cursor.segments y.cursor.current y.cursor.kept
+IsGood y = Good y.laid y.cursor.segments y.cursor.current y.cursor.pushed_segments
 
 after_push : (M : List LaidOutStatement → LaidOutStatement → Type 0) (ls : List LaidOutStatement) (l : LaidOutStatement) → EachAfter M ls → M ls l → EachAfter M (ls ++ l ∷ [])
 after_push M [] l h m zero x e = let same : l ≡ x = cc in subst (M []) same m
@@ -110,45 +110,45 @@ good_push ls gs hs current kept l good more at sound measured room = record {
 
 -- ---- One more segment.
 
-good_named : (ls : List LaidOutStatement) (gs : List Segment) (current : ℕ) (kept : List ℕ) (n : List ℕ) (own : Option AddressSize) (place : Option ℕ) → Good ls gs current kept → is_name n ≡ true → place_of gs n ≡ place → Good ls (named_segments gs n own place) current kept
+good_named : (ls : List LaidOutStatement) (gs : List Segment) (current : ℕ) (kept : List ℕ) (n : List ℕ) (own : Option AddressSize) (location : Option ℕ) → Good ls gs current kept → is_name n ≡ true → segment_index gs n ≡ location → Good ls (named_segments gs n own location) current kept
 good_named ls gs current kept n own x1 good fine e = grind (arith, common_steps, one_longer, map-append, names_push, not_among, all_same, end_after)
 
 -- ---- One statement.
 
-good_current : (ls : List LaidOutStatement) (w : Cursor) (count alignment : ℕ) (x : Statement) → Good ls (segments_after w.segments w.current count alignment x) w.current w.kept → Good ls (segments_after w.segments w.current count alignment x) (current_after w x) (kept_after w x)
+good_current : (ls : List LaidOutStatement) (w : Cursor) (count alignment : ℕ) (x : Statement) → Good ls (segments_after w.segments w.current count alignment x) w.current w.pushed_segments → Good ls (segments_after w.segments w.current count alignment x) (current_after w x) (pushed_segments_after w x)
 good_current ls w count alignment x1 good = grind (arith, common_steps)
 
-good_laying : (ls : List LaidOutStatement) (w : Cursor) (count alignment : ℕ) (x : Statement) → Good ls w.segments w.current w.kept → IsWellFormedStatement x → (more : List LaidOutStatement) → ((hs : List Segment) → Grows w.segments hs w.current count → Good more hs w.current w.kept) → (is_segment x ≡ true → count ≡ 0) → Good more (segments_after w.segments w.current count alignment x) w.current w.kept
+good_laying : (ls : List LaidOutStatement) (w : Cursor) (count alignment : ℕ) (x : Statement) → Good ls w.segments w.current w.pushed_segments → IsWellFormedStatement x → (more : List LaidOutStatement) → ((hs : List Segment) → Grows w.segments hs w.current count → Good more hs w.current w.pushed_segments) → (is_segment x ≡ true → count ≡ 0) → Good more (segments_after w.segments w.current count alignment x) w.current w.pushed_segments
 good_laying ls w count alignment (statement.Segment n own) good sound more next none =
-    good_named more w.segments w.current w.kept n own (place_of w.segments n) (next w.segments (subst (Grows w.segments w.segments w.current) (sym (none refl)) (grows_none w.segments w.current))) sound refl
-good_laying ls w count alignment x good sound more next none = next (grown_at w.segments w.current count alignment) (grows w.segments w.current count alignment good.here)
+    good_named more w.segments w.current w.pushed_segments n own (segment_index w.segments n) (next w.segments (subst (Grows w.segments w.segments w.current) (sym (none refl)) (grows_none w.segments w.current))) sound refl
+good_laying ls w count alignment x good sound more next none = next (with_grown_segment w.segments w.current count alignment) (grows w.segments w.current count alignment good.here)
 
 segment_empty : (before : Symbols) (s : Context) (own : AddressSize) (x : Statement) → is_segment x ≡ true → length_of before s own x ≡ 0
 segment_empty before s own x1 h = grind (arith, common_steps)
 
-good_step : (y : Layout) (place : SourceLocation) (x : Statement) → IsGood y → IsWellFormedStatement x → line_fault (symbols_of y.laid) y.cursor x ≡ None → IsGood (layout_after y place x)
-good_step y place x good sound none =
+good_step : (y : Layout) (location : SourceLocation) (x : Statement) → IsGood y → IsWellFormedStatement x → line_fault (symbols_of y.laid) y.cursor x ≡ None → IsGood (layout_after y location x)
+good_step y location x good sound none =
     let w : Cursor = y.cursor in
     let z : Symbols = symbols_of y.laid in
-    let l : LaidOutStatement = laid_out_statement z w place x in
+    let l : LaidOutStatement = laid_out_statement z w location x in
     let room = has_room z w x none in
-    let measured : MeasuredAfter y.laid l = record { length = same_length z (context_of w) (own_size w) x; settled = same_settled z (context_of w) (own_size w) x } in
-    good_current (y.laid ++ l ∷ []) w l.length (multiple_of z (context_of w) x) x
-    (good_laying y.laid w l.length (multiple_of z (context_of w) x) x good sound (y.laid ++ l ∷ []) (λ hs more. good_push y.laid w.segments hs w.current w.kept l good more refl sound measured room) (segment_empty z (context_of w) (own_size w) x))
+    let measured : MeasuredAfter y.laid l = record { length = same_length z (context_of w) (own_size w) x; encoding = same_settled z (context_of w) (own_size w) x } in
+    good_current (y.laid ++ l ∷ []) w l.length (statement_alignment z (context_of w) x) x
+    (good_laying y.laid w l.length (statement_alignment z (context_of w) x) x good sound (y.laid ++ l ∷ []) (λ hs more. good_push y.laid w.segments hs w.current w.pushed_segments l good more refl sound measured room) (segment_empty z (context_of w) (own_size w) x))
 
-pub good_statement : (y z : Layout) (place : SourceLocation) (x : Statement) → IsGood y → IsWellFormedStatement x → IsLaidOut y place x (Ok z) → IsGood z
-good_statement y z place x good sound h = by (line_fault (symbols_of y.laid) y.cursor x) refl h
+pub good_statement : (y z : Layout) (location : SourceLocation) (x : Statement) → IsGood y → IsWellFormedStatement x → IsLaidOut y location x (Ok z) → IsGood z
+good_statement y z location x good sound h = by (line_fault (symbols_of y.laid) y.cursor x) refl h
   where
-    by : (o : Option AsmFault) → line_fault (symbols_of y.laid) y.cursor x ≡ o → Ok z ≡ unless_fault o (layout_after y place x) → IsGood z
+    by : (o : Option AsmFault) → line_fault (symbols_of y.laid) y.cursor x ≡ o → Ok z ≡ unless_fault o (layout_after y location x) → IsGood z
     by (Some e) is h = absurd cc
     by None is h =
-        let same : layout_after y place x ≡ z = cc in
-        subst IsGood same (good_step y place x good sound is)
+        let same : layout_after y location x ≡ z = cc in
+        subst IsGood same (good_step y location x good sound is)
 
 -- ---- The first and the last.
 
-pub nothing_good : IsGood nothing_laid
+pub nothing_good : IsGood empty_layout
 nothing_good = grind (arith, common_steps)
 
-pub sound_from : (y : Layout) → IsGood y → IsSoundLayout y
+pub sound_from : (y : Layout) → IsGood y → IsWellFormedLayout y
 sound_from y good = grind (arith, common_steps)

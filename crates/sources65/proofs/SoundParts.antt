@@ -17,11 +17,11 @@ use Rattle.syntax65.specs.declared.lexing.tokens.AddressSize.{AddressSize}
 use Rattle.object65.specs.Form.{Form, lit, sec, imp, prefix, binary}
 use Rattle.object65.specs.Objects.{is_file_name, value_bytes, width_len}
 use Rattle.base65.specs.declared.width.Width.{Width}
-use Rattle.semantics65.specs.Contents.{Content, Declaration, ForcedImport, Part, Waiting, section_request, decided_assertion, export_said, file_bytes, import_fault, opcode_part, operand_form, operand_tree, section_part, room_part, value_part, declaration_content, located_declarations, exported_names}
+use Rattle.semantics65.specs.Contents.{Content, Declaration, ForcedImport, Part, LinkTimeValue, section_request, decided_assertion, export_declarations, file_bytes, import_fault, opcode_part, operand_form, operand_tree, section_part, reserve_part, value_part, declaration_content, with_file_name_check, exported_names}
 use Rattle.syntax65.specs.declared.source_location.SourceLocation.{SourceLocation}
 use Rattle.semantics65.specs.Symbols.{LaidOutStatement, needs_section, definition_index, has_here, named, Symbols}
-use Rattle.semantics65.specs.declared.laid.EncodingChoice.TheVariants.{FileOffset}
-use Rattle.semantics65.specs.declared.laid.Context.{Context}
+use Rattle.semantics65.specs.declared.contexts.EncodingChoice.TheVariants.{FileOffset}
+use Rattle.semantics65.specs.declared.contexts.Context.{Context}
 use Rattle.ast65.specs.declared.fault.AsmFault.{AsmFault}
 use Rattle.ast65.specs.declared.language.Item.{Item}
 use Rattle.ast65.specs.declared.language.Operand.{Operand}
@@ -30,17 +30,17 @@ use Rattle.ast65.specs.declared.language.Statement.TheVariants.{Constant, Instru
 use Rattle.ast65.specs.declared.language.Operand.TheVariants as operand
 use Rattle.ast65.specs.declared.language.Item.TheVariants.{Value, StringLiteral}
 use Rattle.ast65.specs.declared.language.Index.{Index}
-use Rattle.semantics65.specs.Module.{PieceResult, Piece, absent_of, as_part, as_said, asserted, slot_result, datum, demanded, equated, exported, failed_assertion_text, given, resolved, imported, instruction_pieces, item_piece, made_of, operand_pieces, pieces_of, quietly, slots_of, value_result, valued, waiting_at, deferred, LocatedFault, at_place}
+use Rattle.semantics65.specs.Module.{PieceResult, Piece, undefined_export_result, part_result, declarations_result, asserted, slot_result, datum, forced_import, constant_definition, exported, failed_assertion_text, known_part, resolved, imported, instruction_pieces, item_piece, unrepeated_result, operand_pieces, pieces_of, without_warning, slots_of, value_result, expression_value, deferred_piece, deferred, LocatedFault, with_location}
 use Rattle.semantics65.specs.Module as purpose
-use Rattle.semantics65.specs.Norms.{norm_of, address_mode, branch_mode, bytes_between, fill_settled, first_of, is_branch, item_len, length_of, mode_len, mode_of, mode_settled, operand_len, part_len as file_len, part_start, settled_of, size_of, width_of}
-use Rattle.semantics65.specs.Numbering.{imports_in, IsMeasured, IsSoundAt, IsSoundForm, part_len, parts_in, sections_in}
+use Rattle.semantics65.specs.Norms.{norm_of, address_mode, branch_mode, bytes_between, fill_encoding, first_of, is_branch, item_len, length_of, mode_len, mode_of, mode_encoding, operand_len, incbin_len as file_len, part_start, encoding_of, size_of, width_of}
+use Rattle.semantics65.specs.Numbering.{imports_in, IsMeasured, IsWellFormedLocatedForm, IsWellFormedForm, part_len, parts_in, sections_in}
 use Rattle.semantics65.proofs.Found.{AreFound}
 use Rattle.sources65.proofs.SoundForms.{Holds, IsWell, Pass, norm_well, well_then}
 
 -- ---- Forms.
 
 abbrev pub asked_in : List ℕ → ℕ → Bool
-asked_in asked g = list_any (nat_eq g) asked
+asked_in requested g = list_any (nat_eq g) requested
 
 abbrev pub below : ℕ → ℕ → Bool
 below count k = nat_lt k count
@@ -62,23 +62,23 @@ imports_pass q r (imp k) h = both (r k) true h refl
 imports_pass q r (prefix op f) h = imports_pass q r f h
 imports_pass q r (binary op f g) (h, i) = list_all-append r (imports_in f) (imports_in g) ∙ both (list_all r (imports_in f)) (list_all r (imports_in g)) (imports_pass q r f h) (imports_pass q r g i)
 
-pub sound_form : (asked : List ℕ) (count : ℕ) (f : Form) → IsWell (asked_in asked) (below count) f → IsSoundForm asked count f
-sound_form asked count f w = record { folded = w.folded; sections = sections_pass (asked_in asked) (below count) f w.holds; imports = imports_pass (asked_in asked) (below count) f w.holds }
+pub sound_form : (requested : List ℕ) (count : ℕ) (f : Form) → IsWell (asked_in requested) (below count) f → IsWellFormedForm requested count f
+sound_form requested count f w = record { folded = w.folded; sections = sections_pass (asked_in requested) (below count) f w.holds; imports = imports_pass (asked_in requested) (below count) f w.holds }
 
 -- what is known of all statements
 abbrev pub IsKnown : List ℕ → ℕ → Symbols → Type 0
-IsKnown asked count y = Pass (asked_in asked) (below count) y
+IsKnown requested count y = Pass (asked_in requested) (below count) y
 
-pub form_sound : (asked : List ℕ) (count : ℕ) (y : Symbols) → IsKnown asked count y → (s : Context) (e : Tree) → (has_here e ≡ true → asked_in asked s.segment ≡ true) → IfOk (norm_of y s e) (IsWell (asked_in asked) (below count))
-form_sound asked count y k s e h = norm_well (asked_in asked) (below count) y k s e h
+pub form_sound : (requested : List ℕ) (count : ℕ) (y : Symbols) → IsKnown requested count y → (s : Context) (e : Tree) → (has_here e ≡ true → asked_in requested s.segment ≡ true) → IfOk (norm_of y s e) (IsWell (asked_in requested) (below count))
+form_sound requested count y k s e h = norm_well (asked_in requested) (below count) y k s e h
 
 -- ---- What is written with its place.
 
-pub written_with : {A : Type 0} (P : A → Type 0) (place : SourceLocation) (x : A) → (is_file_name place.file ≡ true → P x) → IfOk (located_declarations place x) P
-written_with {A} P place x h = grind (arith, common_steps)
+pub written_with : {A : Type 0} (P : A → Type 0) (location : SourceLocation) (x : A) → (is_file_name location.file ≡ true → P x) → IfOk (with_file_name_check location x) P
+written_with {A} P location x h = grind (arith, common_steps)
 
-pub form_at : (asked : List ℕ) (count : ℕ) (place : SourceLocation) (f : Form) → IsWell (asked_in asked) (below count) f → is_file_name place.file ≡ true → IsSoundAt asked count place f
-form_at asked count place f w e = record { file = e; form = sound_form asked count f w }
+pub form_at : (requested : List ℕ) (count : ℕ) (location : SourceLocation) (f : Form) → IsWell (asked_in requested) (below count) f → is_file_name location.file ≡ true → IsWellFormedLocatedForm requested count location f
+form_at requested count location f w e = record { file = e; form = sound_form requested count f w }
 
 value_len : (width : Width) (v : ℤ) → length (value_bytes width v) ≡ width_len width
 value_len x1 v = grind (arith, common_steps)
@@ -87,9 +87,9 @@ value_len x1 v = grind (arith, common_steps)
 
 -- how many bytes a piece puts
 abbrev pub piece_len : Piece → ℕ
-piece_len (given p) = part_len p
-piece_len (valued (datum width) e) = width_len width
-piece_len (valued (purpose.operand width) e) = width_len width
+piece_len (known_part p) = part_len p
+piece_len (expression_value (datum width) e) = width_len width
+piece_len (expression_value (purpose.operand width) e) = width_len width
 piece_len _ = 0
 
 -- so many bytes in a segment, where it is this one
@@ -123,61 +123,61 @@ asking_long segment g = by (nat_eq segment g)
     by true = refl
     by false = refl
 
-stored_len : (width : Width) (place : SourceLocation) (f : Form) → IfOk (value_part width place f) (λ p. part_len p ≡ width_len width)
-stored_len width place (lit v) = grind (arith, common_steps, value_len)
-stored_len width place f = written_with (λ p. part_len p ≡ width_len width) place (Waiting width place f) (λ e. refl)
+stored_len : (width : Width) (location : SourceLocation) (f : Form) → IfOk (value_part width location f) (λ p. part_len p ≡ width_len width)
+stored_len width location (lit v) = grind (arith, common_steps, value_len)
+stored_len width location f = written_with (λ p. part_len p ≡ width_len width) location (LinkTimeValue width location f) (λ e. refl)
 
 pub any_ok : {A E : Type 0} (r : Result A E) → IfOk r (λ (x : A). ⊤)
 any_ok (Ok x) = tt
 any_ok (Err e) = tt
 
-part_long : (segment len : ℕ) (r : Result Part AsmFault) → IfOk r (λ p. part_len p ≡ len) → IfOk (r >>= as_part segment) (λ m. IsLong segment len m.content)
+part_long : (segment len : ℕ) (r : Result Part AsmFault) → IfOk r (λ p. part_len p ≡ len) → IfOk (r >>= part_result segment) (λ m. IsLong segment len m.content)
 part_long segment len (Ok p) h = λ g. put_long segment p g ∙ ap (there (nat_eq segment g)) h
 part_long segment len (Err e) h = tt
 
-said_long : (segment : ℕ) (r : Result (List Declaration) AsmFault) → IfOk (r >>= as_said) (λ m. IsLong segment 0 m.content)
+said_long : (segment : ℕ) (r : Result (List Declaration) AsmFault) → IfOk (r >>= declarations_result) (λ m. IsLong segment 0 m.content)
 said_long segment (Ok ss) = told_long segment ss
 said_long segment (Err e) = tt
 
-made_long : (y : Symbols) (place : SourceLocation) (s : Context) (p : Piece) → IfOk (made_of y place s p) (λ m. IsLong s.segment (piece_len p) m.content)
-made_long y place s (given p) = put_long s.segment p
-made_long y place s (valued (datum width) e) =
-    well_then (λ f. ⊤) (λ m. IsLong s.segment (width_len width) m.content) (norm_of y s e) (value_result place s (datum width)) (any_ok (norm_of y s e))
-    (λ f u. part_long s.segment (width_len width) (value_part width place f) (stored_len width place f))
-made_long y place s (valued (purpose.operand width) e) =
-    well_then (λ f. ⊤) (λ m. IsLong s.segment (width_len width) m.content) (norm_of y s e) (value_result place s (purpose.operand width)) (any_ok (norm_of y s e))
-    (λ f u. part_long s.segment (width_len width) (operand_form width s f >>= value_part width place)
-    (well_then (λ g. ⊤) (λ p. part_len p ≡ width_len width) (operand_form width s f) (value_part width place) (any_ok (operand_form width s f)) (λ g v. stored_len width place g)))
-made_long y place s (valued equated e) =
-    well_then (λ f. ⊤) (λ m. IsLong s.segment 0 m.content) (norm_of y s e) (value_result place s equated) (any_ok (norm_of y s e)) (λ f u. told_long s.segment [])
-made_long y place s (valued (asserted act words) e) =
-    well_then (λ f. ⊤) (λ m. IsLong s.segment 0 m.content) (norm_of y s e) (value_result place s (asserted act words)) (any_ok (norm_of y s e))
-    (λ f u. well_then (λ ss. ⊤) (λ m. IsLong s.segment 0 m.content) (decided_assertion act place words f) (λ ss. Ok (record { content = declaration_content ss; warning = failed_assertion_text place act words (Ok f) })) (any_ok (decided_assertion act place words f)) (λ ss v. told_long s.segment ss))
-made_long y place s (imported n) = said_long s.segment (import_fault y n)
-made_long y place s (demanded n) = told_long s.segment (ForcedImport n ∷ [])
-made_long y place s (exported must n) = said_long s.segment (export_said y place n (absent_of must n) (definition_index y (named 0 n)))
+made_long : (y : Symbols) (location : SourceLocation) (s : Context) (p : Piece) → IfOk (unrepeated_result y location s p) (λ m. IsLong s.segment (piece_len p) m.content)
+made_long y location s (known_part p) = put_long s.segment p
+made_long y location s (expression_value (datum width) e) =
+    well_then (λ f. ⊤) (λ m. IsLong s.segment (width_len width) m.content) (norm_of y s e) (value_result location s (datum width)) (any_ok (norm_of y s e))
+    (λ f u. part_long s.segment (width_len width) (value_part width location f) (stored_len width location f))
+made_long y location s (expression_value (purpose.operand width) e) =
+    well_then (λ f. ⊤) (λ m. IsLong s.segment (width_len width) m.content) (norm_of y s e) (value_result location s (purpose.operand width)) (any_ok (norm_of y s e))
+    (λ f u. part_long s.segment (width_len width) (operand_form width s f >>= value_part width location)
+    (well_then (λ g. ⊤) (λ p. part_len p ≡ width_len width) (operand_form width s f) (value_part width location) (any_ok (operand_form width s f)) (λ g v. stored_len width location g)))
+made_long y location s (expression_value constant_definition e) =
+    well_then (λ f. ⊤) (λ m. IsLong s.segment 0 m.content) (norm_of y s e) (value_result location s constant_definition) (any_ok (norm_of y s e)) (λ f u. told_long s.segment [])
+made_long y location s (expression_value (asserted act words) e) =
+    well_then (λ f. ⊤) (λ m. IsLong s.segment 0 m.content) (norm_of y s e) (value_result location s (asserted act words)) (any_ok (norm_of y s e))
+    (λ f u. well_then (λ ss. ⊤) (λ m. IsLong s.segment 0 m.content) (decided_assertion act location words f) (λ ss. Ok (record { content = declaration_content ss; warning = failed_assertion_text location act words (Ok f) })) (any_ok (decided_assertion act location words f)) (λ ss v. told_long s.segment ss))
+made_long y location s (imported n) = said_long s.segment (import_fault y n)
+made_long y location s (forced_import n) = told_long s.segment (ForcedImport n ∷ [])
+made_long y location s (exported must n) = said_long s.segment (export_declarations y location n (undefined_export_result must n) (definition_index y (named 0 n)))
 
-pub placed_ok : {A : Type 0} (P : A → Type 0) (place : SourceLocation) (r : Result A AsmFault) → IfOk r P → IfOk (at_place place r) P
-placed_ok P place (Ok x) h = h
-placed_ok P place (Err e) h = tt
+pub placed_ok : {A : Type 0} (P : A → Type 0) (location : SourceLocation) (r : Result A AsmFault) → IfOk r P → IfOk (with_location location r) P
+placed_ok P location (Ok x) h = h
+placed_ok P location (Err e) h = tt
 
 -- what is so of what is made of a piece, and of nothing where an export is repeated
-pub coming_so : (P : PieceResult → Type 0) (y : Symbols) (names : List (List ℕ)) (place : SourceLocation) (s : Context) (p : Piece) →
-    ((must : Bool) (n : List ℕ) → p ≡ exported must n → P (quietly (declaration_content []))) → IfOk (made_of y place s p) P →
-    IfOk (slot_result y names (deferred (record { place = place; context = s; piece = p }))) P
-coming_so P y names place s (exported must n) repeated h = by (list_any (bytes_eq n) names)
+pub coming_so : (P : PieceResult → Type 0) (y : Symbols) (names : List (List ℕ)) (location : SourceLocation) (s : Context) (p : Piece) →
+    ((must : Bool) (n : List ℕ) → p ≡ exported must n → P (without_warning (declaration_content []))) → IfOk (unrepeated_result y location s p) P →
+    IfOk (slot_result y names (deferred (record { place = location; context = s; piece = p }))) P
+coming_so P y names location s (exported must n) repeated h = by (list_any (bytes_eq n) names)
   where
-    by : (b : Bool) → IfOk (at_place place (if b then as_said [] else made_of y place s (exported must n))) P
+    by : (b : Bool) → IfOk (with_location location (if b then declarations_result [] else unrepeated_result y location s (exported must n))) P
     by true = repeated must n refl
-    by false = placed_ok P place (made_of y place s (exported must n)) h
-coming_so P y names place s (given p) repeated h = h
-coming_so P y names place s (valued why e) repeated h = placed_ok P place (made_of y place s (valued why e)) h
-coming_so P y names place s (imported n) repeated h = placed_ok P place (made_of y place s (imported n)) h
-coming_so P y names place s (demanded n) repeated h = h
+    by false = placed_ok P location (unrepeated_result y location s (exported must n)) h
+coming_so P y names location s (known_part p) repeated h = h
+coming_so P y names location s (expression_value why e) repeated h = placed_ok P location (unrepeated_result y location s (expression_value why e)) h
+coming_so P y names location s (imported n) repeated h = placed_ok P location (unrepeated_result y location s (imported n)) h
+coming_so P y names location s (forced_import n) repeated h = h
 
-coming_long : (y : Symbols) (names : List (List ℕ)) (place : SourceLocation) (s : Context) (p : Piece) → IfOk (slot_result y names (deferred (record { place = place; context = s; piece = p }))) (λ m. IsLong s.segment (piece_len p) m.content)
-coming_long y names place s p =
-    coming_so (λ m. IsLong s.segment (piece_len p) m.content) y names place s p (λ must n e. subst (λ q. IsLong s.segment (piece_len q) (declaration_content [])) (sym e) (told_long s.segment [])) (made_long y place s p)
+coming_long : (y : Symbols) (names : List (List ℕ)) (location : SourceLocation) (s : Context) (p : Piece) → IfOk (slot_result y names (deferred (record { place = location; context = s; piece = p }))) (λ m. IsLong s.segment (piece_len p) m.content)
+coming_long y names location s p =
+    coming_so (λ m. IsLong s.segment (piece_len p) m.content) y names location s p (λ must n e. subst (λ q. IsLong s.segment (piece_len q) (declaration_content [])) (sym e) (told_long s.segment [])) (made_long y location s p)
 
 -- ---- Slots of a statement.
 
@@ -200,14 +200,14 @@ nothing_there false = refl
 pub if_found : {A E : Type 0} (P : A → Type 0) (r : Result A E) (x : A) → r ≡ Ok x → IfOk r P → P x
 if_found P r x e h = subst (λ q. IfOk q P) e h
 
-pieces_long : (y : Symbols) (names : List (List ℕ)) (l : LaidOutStatement) (g : ℕ) (ps : List Piece) (cs : List Content) → AreFound y names (map (waiting_at l) ps) cs → sum_by part_len (parts_in cs g) ≡ there (nat_eq l.context.segment g) (sum_by piece_len ps)
+pieces_long : (y : Symbols) (names : List (List ℕ)) (l : LaidOutStatement) (g : ℕ) (ps : List Piece) (cs : List Content) → AreFound y names (map (deferred_piece l) ps) cs → sum_by part_len (parts_in cs g) ≡ there (nat_eq l.context.segment g) (sum_by piece_len ps)
 pieces_long y names l g [] [] h = nothing_there (nat_eq l.context.segment g)
 pieces_long y names l g [] (c ∷ cs) h = absurd h
 pieces_long y names l g (p ∷ ps) [] h = absurd h
 pieces_long y names l g (p ∷ ps) (c ∷ cs) (w, made, h) =
     let b = nat_eq l.context.segment g in
     parts_cons c cs g
-    ∙ ap (λ n. n + sum_by part_len (parts_in cs g)) (if_found (λ (m : PieceResult). IsLong l.context.segment (piece_len p) m.content) (slot_result y names (waiting_at l p)) (record { content = c; warning = w }) made (coming_long y names l.place l.context p) g)
+    ∙ ap (λ n. n + sum_by part_len (parts_in cs g)) (if_found (λ (m : PieceResult). IsLong l.context.segment (piece_len p) m.content) (slot_result y names (deferred_piece l p)) (record { content = c; warning = w }) made (coming_long y names l.place l.context p) g)
     ∙ ap (λ n. there b (piece_len p) + n) (pieces_long y (names ++ exported_names c.said) l g ps cs h)
     ∙ there_plus b (piece_len p) (sum_by piece_len ps)
     ∙ ap (there b) (sym (sum_by-cons piece_len p ps))
@@ -218,15 +218,15 @@ none_first n = omega arith
 pub content_is : (m n : PieceResult) → ◌≡◌ {A = Result PieceResult LocatedFault} (Ok m) (Ok n) → m.content ≡ n.content
 content_is m n e = (let same : m ≡ n = cc in ap (λ (x : PieceResult). x.content) same)
 
-asked_long : (y : Symbols) (names : List (List ℕ)) (l : LaidOutStatement) (g : ℕ) (b : Bool) (cs : List Content) → AreFound y names ((if b then resolved (section_request l.context.segment) ∷ [] else []) ++ map (waiting_at l) (pieces_of l.length l.settled l.stated)) cs →
-    sum_by part_len (parts_in cs g) ≡ there (nat_eq l.context.segment g) (sum_by piece_len (pieces_of l.length l.settled l.stated))
-asked_long y names l g false cs h = pieces_long y names l g (pieces_of l.length l.settled l.stated) cs h
+asked_long : (y : Symbols) (names : List (List ℕ)) (l : LaidOutStatement) (g : ℕ) (b : Bool) (cs : List Content) → AreFound y names ((if b then resolved (section_request l.context.segment) ∷ [] else []) ++ map (deferred_piece l) (pieces_of l.length l.encoding l.stated)) cs →
+    sum_by part_len (parts_in cs g) ≡ there (nat_eq l.context.segment g) (sum_by piece_len (pieces_of l.length l.encoding l.stated))
+asked_long y names l g false cs h = pieces_long y names l g (pieces_of l.length l.encoding l.stated) cs h
 asked_long y names l g true [] h = absurd h
 asked_long y names l g true (c ∷ cs) (w, made, h) =
-    let is : section_request l.context.segment ≡ c = content_is (quietly (section_request l.context.segment)) (record { content = c; warning = w }) made in
+    let is : section_request l.context.segment ≡ c = content_is (without_warning (section_request l.context.segment)) (record { content = c; warning = w }) made in
     parts_cons c cs g ∙ ap (λ n. n + sum_by part_len (parts_in cs g)) (ap (λ (d : Content). sum_by part_len (parts_in (d ∷ []) g)) (sym is) ∙ asking_long l.context.segment g)
     ∙ none_first (sum_by part_len (parts_in cs g))
-    ∙ pieces_long y (names ++ exported_names c.said) l g (pieces_of l.length l.settled l.stated) cs h
+    ∙ pieces_long y (names ++ exported_names c.said) l g (pieces_of l.length l.encoding l.stated) cs h
 
 -- ---- Forms of instructions.
 
@@ -305,35 +305,35 @@ items_long width (it ∷ its) = sum_by-cons piece_len (item_piece width it) (map
 operands_long : (w : Option Width) (t : Option Tree) → (t ≡ None → w ≡ None) → sum_by piece_len (operand_pieces w t) ≡ operand_len w
 operands_long None t a = refl
 operands_long (Some width) None a = (let none : Some width ≡ None = a refl in absurd cc)
-operands_long (Some width) (Some e) a = sum_by-cons piece_len (valued (purpose.operand width) e) [] ∙ omega arith
+operands_long (Some width) (Some e) a = sum_by-cons piece_len (expression_value (purpose.operand width) e) [] ∙ omega arith
 
-instruction_long : (m : Mnemonic) (o : Operand) (mode : Option Mode) → MayForm m (operand_tree o) mode → sum_by piece_len (instruction_pieces m o (mode_settled mode)) ≡ mode_len mode
+instruction_long : (m : Mnemonic) (o : Operand) (mode : Option Mode) → MayForm m (operand_tree o) mode → sum_by piece_len (instruction_pieces m o (mode_encoding mode)) ≡ mode_len mode
 instruction_long m o None f = refl
 instruction_long m o (Some mode) f =
-    sum_by-cons piece_len (given (opcode_part (opcode_of m mode))) (operand_pieces (width_of mode) (operand_tree o))
+    sum_by-cons piece_len (known_part (opcode_part (opcode_of m mode))) (operand_pieces (width_of mode) (operand_tree o))
     ∙ ap (λ n. n + sum_by piece_len (operand_pieces (width_of mode) (operand_tree o))) f.code ∙ ap (λ n. 1 + n) (operands_long (width_of mode) (operand_tree o) f.alone)
 
-room_long : (before : Symbols) (s : Context) (len : ℕ) (v : Option Tree) → part_len (room_part len (fill_settled before s v)) ≡ len
+room_long : (before : Symbols) (s : Context) (len : ℕ) (v : Option Tree) → part_len (reserve_part len (fill_encoding before s v)) ≡ len
 room_long before s len x1 = grind (arith, common_steps)
 
-one_long : (p : Part) (len : ℕ) → part_len p ≡ len → sum_by piece_len (given p ∷ []) ≡ len
-one_long p len h = sum_by-cons piece_len (given p) [] ∙ (let same = h in omega (arith, same))
+one_long : (p : Part) (len : ℕ) → part_len p ≡ len → sum_by piece_len (known_part p ∷ []) ≡ len
+one_long p len h = sum_by-cons piece_len (known_part p) [] ∙ (let same = h in omega (arith, same))
 
 silent : (make : List ℕ → Piece) → ((n : List ℕ) → piece_len (make n) ≡ 0) → (names : List (List ℕ)) → sum_by piece_len (map make names) ≡ 0
 silent make is [] = refl
 silent make is (n ∷ names) = (let first = is n in let more = silent make is names in sum_by-cons piece_len (make n) (map make names) ∙ omega (arith, first, more))
 
-measured_long : (before : Symbols) (s : Context) (own : AddressSize) (x : Statement) → sum_by piece_len (pieces_of (length_of before s own x) (settled_of before s own x) x) ≡ length_of before s own x
+measured_long : (before : Symbols) (s : Context) (own : AddressSize) (x : Statement) → sum_by piece_len (pieces_of (length_of before s own x) (encoding_of before s own x) x) ≡ length_of before s own x
 measured_long before s own (Instruction m o) = instruction_long m o (mode_of before s own m o) (operand_mode before s own m o)
 measured_long before s own (Values width its) = items_long width its
-measured_long before s own (Reserve n v) = one_long (room_part (length_of before s own (Reserve n v)) (fill_settled before s v)) (length_of before s own (Reserve n v)) (room_long before s (length_of before s own (Reserve n v)) v)
-measured_long before s own (Align n v) = one_long (room_part (length_of before s own (Align n v)) (fill_settled before s v)) (length_of before s own (Align n v)) (room_long before s (length_of before s own (Align n v)) v)
+measured_long before s own (Reserve n v) = one_long (reserve_part (length_of before s own (Reserve n v)) (fill_encoding before s v)) (length_of before s own (Reserve n v)) (room_long before s (length_of before s own (Reserve n v)) v)
+measured_long before s own (Align n v) = one_long (reserve_part (length_of before s own (Align n v)) (fill_encoding before s v)) (length_of before s own (Align n v)) (room_long before s (length_of before s own (Align n v)) v)
 measured_long before s own (Incbin bytes start more) = grind (arith, common_steps, one_long, file_taken)
 measured_long before s own (Constant n e) = refl
 measured_long before s own (Import size names) = silent imported (λ n. refl) names
 measured_long before s own (Export names) = silent (exported true) (λ n. refl) names
 measured_long before s own (Global size names) = silent (exported false) (λ n. refl) names
-measured_long before s own (ForceImport names) = sum_by-append piece_len (map imported names) (map demanded names) ∙ ap (λ n. n + sum_by piece_len (map demanded names)) (silent imported (λ n. refl) names) ∙ none_first (sum_by piece_len (map demanded names)) ∙ silent demanded (λ n. refl) names
+measured_long before s own (ForceImport names) = sum_by-append piece_len (map imported names) (map forced_import names) ∙ ap (λ n. n + sum_by piece_len (map forced_import names)) (silent imported (λ n. refl) names) ∙ none_first (sum_by piece_len (map forced_import names)) ∙ silent forced_import (λ n. refl) names
 measured_long before s own (Assert e act words) = refl
 measured_long before s own _ = refl
 
@@ -342,5 +342,5 @@ pub slots_long : (y : Symbols) (names : List (List ℕ)) (before : Symbols) (l :
 slots_long y names before l g cs e h =
     asked_long y names l g (needs_section l.stated) cs h
     ∙ ap (λ n. there (nat_eq l.context.segment g) n)
-    (ap (λ n. sum_by piece_len (pieces_of n l.settled l.stated)) e.length ∙ ap (λ z. sum_by piece_len (pieces_of (length_of before l.context l.size l.stated) z l.stated)) e.settled
+    (ap (λ n. sum_by piece_len (pieces_of n l.encoding l.stated)) e.length ∙ ap (λ z. sum_by piece_len (pieces_of (length_of before l.context l.size l.stated) z l.stated)) e.encoding
     ∙ measured_long before l.context l.size l.stated ∙ sym e.length)

@@ -9,11 +9,11 @@ use Rattle.semantics65.specs.Module.{Outcome, LocatedFault}
 use Rattle.sources65.specs.Reading.{IsOutcome, AreLaidOut, Job, ReachedState}
 use Rattle.semantics65.specs.Norms.{norm_of}
 use Rattle.semantics65.specs.Symbols.{Symbols}
-use Rattle.semantics65.specs.declared.laid.Context.{Context}
+use Rattle.semantics65.specs.declared.contexts.Context.{Context}
 
 -- whether a located error is a system error
-abbrev pub is_found_outside : LocatedFault → Bool
-is_found_outside e = is_system_error e.fault
+abbrev pub is_located_system_error : LocatedFault → Bool
+is_located_system_error e = is_system_error e.fault
 
 -- By any symbol table an expression has a form, in any context, or a first error: also if names are
 -- circular or its form has too many nodes.
@@ -24,10 +24,10 @@ FormExists = (y : Symbols) (s : Context) (e : Tree) → IsNoSystemError is_syste
 abbrev pub LayoutExists : Type 0
 LayoutExists =
     (m : Files) (job : Job) →
-    (r : ReachedState Layout) × AreLaidOut m job r × IfSome r.fault (λ e. is_found_outside e ≡ false)
+    (r : ReachedState Layout) × AreLaidOut m job r × IfSome r.fault (λ e. is_located_system_error e ≡ false)
 
 -- and its outcome is an object or a first error
-abbrev pub AnswerExists : Type 0
-AnswerExists =
+abbrev pub OutcomeExists : Type 0
+OutcomeExists =
     (m : Files) (job : Job) →
-    (a : Outcome) × IsOutcome m job a × IsNoSystemError is_found_outside a.result
+    (a : Outcome) × IsOutcome m job a × IsNoSystemError is_located_system_error a.result

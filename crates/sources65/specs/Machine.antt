@@ -3,13 +3,13 @@ use Rattle.std.specs.Prelude.{◌≡◌, ℕ, List, [], ◌∷◌, ◌++◌, Opt
 use Rattle.base65.specs.Outcome.{◌>>=◌}
 use Rattle.base65.specs.Store.{Files}
 use Rattle.semantics65.specs.Types.{Object, AsmFault, Statement, SourceLocation}
-use Rattle.semantics65.specs.declared.laid.Context.{Context}
+use Rattle.semantics65.specs.declared.contexts.Context.{Context}
 use Rattle.semantics65.specs.Contents.{Content, section_request}
-use Rattle.semantics65.specs.Symbols.{LaidOutStatement, needs_section, Symbols, definitions_of, imports_of, scope_opened, symbols_of, with_new, zero_page_names}
+use Rattle.semantics65.specs.Symbols.{LaidOutStatement, needs_section, Symbols, definitions_of, imports_of, scope_opened, symbols_of, with_new_names, zero_page_names}
 use Rattle.semantics65.specs.Layout.{Cursor, laid_out_statement, cursor_after, start, line_fault, Layout}
-use Rattle.semantics65.specs.Numbering.{object_with, AreSound, IsSoundLayout}
-use Rattle.semantics65.specs.Module.{LocatedFault, Outcome, out_of, warning_of, Piece, pieces_of, quietly, stdout_text, warning_text, Purpose, value_result, valued, Fixup, Slot, resolved, deferred, slot_result, Resolution, resolution_of, module_resolution}
-use Rattle.sources65.specs.Reading.{known_at, StatementSemantics, IsSource, Job, ReachedState, AreLaidOut, IsOutcome}
+use Rattle.semantics65.specs.Numbering.{object_with, AreWellFormedContents, IsWellFormedLayout}
+use Rattle.semantics65.specs.Module.{LocatedFault, Outcome, statement_stdout, statement_warning, Piece, pieces_of, without_warning, stdout_text, warning_text, Purpose, value_result, expression_value, Fixup, Slot, resolved, deferred, slot_result, Resolution, resolution_of, module_resolution}
+use Rattle.sources65.specs.Reading.{environment_at, StatementSemantics, AssemblesSource, Job, ReachedState, AreLaidOut, IsOutcome}
 use Rattle.semantics65.specs.Norms.{Extends, IsFinal}
 use Rattle.syntax65.specs.Trees.{Tree}
 use Rattle.object65.specs.Form.{Form}
@@ -21,8 +21,8 @@ abbrev pub symbols_after : Symbols → LaidOutStatement → Symbols
 symbols_after y l = record {
   definitions = y.definitions ++ definitions_of l;
   scopes = y.scopes ++ scope_opened l.context.scope l.stated;
-  imports = with_new y.imports (imports_of l.stated);
-  zero_page = with_new y.zero_page (zero_page_names l.stated);
+  imports = with_new_names y.imports (imports_of l.stated);
+  zero_page = with_new_names y.zero_page (zero_page_names l.stated);
 }
 
 pub record State : Type 0 where
@@ -56,33 +56,33 @@ abbrev pub with_section_request : State → LaidOutStatement → State
 with_section_request t l = if needs_section l.stated then with_content t (section_request l.context.segment) else t
 
 -- whatever statements follow, and whatever was exported before, the piece has this content and no warning
-abbrev pub IsSettled : Symbols → SourceLocation → Context → Piece → Content → Type 0
-IsSettled y place s p c =
+abbrev pub HasFinalContent : Symbols → SourceLocation → Context → Piece → Content → Type 0
+HasFinalContent y location s p c =
     (z : Symbols) (names : List (List ℕ)) → Extends y z →
-    slot_result z names (deferred (record { place = place; context = s; piece = p })) ≡ Ok (quietly c)
+    slot_result z names (deferred (record { place = location; context = s; piece = p })) ≡ Ok (without_warning c)
 
 -- a piece is emitted at its line, if it is resolved there, or it is deferred
-pub data PieceStep (place : SourceLocation) (s : Context) (t : State) (p : Piece) : State → Type 0 where
-  at_once : (c : Content) → IsSettled t.symbols place s p c → PieceStep place s t p (with_content t c)
-  later : PieceStep place s t p (with_fixup t (record { place = place; context = s; piece = p }))
+pub data PieceStep (location : SourceLocation) (s : Context) (t : State) (p : Piece) : State → Type 0 where
+  emitted_now : (c : Content) → HasFinalContent t.symbols location s p c → PieceStep location s t p (with_content t c)
+  deferred_piece_step : PieceStep location s t p (with_fixup t (record { place = location; context = s; piece = p }))
 
 -- the pieces in order
 abbrev pub PieceSteps : SourceLocation → Context → State → List Piece → State → Type 0
-PieceSteps place s t [] u = u ≡ t
-PieceSteps place s t (p ∷ ps) u = (v : State) × PieceStep place s t p v × PieceSteps place s v ps u
+PieceSteps location s t [] u = u ≡ t
+PieceSteps location s t (p ∷ ps) u = (v : State) × PieceStep location s t p v × PieceSteps location s v ps u
 
 -- then its names are defined, and its output is printed
 abbrev pub with_symbols : State → LaidOutStatement → State
 with_symbols t l = record t {
   symbols = symbols_after t.symbols l;
   cursor = cursor_after t.symbols t.cursor l.stated;
-  out = t.out ++ out_of l.stated;
-  err = t.err ++ warning_of l.place l.stated;
+  out = t.out ++ statement_stdout l.stated;
+  err = t.err ++ statement_warning l.place l.stated;
 }
 
 abbrev pub StepsWithoutError : State → LaidOutStatement → Result State AsmFault → Type 0
 StepsWithoutError t l r =
-    (u : State) × PieceSteps l.place l.context (with_section_request t l) (pieces_of l.length l.settled l.stated) u
+    (u : State) × PieceSteps l.place l.context (with_section_request t l) (pieces_of l.length l.encoding l.stated) u
     × (r ≡ Ok (with_symbols u l))
 
 abbrev pub UnlessFault :
@@ -92,19 +92,19 @@ UnlessFault (Some e) Next r = r ≡ Err e
 
 -- the first error of a statement at its line, or the next state
 abbrev pub StepsTo : State → SourceLocation → Statement → Result State AsmFault → Type 0
-StepsTo t place x r =
-    UnlessFault (line_fault t.symbols t.cursor x) (StepsWithoutError t (laid_out_statement t.symbols t.cursor place x)) r
+StepsTo t location x r =
+    UnlessFault (line_fault t.symbols t.cursor x) (StepsWithoutError t (laid_out_statement t.symbols t.cursor location x)) r
 
 abbrev pub machine_semantics : StatementSemantics State
 machine_semantics = record {
-  takes = StepsTo;
-  meaning = λ t. known_at t.symbols t.cursor;
+  step_relation = StepsTo;
+  environment = λ t. environment_at t.symbols t.cursor;
   scope = λ t. t.cursor.scope;
 }
 
 -- the statements of a source
 abbrev pub RunsStatements : Files → Job → ReachedState State → Type 0
-RunsStatements m job r = IsSource m machine_semantics job initial_state r
+RunsStatements m job r = AssemblesSource m machine_semantics job initial_state r
 
 -- ---- After the last line.
 
@@ -119,7 +119,7 @@ outcome_of_state t None =
     record {
       result = (resolution_of_state t).found >>= (λ cs. Ok (object cs));
       out = t.out;
-      err = t.err ++ (resolution_of_state t).warned;
+      err = t.err ++ (resolution_of_state t).printed_warnings;
     }
 outcome_of_state t (Some e) = record { result = Err e; out = t.out; err = t.err }
 
@@ -132,23 +132,23 @@ LayoutIsUnique =
     AreLaidOut m job a → AreLaidOut m job b → a ≡ b
 
 -- a source has at most one outcome: an object or an error with its location, and one text for each stream
-abbrev pub AnswerIsUnique : Type 0
-AnswerIsUnique =
+abbrev pub OutcomeIsUnique : Type 0
+OutcomeIsUnique =
     (m : Files) (job : Job) (a b : Outcome) →
     IsOutcome m job a → IsOutcome m job b → a ≡ b
 
 -- the layout of a source is well-formed
-abbrev pub SoundLayoutLaw : Type 0
-SoundLayoutLaw =
+abbrev pub LayoutIsWellFormed : Type 0
+LayoutIsWellFormed =
     (m : Files) (job : Job) (r : ReachedState Layout) →
-    AreLaidOut m job r → IsSoundLayout r.following
+    AreLaidOut m job r → IsWellFormedLayout r.following
 
 -- the conditions for the object of a well-formed layout hold
-abbrev pub SoundContents : Type 0
-SoundContents =
+abbrev pub ContentsAreWellFormed : Type 0
+ContentsAreWellFormed =
     (y : Layout) (cs : List Content) →
-    IsSoundLayout y → (module_resolution y.laid).found ≡ Ok cs →
-    AreSound y.cursor.segments (symbols_of y.laid).imports cs
+    IsWellFormedLayout y → (module_resolution y.laid).found ≡ Ok cs →
+    AreWellFormedContents y.cursor.segments (symbols_of y.laid).imports cs
 
 -- ---- The one-pass machine.
 
@@ -169,10 +169,10 @@ MachineSimulatesLayout =
     × SimulatesLayout y r.following
 
 -- a value whose form is final has the result of that form at its line, if that has no error and no warning
-abbrev pub FinalSettles : Type 0
-FinalSettles =
-    (y : Symbols) (place : SourceLocation) (s : Context) (why : Purpose) (e : Tree) (f : Form) (c : Content) →
-    IsFinal y s e f → value_result place s why f ≡ Ok (quietly c) → IsSettled y place s (valued why e) c
+abbrev pub FinalFormIsResolved : Type 0
+FinalFormIsResolved =
+    (y : Symbols) (location : SourceLocation) (s : Context) (why : Purpose) (e : Tree) (f : Form) (c : Content) →
+    IsFinal y s e f → value_result location s why f ≡ Ok (without_warning c) → HasFinalContent y location s (expression_value why e) c
 
 -- one pass over the lines, and then one over the deferred pieces, assembles a source
 abbrev pub OnePassSuffices : Type 0

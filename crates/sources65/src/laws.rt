@@ -1,7 +1,7 @@
 //! Laws about the definitions. Each law is the contract of a function that does nothing.
 
-ghost use Rattle.sources65.specs.Laws.{AnswerExists, FormExists, LayoutExists};
-ghost use Rattle.sources65.specs.Machine.{FinalSettles, LayoutIsReachable, AnswerIsUnique, LayoutIsUnique, OnePassSuffices, MachineSimulatesLayout, SoundContents, SoundLayoutLaw};
+ghost use Rattle.sources65.specs.Laws.{OutcomeExists, FormExists, LayoutExists};
+ghost use Rattle.sources65.specs.Machine.{FinalFormIsResolved, LayoutIsReachable, OutcomeIsUnique, LayoutIsUnique, OnePassSuffices, MachineSimulatesLayout, ContentsAreWellFormed, LayoutIsWellFormed};
 
 /// A source has at most one layout.
 pub fn layout_is_unique()
@@ -9,8 +9,8 @@ pub fn layout_is_unique()
 {}
 
 /// Assembly is deterministic: a source has at most one outcome.
-pub fn answer_is_unique()
-    ensures { AnswerIsUnique }
+pub fn outcome_is_unique()
+    ensures { OutcomeIsUnique }
 {}
 
 /// By any symbol table an expression has a form or a first error, which is never a system error.
@@ -25,19 +25,19 @@ pub fn layout_exists()
 {}
 
 /// Assembly is total: for all files a source has an outcome, whose error is never a system error.
-pub fn answer_exists()
-    ensures { AnswerExists }
+pub fn outcome_exists()
+    ensures { OutcomeExists }
 {}
 
 /// The layout of a source is well-formed: names are valid, and each section is within its size
 /// limit.
-pub fn sound_layout()
-    ensures { SoundLayoutLaw }
+pub fn layout_is_well_formed()
+    ensures { LayoutIsWellFormed }
 {}
 
 /// The contents of a well-formed layout are well-formed.
-pub fn sound_contents()
-    ensures { SoundContents }
+pub fn contents_are_well_formed()
+    ensures { ContentsAreWellFormed }
 {}
 
 /// Each state that the one-pass machine reaches represents the layout.
@@ -46,8 +46,8 @@ pub fn machine_simulates_layout()
 {}
 
 /// A value whose form is final is resolved at its line.
-pub fn final_settles()
-    ensures { FinalSettles }
+pub fn final_form_is_resolved()
+    ensures { FinalFormIsResolved }
 {}
 
 /// One pass over the statements, and then one over the deferred pieces, assembles a source.

@@ -6,10 +6,10 @@ use Rattle.std.proofs.lemmas.Option.{slice_get_within}
 use Rattle.base65.specs.declared.values.Op1.{Op1}
 use Rattle.base65.specs.declared.values.Op2.{Op2}
 use Rattle.syntax65.specs.Trees.{Tree, unary, binary}
-use Rattle.semantics65.specs.declared.laid.Context.{Context}
+use Rattle.semantics65.specs.declared.contexts.Context.{Context}
 use Rattle.semantics65.specs.Norms.{defined_form, form_of_definition, norm, norm_of}
 use Rattle.semantics65.specs.Symbols.{Definition, Symbols, binding_of, defined_at}
-use Rattle.symbols65.specs.Resolving.{IsBlocked, IsBlockedAt, MeansAlways, binary_form, plain, plain_in, prefix_form}
+use Rattle.symbols65.specs.Resolving.{IsBlocked, IsBlockedAt, HasFinalBinding, binary_form, plain_form, plain_result, prefix_form}
 use Rattle.symbols65.specs.Tables.{HasBlocker}
 use Rattle.symbols65.proofs.Sizing.{binary_plain, left_alone, operand_norm, prefix_plain}
 use Rattle.symbols65.proofs.Turns.{norm_is_last}
@@ -26,25 +26,25 @@ operand_defined z s e j h =
     norm_is_last z 1 s e ∙ ap (λ (k : ℕ). norm (suc k) z s e) one ∙ operand_norm (suc (length z.definitions)) z s e (defined_at j) h
 
 module _ (y : Symbols) where
-  pub operand_blocked : (s : Context) (e : Tree) (j r : ℕ) → MeansAlways y s e j → IsBlockedAt y j r → IsBlocked y s e r
-  operand_blocked s e j r (lt, means) h = λ z more none. ap plain_in (operand_defined z s e j (means z more)) ∙ h z more none
+  pub operand_blocked : (s : Context) (e : Tree) (j r : ℕ) → HasFinalBinding y s e j → IsBlockedAt y j r → IsBlocked y s e r
+  operand_blocked s e j r (lt, means) h = λ z more none. ap plain_result (operand_defined z s e j (means z more)) ∙ h z more none
 
   pub prefix_blocked : (s : Context) (op : Op1) (e : Tree) (r : ℕ) → IsBlocked y s e r → IsBlocked y s (unary op e) r
-  prefix_blocked s op e r h = λ z more none. sym (prefix_plain op (norm_of z s e)) ∙ ap (λ o. option_and_then plain (prefix_form op o)) (h z more none)
+  prefix_blocked s op e r h = λ z more none. sym (prefix_plain op (norm_of z s e)) ∙ ap (λ o. option_and_then plain_form (prefix_form op o)) (h z more none)
 
   pub left_blocked : (s : Context) (op : Op2) (e g : Tree) (r : ℕ) → IsBlocked y s e r → IsBlocked y s (binary op e g) r
-  left_blocked s op e g r h = λ z more none. sym (binary_plain op (norm_of z s e) (norm_of z s g)) ∙ ap (λ o. option_and_then plain (binary_form op o (plain_in (norm_of z s g)))) (h z more none)
+  left_blocked s op e g r h = λ z more none. sym (binary_plain op (norm_of z s e) (norm_of z s g)) ∙ ap (λ o. option_and_then plain_form (binary_form op o (plain_result (norm_of z s g)))) (h z more none)
 
   pub right_blocked : (s : Context) (op : Op2) (e g : Tree) (r : ℕ) → IsBlocked y s g r → IsBlocked y s (binary op e g) r
   right_blocked s op e g r h = λ z more none.
       sym (binary_plain op (norm_of z s e) (norm_of z s g))
-      ∙ ap (λ o. option_and_then plain (binary_form op (plain_in (norm_of z s e)) o)) (h z more none)
-      ∙ ap (option_and_then plain) (left_alone op (plain_in (norm_of z s e)))
+      ∙ ap (λ o. option_and_then plain_form (binary_form op (plain_result (norm_of z s e)) o)) (h z more none)
+      ∙ ap (option_and_then plain_form) (left_alone op (plain_result (norm_of z s e)))
 
   -- what is kept with a definition
   pub stored_blocks : (j : ℕ) (d : Definition) (b : Option ℕ) (r : ℕ) → slice_get y.definitions j ≡ Some d → HasBlocker y d b → b ≡ Some r → IsBlockedAt y j r
   stored_blocks j d b r at h is = λ z more none.
-      ap plain_in (ap (λ ds. form_of_definition (norm_of z) (slice_get ds j)) more.definitions ∙ ap (form_of_definition (norm_of z)) (get_stays y.definitions more.later_definitions j (slice_get_within y.definitions j d at) ∙ at))
+      ap plain_result (ap (λ ds. form_of_definition (norm_of z) (slice_get ds j)) more.definitions ∙ ap (form_of_definition (norm_of z)) (get_stays y.definitions more.later_definitions j (slice_get_within y.definitions j d at) ∙ at))
       ∙ h r is z more none
 
   pub either_blocks : (j : ℕ) (d : Definition) (b : Option ℕ) → slice_get y.definitions j ≡ Some d → HasBlocker y d b → IsBlockedAt y j (unwrap_or b j)

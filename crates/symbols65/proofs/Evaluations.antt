@@ -12,11 +12,11 @@ use Rattle.syntax65.specs.declared.lexing.tokens.AddressSize.TheVariants as size
 use Rattle.object65.specs.Form.{Form, lit}
 use Rattle.object65.specs.Folding.{fold1, fold2}
 use Rattle.ast65.specs.declared.fault.AsmFault.{AsmFault}
-use Rattle.ast65.specs.Faults.{is_memory}
-use Rattle.semantics65.specs.declared.laid.Context.{Context}
-use Rattle.semantics65.specs.declared.laid.EncodingChoice.TheVariants.{FillByte}
-use Rattle.semantics65.specs.Layout.{lost_scope, lost_scopes, operand_trees, optional_tree, or_then, trees_of, unless_fault}
-use Rattle.semantics65.specs.Norms.{address_of, constant_in, byte_count, fill_settled, optional_value, fold_result, form_of_meaning, larger, literal_in, norm, norm_of, size_by, size_of, size_of_meaning, size_of_value, takes_byte}
+use Rattle.ast65.specs.Faults.{is_out_of_memory}
+use Rattle.semantics65.specs.declared.contexts.Context.{Context}
+use Rattle.semantics65.specs.declared.contexts.EncodingChoice.TheVariants.{FillByte}
+use Rattle.semantics65.specs.Layout.{missing_scope_fault, missing_scopes_fault, operand_trees, optional_tree, or_then, trees_of, unless_fault}
+use Rattle.semantics65.specs.Norms.{address_of, constant_in, nat_or_zero, fill_encoding, optional_value, fold_result, form_of_binding, larger, literal_in, norm, norm_of, size_by, size_of, size_of_binding, size_of_value, is_byte_selector}
 use Rattle.semantics65.specs.Symbols.{Binding, Scope, Symbols, binding_of}
 use Rattle.ast65.specs.declared.language.Item.{Item}
 use Rattle.ast65.specs.declared.language.Operand.{Operand}
@@ -26,7 +26,7 @@ use Rattle.ast65.specs.declared.language.Statement.TheVariants as statement
 use Rattle.base65.specs.declared.width.Width.{Width}
 use Rattle.semantics65.specs.Contents.{operand_tree}
 use Rattle.symbols65.specs.Evaluations.{AreEvaluations, EvaluatesTree, HasFinal, HaveFinals, IsEvaluated, IsEvaluation, first_tree, item_tree, items_in, second_tree}
-use Rattle.symbols65.specs.Resolving.{IsFinalWithin, IsReference, binary_form, plain, plain_in, prefix_form}
+use Rattle.symbols65.specs.Resolving.{IsFinalWithin, IsReference, binary_form, plain_form, plain_result, prefix_form}
 use Rattle.symbols65.specs.declared.constants.Evaluation.{Evaluation}
 use Rattle.symbols65.specs.declared.measuring.trees.Evaluations.{Evaluations}
 use Rattle.symbols65.proofs.Finals.{binary_stays, prefix_stays}
@@ -37,31 +37,31 @@ use Rattle.symbols65.proofs.Sizing.{binary_plain, folded_plain, left_alone, plai
 
 -- ---- Folding forms, of which some are held that are no number and no address.
 
-prefix_drops : (op : Op1) (o : Option Form) → option_and_then plain (prefix_form op o) ≡ option_and_then plain (prefix_form op (option_and_then plain o))
+prefix_drops : (op : Op1) (o : Option Form) → option_and_then plain_form (prefix_form op o) ≡ option_and_then plain_form (prefix_form op (option_and_then plain_form o))
 prefix_drops op None = refl
 prefix_drops op (Some f) = folded_plain (fold1 op f) ∙ sym (prefix_plain op (Ok f))
 
-prefix_held : (op : Op1) (o : Option Form) (r : Result Form AsmFault) → option_and_then plain o ≡ plain_in r → option_and_then plain (prefix_form op o) ≡ plain_in (r >>= (λ f. fold_result (fold1 op f)))
-prefix_held op o r h = prefix_drops op o ∙ ap (λ p. option_and_then plain (prefix_form op p)) h ∙ prefix_plain op r
+prefix_held : (op : Op1) (o : Option Form) (r : Result Form AsmFault) → option_and_then plain_form o ≡ plain_result r → option_and_then plain_form (prefix_form op o) ≡ plain_result (r >>= (λ f. fold_result (fold1 op f)))
+prefix_held op o r h = prefix_drops op o ∙ ap (λ p. option_and_then plain_form (prefix_form op p)) h ∙ prefix_plain op r
 
-binary_drops : (op : Op2) (o p : Option Form) → option_and_then plain (binary_form op o p) ≡ option_and_then plain (binary_form op (option_and_then plain o) (option_and_then plain p))
+binary_drops : (op : Op2) (o p : Option Form) → option_and_then plain_form (binary_form op o p) ≡ option_and_then plain_form (binary_form op (option_and_then plain_form o) (option_and_then plain_form p))
 binary_drops op None p = refl
-binary_drops op (Some f) None = sym (ap (option_and_then plain) (left_alone op (plain f)))
+binary_drops op (Some f) None = sym (ap (option_and_then plain_form) (left_alone op (plain_form f)))
 binary_drops op (Some f) (Some g) = folded_plain (fold2 op f g) ∙ sym (binary_plain op (Ok f) (Ok g))
 
-binary_held : (op : Op2) (o p : Option Form) (q r : Result Form AsmFault) → option_and_then plain o ≡ plain_in q → option_and_then plain p ≡ plain_in r → option_and_then plain (binary_form op o p) ≡ plain_in (q >>= (λ f. r >>= (λ g. fold_result (fold2 op f g))))
+binary_held : (op : Op2) (o p : Option Form) (q r : Result Form AsmFault) → option_and_then plain_form o ≡ plain_result q → option_and_then plain_form p ≡ plain_result r → option_and_then plain_form (binary_form op o p) ≡ plain_result (q >>= (λ f. r >>= (λ g. fold_result (fold2 op f g))))
 binary_held op o p q r h k =
     binary_drops op o p
-    ∙ ap (λ x. option_and_then plain (binary_form op x (option_and_then plain p))) h
-    ∙ ap (λ x. option_and_then plain (binary_form op (plain_in q) x)) k
+    ∙ ap (λ x. option_and_then plain_form (binary_form op x (option_and_then plain_form p))) h
+    ∙ ap (λ x. option_and_then plain_form (binary_form op (plain_result q) x)) k
     ∙ binary_plain op q r
 
 -- ---- What is held of a form.
 
 abbrev held : Bool → Option Form → Option Form
-held b o = if b then o else option_and_then plain o
+held b o = if b then o else option_and_then plain_form o
 
-held_plain : (b : Bool) (o : Option Form) → option_and_then plain (held b o) ≡ option_and_then plain o
+held_plain : (b : Bool) (o : Option Form) → option_and_then plain_form (held b o) ≡ option_and_then plain_form o
 held_plain true o = refl
 held_plain false None = refl
 held_plain false (Some f) = plain_twice f
@@ -70,7 +70,7 @@ held_whole : (b : Bool) (o p : Option Form) (f : Form) → p ≡ held b o → b 
 held_whole true o p f h e is = sym h ∙ is
 held_whole false o p f h e is = absurd cc
 
-value_held : (y : Symbols) (s : Context) (e : Tree) (o : Option Form) → option_and_then plain o ≡ plain_in (norm_of y s e) → option_and_then (λ f. literal_in (Ok f)) o ≡ constant_in y s e
+value_held : (y : Symbols) (s : Context) (e : Tree) (o : Option Form) → option_and_then plain_form o ≡ plain_result (norm_of y s e) → option_and_then (λ f. literal_in (Ok f)) o ≡ constant_in y s e
 value_held y s e o h = plain_value o ∙ ap (option_and_then (λ f. literal_in (Ok f))) h ∙ plain_known (norm_of y s e)
 
 -- an evaluation is made of a form, which may be final, and of a size without a value
@@ -81,10 +81,10 @@ pub record IsMadeOf (r : Evaluation) (o : Option Form) (b : Bool) (other : Addre
 
 -- so it is that of an expression with this form
 made : (y : Symbols) (s : Context) (own : AddressSize) (e : Tree) (r : Evaluation) (o : Option Form) (b : Bool) (other : AddressSize) →
-    IsMadeOf r o b other → option_and_then plain o ≡ plain_in (norm_of y s e) → (b ≡ true → (f : Form) → o ≡ Some f → IsFinalWithin (length y.definitions) y s e f) →
+    IsMadeOf r o b other → option_and_then plain_form o ≡ plain_result (norm_of y s e) → (b ≡ true → (f : Form) → o ≡ Some f → IsFinalWithin (length y.definitions) y s e f) →
     size_by other (constant_in y s e) ≡ size_of y s own e → IsEvaluation y s own e r
 made y s own e r o b other m whole stays sized = record {
-  form = ap (option_and_then plain) m.form ∙ held_plain b o ∙ whole;
+  form = ap (option_and_then plain_form) m.form ∙ held_plain b o ∙ whole;
   stays = λ yes f is. stays (sym m.final ∙ yes) f (held_whole b o r.form f m.form (sym m.final ∙ yes) is);
   size = m.size ∙ ap (size_by other) (value_held y s e o whole) ∙ sized;
 }
@@ -92,19 +92,19 @@ made y s own e r o b other m whole stays sized = record {
 -- ---- Operations.
 
 module _ (y : Symbols) (s : Context) (own : AddressSize) where
-  pub prefix_found : (op : Op1) (e : Tree) (v r : Evaluation) (o : Option Form) (other : AddressSize) → IsEvaluation y s own e v → o ≡ prefix_form op v.form → other ≡ (if takes_byte op then size.ZeroPage else v.size) →
+  pub prefix_found : (op : Op1) (e : Tree) (v r : Evaluation) (o : Option Form) (other : AddressSize) → IsEvaluation y s own e v → o ≡ prefix_form op v.form → other ≡ (if is_byte_selector op then size.ZeroPage else v.size) →
       IsMadeOf r o v.is_final other → IsEvaluation y s own (unary op e) r
   prefix_found op e v r o other h folds sized m =
       made y s own (unary op e) r o v.is_final other m
-      (ap (option_and_then plain) folds ∙ prefix_held op v.form (norm_of y s e) h.form)
+      (ap (option_and_then plain_form) folds ∙ prefix_held op v.form (norm_of y s e) h.form)
       (λ yes f is. prefix_stays (length y.definitions) y s op e v.form (h.stays yes) f (sym folds ∙ is))
-      (ap (λ a. size_by a (constant_in y s (unary op e))) (sized ∙ ap (λ (a : AddressSize). if takes_byte op then size.ZeroPage else a) h.size))
+      (ap (λ a. size_by a (constant_in y s (unary op e))) (sized ∙ ap (λ (a : AddressSize). if is_byte_selector op then size.ZeroPage else a) h.size))
 
   pub binary_found : (op : Op2) (e g : Tree) (v u r : Evaluation) (o : Option Form) (b : Bool) (other : AddressSize) → IsEvaluation y s own e v → IsEvaluation y s own g u → o ≡ binary_form op v.form u.form → other ≡ larger v.size u.size →
       (b ≡ true → v.is_final ≡ true) → (b ≡ true → u.is_final ≡ true) → IsMadeOf r o b other → IsEvaluation y s own (binary op e g) r
   binary_found op e g v u r o b other h k folds sized left right m =
       made y s own (binary op e g) r o b other m
-      (ap (option_and_then plain) folds ∙ binary_held op v.form u.form (norm_of y s e) (norm_of y s g) h.form k.form)
+      (ap (option_and_then plain_form) folds ∙ binary_held op v.form u.form (norm_of y s e) (norm_of y s g) h.form k.form)
       (λ yes f is. binary_stays (length y.definitions) y s op e g v.form u.form (h.stays (left yes)) (k.stays (right yes)) f (sym folds ∙ is))
       (ap (λ a. size_by a (constant_in y s (binary op e g))) (sized ∙ ap (λ a. larger a u.size) h.size ∙ ap (larger (size_of y s own e)) k.size))
 
@@ -112,21 +112,21 @@ module _ (y : Symbols) (s : Context) (own : AddressSize) where
 
   pub number_found : (n : ℕ) (r : Evaluation) → r.form ≡ Some (lit (pos n)) → r.size ≡ size_of_value (pos n) → IsEvaluation y s own (number n) r
   number_found n r form sized = record {
-    form = ap (option_and_then plain) form;
+    form = ap (option_and_then plain_form) form;
     stays = λ yes f is. (let same : lit (pos n) ≡ f = cc in λ z more. ap Ok same);
     size = sized;
   }
 
   pub here_found : (r : Evaluation) → r.form ≡ Some (address_of s) → r.size ≡ own → IsEvaluation y s own here r
   here_found r form sized = record {
-    form = ap (option_and_then plain) form;
+    form = ap (option_and_then plain_form) form;
     stays = λ yes f is. (let same : address_of s ≡ f = cc in λ z more. ap Ok same);
     size = sized;
   }
 
   -- ---- References.
 
-  reference_size : (e : Tree) → IsReference e → size_of y s own e ≡ size_by (size_of_meaning y (binding_of y s e)) (constant_in y s e)
+  reference_size : (e : Tree) → IsReference e → size_of y s own e ≡ size_by (size_of_binding y (binding_of y s e)) (constant_in y s e)
   reference_size (number n) h = absurd h
   reference_size here h = absurd h
   reference_size (unary op e) h = absurd h
@@ -142,56 +142,56 @@ module _ (y : Symbols) (s : Context) (own : AddressSize) where
   absent_norm here z h is = absurd h
   absent_norm (unary op e) z h is = absurd h
   absent_norm (binary op e g) z h is = absurd h
-  absent_norm (name global parts) z h is = ap (λ r. r >>= form_of_meaning (norm (length y.definitions) y) y) is
-  absent_norm (cheap n) z h is = ap (λ r. r >>= form_of_meaning (norm (length y.definitions) y) y) is
-  absent_norm (forward n) z h is = ap (λ r. r >>= form_of_meaning (norm (length y.definitions) y) y) is
-  absent_norm (backward n) z h is = ap (λ r. r >>= form_of_meaning (norm (length y.definitions) y) y) is
+  absent_norm (name global parts) z h is = ap (λ r. r >>= form_of_binding (norm (length y.definitions) y) y) is
+  absent_norm (cheap n) z h is = ap (λ r. r >>= form_of_binding (norm (length y.definitions) y) y) is
+  absent_norm (forward n) z h is = ap (λ r. r >>= form_of_binding (norm (length y.definitions) y) y) is
+  absent_norm (backward n) z h is = ap (λ r. r >>= form_of_binding (norm (length y.definitions) y) y) is
 
   pub absent_found : (e : Tree) (z : AsmFault) (r : Evaluation) → IsReference e → binding_of y s e ≡ Err z → IsMadeOf r None false size.Absolute → IsEvaluation y s own e r
   absent_found e z r h is m =
       let none = absent_norm e z h is in
       made y s own e r None false size.Absolute m
-      (sym (ap plain_in none))
+      (sym (ap plain_result none))
       (λ no. absurd cc)
-      (ap (λ n. size_by size.Absolute (literal_in n)) none ∙ sym (ap (λ n. size_by (size_of_meaning y n) (constant_in y s e)) is ∙ ap (λ n. size_by size.Absolute (literal_in n)) none) ∙ sym (reference_size e h))
+      (ap (λ n. size_by size.Absolute (literal_in n)) none ∙ sym (ap (λ n. size_by (size_of_binding y n) (constant_in y s e)) is ∙ ap (λ n. size_by size.Absolute (literal_in n)) none) ∙ sym (reference_size e h))
 
   -- what means something by the statements so far
-  pub meant_found : (e : Tree) (means : Binding) (r : Evaluation) (o : Option Form) (other : AddressSize) → IsReference e → binding_of y s e ≡ Ok means → o ≡ plain_in (norm_of y s e) → other ≡ size_of_meaning y (Ok means) →
+  pub meant_found : (e : Tree) (means : Binding) (r : Evaluation) (o : Option Form) (other : AddressSize) → IsReference e → binding_of y s e ≡ Ok means → o ≡ plain_result (norm_of y s e) → other ≡ size_of_binding y (Ok means) →
       IsMadeOf r o false other → IsEvaluation y s own e r
   meant_found e means r o other h is has sized m =
       made y s own e r o false other m
-      (ap (option_and_then plain) has ∙ plain_again (norm_of y s e))
+      (ap (option_and_then plain_form) has ∙ plain_again (norm_of y s e))
       (λ no. absurd cc)
-      (ap (λ a. size_by a (constant_in y s e)) (sized ∙ ap (size_of_meaning y) (sym is)) ∙ sym (reference_size e h))
+      (ap (λ a. size_by a (constant_in y s e)) (sized ∙ ap (size_of_binding y) (sym is)) ∙ sym (reference_size e h))
 
 module _ (y : Symbols) (s : Context) (own : AddressSize) where
   -- what means something, and has a final form
-  pub final_found : (e : Tree) (means : Binding) (f : Form) (r : Evaluation) (other : AddressSize) → IsReference e → binding_of y s e ≡ Ok means → IsFinalWithin (length y.definitions) y s e f → other ≡ size_of_meaning y (Ok means) →
+  pub final_found : (e : Tree) (means : Binding) (f : Form) (r : Evaluation) (other : AddressSize) → IsReference e → binding_of y s e ≡ Ok means → IsFinalWithin (length y.definitions) y s e f → other ≡ size_of_binding y (Ok means) →
       IsMadeOf r (Some f) true other → IsEvaluation y s own e r
   final_found e means f r other h is keeps sized m =
       made y s own e r (Some f) true other m
-      (sym (ap plain_in (keeps y (extends_itself y))))
+      (sym (ap plain_result (keeps y (extends_itself y))))
       (λ yes g at. (let same : f ≡ g = cc in subst (IsFinalWithin (length y.definitions) y s e) same keeps))
-      (ap (λ a. size_by a (constant_in y s e)) (sized ∙ ap (size_of_meaning y) (sym is)) ∙ sym (reference_size y s own e h))
+      (ap (λ a. size_by a (constant_in y s e)) (sized ∙ ap (size_of_binding y) (sym is)) ∙ sym (reference_size y s own e h))
 
 -- ---- Names whose scope isn't there.
 
 module _ (y : Symbols) (s : Context) (own : AddressSize) where
   abbrev lost : Tree → Option AsmFault
-  lost e = lost_scope y.scopes s.scope e
+  lost e = missing_scope_fault y.scopes s.scope e
 
   pub left_lost : (op : Op2) (e g : Tree) (z : AsmFault) → EvaluatesTree y s own e (Err z) → EvaluatesTree y s own (binary op e g) (Err z)
-  left_lost op e g z h = unless_then (is_memory z) (λ p. ap (λ f. or_then f (lost g)) p) h
+  left_lost op e g z h = unless_then (is_out_of_memory z) (λ p. ap (λ f. or_then f (lost g)) p) h
 
   pub right_lost : (op : Op2) (e g : Tree) (z : AsmFault) → lost e ≡ None → EvaluatesTree y s own g (Err z) → EvaluatesTree y s own (binary op e g) (Err z)
-  right_lost op e g z none h = unless_then (is_memory z) (λ p. ap (λ f. or_then f (lost g)) none ∙ p) h
+  right_lost op e g z none h = unless_then (is_out_of_memory z) (λ p. ap (λ f. or_then f (lost g)) none ∙ p) h
 
   pub none_lost : (op : Op2) (e g : Tree) → lost e ≡ None → lost g ≡ None → lost (binary op e g) ≡ None
   none_lost op e g none also = ap (λ f. or_then f (lost g)) none ∙ also
 
   -- a name that was checked before it is looked up
-  pub name_lost : (e : Tree) (z : AsmFault) → Unless (is_memory z) (unless_fault {A = Unit {0}} (lost e) tt ≡ Err z) → EvaluatesTree y s own e (Err z)
-  name_lost e z h = unless_then (is_memory z) (λ p. there (lost e) p) h
+  pub name_lost : (e : Tree) (z : AsmFault) → Unless (is_out_of_memory z) (unless_fault {A = Unit {0}} (lost e) tt ≡ Err z) → EvaluatesTree y s own e (Err z)
+  name_lost e z h = unless_then (is_out_of_memory z) (λ p. there (lost e) p) h
     where
       there : (f : Option AsmFault) → unless_fault {A = Unit {0}} f tt ≡ Err z → f ≡ Some z
       there f q = grind (arith, common_steps)
@@ -208,11 +208,11 @@ module _ (y : Symbols) (s : Context) (own : AddressSize) where
   pub number_is : (e : Tree) (v : Evaluation) → IsEvaluation y s own e v → option_and_then (λ f. literal_in (Ok f)) v.form ≡ constant_in y s e
   number_is e v h = value_held y s e v.form h.form
 
-  pub first_lost : (e : Tree) (es : List Tree) (z : AsmFault) → EvaluatesTree y s own e (Err z) → Unless (is_memory z) (unless_fault {A = Unit {0}} (lost_scopes y.scopes s.scope (e ∷ es)) tt ≡ Err z)
-  first_lost e es z h = unless_then (is_memory z) (λ p. ap (λ f. unless_fault {A = Unit {0}} (or_then f (lost_scopes y.scopes s.scope es)) tt) p) h
+  pub first_lost : (e : Tree) (es : List Tree) (z : AsmFault) → EvaluatesTree y s own e (Err z) → Unless (is_out_of_memory z) (unless_fault {A = Unit {0}} (missing_scopes_fault y.scopes s.scope (e ∷ es)) tt ≡ Err z)
+  first_lost e es z h = unless_then (is_out_of_memory z) (λ p. ap (λ f. unless_fault {A = Unit {0}} (or_then f (missing_scopes_fault y.scopes s.scope es)) tt) p) h
 
-  pub first_there : (e : Tree) (es : List Tree) → lost e ≡ None → lost_scopes y.scopes s.scope (e ∷ es) ≡ lost_scopes y.scopes s.scope es
-  first_there e es none = ap (λ f. or_then f (lost_scopes y.scopes s.scope es)) none
+  pub first_there : (e : Tree) (es : List Tree) → lost e ≡ None → missing_scopes_fault y.scopes s.scope (e ∷ es) ≡ missing_scopes_fault y.scopes s.scope es
+  first_there e es none = ap (λ f. or_then f (missing_scopes_fault y.scopes s.scope es)) none
 
 -- ---- The values of expressions that may be left out.
 
@@ -223,11 +223,11 @@ module _ (y : Symbols) (s : Context) (own : AddressSize) where
   found_number (Some t) None k h there is d = absurd h
   found_number (Some t) (Some v) k h there is d = sym (is t h)
 
-  pub found_fill : (e : Option Tree) (o : Option Evaluation) (k : Option ℤ) → IsEvaluated y s own e o → is_some o ≡ true → ((t : Tree) → IsEvaluated y s own (Some t) o → k ≡ constant_in y s t) → fill_settled y s e ≡ FillByte (byte_count k)
+  pub found_fill : (e : Option Tree) (o : Option Evaluation) (k : Option ℤ) → IsEvaluated y s own e o → is_some o ≡ true → ((t : Tree) → IsEvaluated y s own (Some t) o → k ≡ constant_in y s t) → fill_encoding y s e ≡ FillByte (nat_or_zero k)
   found_fill None None k h there is = absurd cc
   found_fill None (Some v) k h there is = absurd h
   found_fill (Some t) None k h there is = absurd h
-  found_fill (Some t) (Some v) k h there is = ap (λ k. FillByte (byte_count k)) (sym (is t h))
+  found_fill (Some t) (Some v) k h there is = ap (λ k. FillByte (nat_or_zero k)) (sym (is t h))
 
 -- ---- The expressions of statements.
 
@@ -244,7 +244,7 @@ operand_trees_are (operands.IndirectY e) = refl
 pub trees_are : (x : Statement) → ((width : Width) (items : List Item) → x ≡ statement.Values width items → ⊥) → trees_of x ≡ optional_tree (first_tree x) ++ optional_tree (second_tree x)
 trees_are (statement.Values width items) h = absurd (h width items refl)
 trees_are (statement.Constant n e) h = refl
-trees_are (statement.Assert e act message) h = refl
+trees_are (statement.Assert e action text) h = refl
 trees_are (statement.Instruction m operand) h = operand_trees_are operand ∙ sym (append-nil (optional_tree (operand_tree operand)))
 trees_are (statement.Reserve n v) h = refl
 trees_are (statement.Align n v) h = refl
@@ -252,19 +252,19 @@ trees_are (statement.Incbin bytes start len) h = refl
 trees_are _ h = refl
 
 -- what the first of two lists of expressions is refused for, and the second one where it isn't
-pub either_lost : (cs : List Scope) (scope : ℕ) (es gs : List Tree) → lost_scopes cs scope (es ++ gs) ≡ or_then (lost_scopes cs scope es) (lost_scopes cs scope gs)
+pub either_lost : (cs : List Scope) (scope : ℕ) (es gs : List Tree) → missing_scopes_fault cs scope (es ++ gs) ≡ or_then (missing_scopes_fault cs scope es) (missing_scopes_fault cs scope gs)
 either_lost cs scope [] gs = refl
-either_lost cs scope (e ∷ es) gs = ap (or_then (lost_scope cs scope e)) (either_lost cs scope es gs) ∙ or_then_assoc (lost_scope cs scope e) (lost_scopes cs scope es) (lost_scopes cs scope gs)
+either_lost cs scope (e ∷ es) gs = ap (or_then (missing_scope_fault cs scope e)) (either_lost cs scope es gs) ∙ or_then_assoc (missing_scope_fault cs scope e) (missing_scopes_fault cs scope es) (missing_scopes_fault cs scope gs)
   where
     or_then_assoc : (f g h : Option AsmFault) → or_then f (or_then g h) ≡ or_then (or_then f g) h
     or_then_assoc None g h = refl
     or_then_assoc (Some z) g h = refl
 
-pub left_of_two : (cs : List Scope) (scope : ℕ) (es gs : List Tree) (e : AsmFault) → Unless (is_memory e) (unless_fault {A = Unit {0}} (lost_scopes cs scope es) tt ≡ Err e) → Unless (is_memory e) (unless_fault {A = Unit {0}} (lost_scopes cs scope (es ++ gs)) tt ≡ Err e)
-left_of_two cs scope es gs e h = refused_same e _ _ (ap (λ f. unless_fault {A = Unit {0}} f tt) (either_lost cs scope es gs)) (refused_first e (lost_scopes cs scope es) (lost_scopes cs scope gs) tt h)
+pub left_of_two : (cs : List Scope) (scope : ℕ) (es gs : List Tree) (e : AsmFault) → Unless (is_out_of_memory e) (unless_fault {A = Unit {0}} (missing_scopes_fault cs scope es) tt ≡ Err e) → Unless (is_out_of_memory e) (unless_fault {A = Unit {0}} (missing_scopes_fault cs scope (es ++ gs)) tt ≡ Err e)
+left_of_two cs scope es gs e h = refused_same e _ _ (ap (λ f. unless_fault {A = Unit {0}} f tt) (either_lost cs scope es gs)) (refused_first e (missing_scopes_fault cs scope es) (missing_scopes_fault cs scope gs) tt h)
 
-pub right_of_two : (cs : List Scope) (scope : ℕ) (es gs : List Tree) → unless_fault {A = Unit {0}} (lost_scopes cs scope es) tt ≡ Ok tt → unless_fault {A = Unit {0}} (lost_scopes cs scope (es ++ gs)) tt ≡ unless_fault {A = Unit {0}} (lost_scopes cs scope gs) tt
-right_of_two cs scope es gs none = ap (λ f. unless_fault {A = Unit {0}} f tt) (either_lost cs scope es gs ∙ left_after (lost_scopes cs scope es) (lost_scopes cs scope gs) tt tt none)
+pub right_of_two : (cs : List Scope) (scope : ℕ) (es gs : List Tree) → unless_fault {A = Unit {0}} (missing_scopes_fault cs scope es) tt ≡ Ok tt → unless_fault {A = Unit {0}} (missing_scopes_fault cs scope (es ++ gs)) tt ≡ unless_fault {A = Unit {0}} (missing_scopes_fault cs scope gs) tt
+right_of_two cs scope es gs none = ap (λ f. unless_fault {A = Unit {0}} f tt) (either_lost cs scope es gs ∙ left_after (missing_scopes_fault cs scope es) (missing_scopes_fault cs scope gs) tt tt none)
 
 -- ---- What is found of all expressions of a statement.
 

@@ -14,16 +14,16 @@ use Rattle.object65.specs.Folding.{fold1, fold2}
 use Rattle.object65.specs.declared.folding.FormFault.{FormFault}
 use Rattle.ast65.specs.declared.fault.AsmFault.{AsmFault}
 use Rattle.ast65.specs.declared.fault.AsmFault.TheVariants.{NoSuchLabel, NoSuchScope, Undefined}
-use Rattle.semantics65.specs.declared.laid.Context.{Context}
-use Rattle.semantics65.specs.Symbols.{defined_at, enclosing, first_found, last_of, binding_of, member_meaning, or_else, or_fault, outward_from, scope_from, scopes_from, scopes_of, display_name, unnamed_meaning, Definition, Key, Symbols, cheap_in, definition_index, import_index, named, same_key, unnamed_at}
-use Rattle.semantics65.specs.Norms.{fold_result, form_of_definition, form_of_meaning, norm, norm_of, Extends}
+use Rattle.semantics65.specs.declared.contexts.Context.{Context}
+use Rattle.semantics65.specs.Symbols.{defined_at, enclosing, first_found, last_of, binding_of, member_binding, or_else, binding_or_fault, outward_from, scope_from, scopes_from, scope_path, display_name, unnamed_binding, Definition, Key, Symbols, cheap_in, definition_index, import_index, named, same_key, unnamed_at}
+use Rattle.semantics65.specs.Norms.{fold_result, form_of_definition, form_of_binding, norm, norm_of, Extends}
 use Rattle.symbols65.specs.declared.table.symbols.Definition as held
 use Rattle.symbols65.specs.declared.table.symbols.InternedKey.{InternedKey}
 use Rattle.symbols65.specs.declared.table.symbols.Symbols as code
 use Rattle.symbols65.specs.Tables.{definition_in, key_in}
 use Rattle.std.specs.Option.{option_map, unwrap_or}
-use Rattle.symbols65.specs.Resolving.{IsFinalWithin, binary_form, prefix_form, attempt_definition, attempt_value, known_form, plain_part, MeansAlways}
-use Rattle.symbols65.specs.Views.{final_form, key_at, table_of, words_of}
+use Rattle.symbols65.specs.Resolving.{IsFinalWithin, binary_form, prefix_form, attempt_definition, attempt_value, known_form, plain_part, HasFinalBinding}
+use Rattle.symbols65.specs.Views.{final_form, key_at, table_of, interned_names_of}
 use Rattle.symbols65.proofs.Scopes.{name_is, name_meaning}
 use Rattle.symbols65.proofs.Words.{first_passes, first_within, get_mapped, get_stays, position_stays}
 use Rattle.symbols65.proofs.Settling.{final_among}
@@ -35,42 +35,42 @@ defined_stays : (y z : Symbols) → Extends y z → (k : Key) (j : ℕ) → defi
 defined_stays y z more k j e = ap (position (λ d. same_key d.key k)) more.definitions ∙ position_stays (λ d. same_key d.key k) y.definitions more.later_definitions j e
 
 -- what means the definition of a key, wherever that is defined
-by_key : (y : Symbols) (s : Context) (e : Tree) (k : Key) (j : ℕ) → definition_index y k ≡ Some j → ((z : Symbols) (j : ℕ) → Extends y z → definition_index z k ≡ Some j → binding_of z s e ≡ Ok (defined_at j)) → MeansAlways y s e j
+by_key : (y : Symbols) (s : Context) (e : Tree) (k : Key) (j : ℕ) → definition_index y k ≡ Some j → ((z : Symbols) (j : ℕ) → Extends y z → definition_index z k ≡ Some j → binding_of z s e ≡ Ok (defined_at j)) → HasFinalBinding y s e j
 by_key y s e k j at means = (first_within (λ d. same_key d.key k) y.definitions j at, λ z more. means z j more (defined_stays y z more k j at))
 
 -- ---- Operands.
 
-own_name : (y : Symbols) (s : Context) (n : List ℕ) (j : ℕ) → definition_index y (named s.scope n) ≡ Some j → MeansAlways y s (name false (n ∷ [])) j
-own_name y s n i h = by_key y s (name false (n ∷ [])) (named s.scope n) i h (λ z j more e. ap (λ o. or_fault (Undefined n) o (import_index z n)) (innermost z s.scope s.scope j e))
+own_name : (y : Symbols) (s : Context) (n : List ℕ) (j : ℕ) → definition_index y (named s.scope n) ≡ Some j → HasFinalBinding y s (name false (n ∷ [])) j
+own_name y s n i h = by_key y s (name false (n ∷ [])) (named s.scope n) i h (λ z j more e. ap (λ o. binding_or_fault (Undefined n) o (import_index z n)) (innermost z s.scope s.scope j e))
   where
     innermost : (z : Symbols) (m q j : ℕ) → definition_index z (named q n) ≡ Some j → first_found (λ s. definition_index z (named s n)) (outward_from z.scopes m q) ≡ Some j
     innermost z m zero j e = ap (λ o. or_else o None) e
     innermost z zero (suc i) j e = ap (λ o. or_else o None) e
     innermost z (suc m) (suc i) j e = ap (λ o. or_else o (first_found (λ s. definition_index z (named s n)) (outward_from z.scopes m (enclosing z.scopes (suc i))))) e
 
-own_label : (y : Symbols) (s : Context) (n : List ℕ) (j : ℕ) → definition_index y (cheap_in s.region n) ≡ Some j → MeansAlways y s (cheap n) j
-own_label y s n i h = by_key y s (cheap n) (cheap_in s.region n) i h (λ z j more e. ap (λ o. or_fault (Undefined n) o None) e)
+own_label : (y : Symbols) (s : Context) (n : List ℕ) (j : ℕ) → definition_index y (cheap_in s.region n) ≡ Some j → HasFinalBinding y s (cheap n) j
+own_label y s n i h = by_key y s (cheap n) (cheap_in s.region n) i h (λ z j more e. ap (λ o. binding_or_fault (Undefined n) o None) e)
 
-label_before : (y : Symbols) (s : Context) (n j : ℕ) → n ≤ s.unnamed → definition_index y (unnamed_at (s.unnamed - n)) ≡ Some j → MeansAlways y s (backward n) j
+label_before : (y : Symbols) (s : Context) (n j : ℕ) → n ≤ s.unnamed → definition_index y (unnamed_at (s.unnamed - n)) ≡ Some j → HasFinalBinding y s (backward n) j
 label_before y s n i le h = by_key y s (backward n) (unnamed_at (s.unnamed - n)) i h (λ z j more e.
     (let yes : nat_le n s.unnamed ≡ true = grind (arith, nat_tests, le) in
-    ap (λ b. if b then unnamed_meaning z (s.unnamed - n) else Err NoSuchLabel) yes ∙ ap (λ o. or_fault NoSuchLabel o None) e))
+    ap (λ b. if b then unnamed_binding z (s.unnamed - n) else Err NoSuchLabel) yes ∙ ap (λ o. binding_or_fault NoSuchLabel o None) e))
 
 own_member : (y : Symbols) (s : Context) (global : Bool) (parts : List (List ℕ)) (q j : ℕ) → plain_part global parts ≡ None → s.opened ≤ length y.scopes →
-    scope_from (take s.opened y.scopes) s.scope global (scopes_of parts) ≡ Some q → definition_index y (named q (last_of parts)) ≡ Some j → MeansAlways y s (name global parts) j
+    scope_from (take s.opened y.scopes) s.scope global (scope_path parts) ≡ Some q → definition_index y (named q (last_of parts)) ≡ Some j → HasFinalBinding y s (name global parts) j
 own_member y s global parts q i plain le found h = by_key y s (name global parts) (named q (last_of parts)) i h (λ z j more e.
     name_is z s global parts ∙ ap (name_meaning z s global parts) plain
-    ∙ ap (λ cs. member_meaning z (last_of parts) (Undefined (display_name global parts)) (NoSuchScope (display_name global parts)) (scope_from cs s.scope global (scopes_of parts))) (ap (take s.opened) more.scopes ∙ take-append-le s.opened y.scopes more.later_scopes le)
-    ∙ ap (member_meaning z (last_of parts) (Undefined (display_name global parts)) (NoSuchScope (display_name global parts))) found
+    ∙ ap (λ cs. member_binding z (last_of parts) (Undefined (display_name global parts)) (NoSuchScope (display_name global parts)) (scope_from cs s.scope global (scope_path parts))) (ap (take s.opened) more.scopes ∙ take-append-le s.opened y.scopes more.later_scopes le)
+    ∙ ap (member_binding z (last_of parts) (Undefined (display_name global parts)) (NoSuchScope (display_name global parts))) found
     ∙ member z q j e)
   where
-    member : (z : Symbols) (q j : ℕ) → definition_index z (named q (last_of parts)) ≡ Some j → member_meaning z (last_of parts) (Undefined (display_name global parts)) (NoSuchScope (display_name global parts)) (Some q) ≡ Ok (defined_at j)
-    member z zero j e = ap (λ o. or_fault (Undefined (display_name global parts)) o (import_index z (last_of parts))) e
-    member z (suc i) j e = ap (λ o. or_fault (Undefined (display_name global parts)) o None) e
+    member : (z : Symbols) (q j : ℕ) → definition_index z (named q (last_of parts)) ≡ Some j → member_binding z (last_of parts) (Undefined (display_name global parts)) (NoSuchScope (display_name global parts)) (Some q) ≡ Ok (defined_at j)
+    member z zero j e = ap (λ o. binding_or_fault (Undefined (display_name global parts)) o (import_index z (last_of parts))) e
+    member z (suc i) j e = ap (λ o. binding_or_fault (Undefined (display_name global parts)) o None) e
 
 -- ---- Operands by the definitions that they mean.
 
-found_is : (z : AsmFault) (o other : Option ℕ) (j : ℕ) → or_fault z o other ≡ Ok (defined_at j) → o ≡ Some j
+found_is : (z : AsmFault) (o other : Option ℕ) (j : ℕ) → binding_or_fault z o other ≡ Ok (defined_at j) → o ≡ Some j
 found_is z None None j e = absurd cc
 found_is z None (Some k) j e = absurd cc
 found_is z (Some i) other j e = (let same : i ≡ j = cc in ap Some same)
@@ -84,7 +84,7 @@ found_in f (q ∷ ss) j e = by (f q) refl e (λ rest. found_in f ss j rest)
     by (Some i) is e rest = (q, is ∙ e)
 
 -- a name that the scope of its use defines
-pub plain_final : (y : Symbols) (s : Context) (n m : List ℕ) (j : ℕ) (d : Definition) → slice_get y.definitions j ≡ Some d → d.key ≡ named s.scope m → binding_of y s (name false (n ∷ [])) ≡ Ok (defined_at j) → MeansAlways y s (name false (n ∷ [])) j
+pub plain_final : (y : Symbols) (s : Context) (n m : List ℕ) (j : ℕ) (d : Definition) → slice_get y.definitions j ≡ Some d → d.key ≡ named s.scope m → binding_of y s (name false (n ∷ [])) ≡ Ok (defined_at j) → HasFinalBinding y s (name false (n ∷ [])) j
 plain_final y s n m j d at key means =
     let found = found_is (Undefined n) (first_found (λ q. definition_index y (named q n)) (scopes_from y.scopes s.scope)) (import_index y n) j means in
     let (q, is) = found_in (λ q. definition_index y (named q n)) (scopes_from y.scopes s.scope) j found in
@@ -96,32 +96,32 @@ plain_final y s n m j d at key means =
     scope_is : (q : ℕ) → same_key (named s.scope m) (named q n) ≡ true → s.scope ≡ q
     scope_is q e = grind (arith, common_steps, nat_tests)
 
-pub own_final : (t : code.Symbols) (s : Context) (n m : List ℕ) (j : ℕ) → key_at t j ≡ named s.scope m → binding_of (table_of t) s (name false (n ∷ [])) ≡ Ok (defined_at j) → MeansAlways (table_of t) s (name false (n ∷ [])) j
+pub own_final : (t : code.Symbols) (s : Context) (n m : List ℕ) (j : ℕ) → key_at t j ≡ named s.scope m → binding_of (table_of t) s (name false (n ∷ [])) ≡ Ok (defined_at j) → HasFinalBinding (table_of t) s (name false (n ∷ [])) j
 own_final t s n m j key means = by (slice_get t.definitions.entries j) refl key
   where
-    by : (o : Option (InternedKey × held.Definition)) → slice_get t.definitions.entries j ≡ o → unwrap_or (option_map (λ e. key_in (words_of t) e.0) o) (unnamed_at 0) ≡ named s.scope m → MeansAlways (table_of t) s (name false (n ∷ [])) j
+    by : (o : Option (InternedKey × held.Definition)) → slice_get t.definitions.entries j ≡ o → unwrap_or (option_map (λ e. key_in (interned_names_of t) e.0) o) (unnamed_at 0) ≡ named s.scope m → HasFinalBinding (table_of t) s (name false (n ∷ [])) j
     by None is e = absurd cc
-    by (Some e) is k = plain_final (table_of t) s n m j (definition_in (words_of t) e) (get_mapped (definition_in (words_of t)) t.definitions.entries j e is) k means
+    by (Some e) is k = plain_final (table_of t) s n m j (definition_in (interned_names_of t) e) (get_mapped (definition_in (interned_names_of t)) t.definitions.entries j e is) k means
 
-member_is : (y : Symbols) (n : List ℕ) (absent lost : AsmFault) (o : Option ℕ) (j : ℕ) → member_meaning y n absent lost o ≡ Ok (defined_at j) → (q : ℕ) × (o ≡ Some q) × (definition_index y (named q n) ≡ Some j)
+member_is : (y : Symbols) (n : List ℕ) (absent lost : AsmFault) (o : Option ℕ) (j : ℕ) → member_binding y n absent lost o ≡ Ok (defined_at j) → (q : ℕ) × (o ≡ Some q) × (definition_index y (named q n) ≡ Some j)
 member_is y n absent lost None j e = absurd cc
 member_is y n absent lost (Some zero) j e = (zero, refl, found_is absent (definition_index y (named zero n)) (import_index y n) j e)
 member_is y n absent lost (Some (suc i)) j e = (suc i, refl, found_is absent (definition_index y (named (suc i) n)) None j e)
 
 -- a name with `::`, whose scopes were opened before
-pub scoped_final : (y : Symbols) (s : Context) (global : Bool) (parts : List (List ℕ)) (j : ℕ) → plain_part global parts ≡ None → s.opened ≤ length y.scopes → binding_of y s (name global parts) ≡ Ok (defined_at j) → MeansAlways y s (name global parts) j
+pub scoped_final : (y : Symbols) (s : Context) (global : Bool) (parts : List (List ℕ)) (j : ℕ) → plain_part global parts ≡ None → s.opened ≤ length y.scopes → binding_of y s (name global parts) ≡ Ok (defined_at j) → HasFinalBinding y s (name global parts) j
 scoped_final y s global parts j plain le means =
     let scoped = sym (name_is y s global parts ∙ ap (name_meaning y s global parts) plain) ∙ means in
-    let (q, is, at) = member_is y (last_of parts) (Undefined (display_name global parts)) (NoSuchScope (display_name global parts)) (scope_from (take s.opened y.scopes) s.scope global (scopes_of parts)) j scoped in
+    let (q, is, at) = member_is y (last_of parts) (Undefined (display_name global parts)) (NoSuchScope (display_name global parts)) (scope_from (take s.opened y.scopes) s.scope global (scope_path parts)) j scoped in
     own_member y s global parts q j plain le is at
 
-pub cheap_final : (y : Symbols) (s : Context) (n : List ℕ) (j : ℕ) → binding_of y s (cheap n) ≡ Ok (defined_at j) → MeansAlways y s (cheap n) j
+pub cheap_final : (y : Symbols) (s : Context) (n : List ℕ) (j : ℕ) → binding_of y s (cheap n) ≡ Ok (defined_at j) → HasFinalBinding y s (cheap n) j
 cheap_final y s n j means = own_label y s n j (found_is (Undefined n) (definition_index y (cheap_in s.region n)) None j means)
 
-pub backward_final : (y : Symbols) (s : Context) (n j : ℕ) → binding_of y s (backward n) ≡ Ok (defined_at j) → MeansAlways y s (backward n) j
+pub backward_final : (y : Symbols) (s : Context) (n j : ℕ) → binding_of y s (backward n) ≡ Ok (defined_at j) → HasFinalBinding y s (backward n) j
 backward_final y s n j means = by (nat_le n s.unnamed) refl means
   where
-    by : (b : Bool) → nat_le n s.unnamed ≡ b → (if b then unnamed_meaning y (s.unnamed - n) else Err NoSuchLabel) ≡ Ok (defined_at j) → MeansAlways y s (backward n) j
+    by : (b : Bool) → nat_le n s.unnamed ≡ b → (if b then unnamed_binding y (s.unnamed - n) else Err NoSuchLabel) ≡ Ok (defined_at j) → HasFinalBinding y s (backward n) j
     by true is e = label_before y s n j (grind (arith, nat_tests)) (found_is NoSuchLabel (definition_index y (unnamed_at (s.unnamed - n))) None j e)
     by false is e = absurd cc
 
@@ -150,9 +150,9 @@ module _ (t : code.Symbols) (s : Context) where
   abbrev pub y : Symbols
   y = table_of t
 
-  meant_ok : (z : Symbols) → Extends y z → (u : Tree) (j : ℕ) → MeansAlways y s u j → (f : Form) → attempt_definition (λ q e. known_form j (final_form t j)) (slice_get y.definitions j) ≡ Ok f → (binding_of z s u >>= form_of_meaning (norm (length y.definitions) z) z) ≡ Ok f
+  meant_ok : (z : Symbols) → Extends y z → (u : Tree) (j : ℕ) → HasFinalBinding y s u j → (f : Form) → attempt_definition (λ q e. known_form j (final_form t j)) (slice_get y.definitions j) ≡ Ok f → (binding_of z s u >>= form_of_binding (norm (length y.definitions) z) z) ≡ Ok f
   meant_ok z more u j (lt, means) f h =
-      ap (λ m. m >>= form_of_meaning (norm (length y.definitions) z) z) (means z more)
+      ap (λ m. m >>= form_of_binding (norm (length y.definitions) z) z) (means z more)
       ∙ ap (λ ds. form_of_definition (norm (length y.definitions) z) (slice_get ds j)) more.definitions
       ∙ ap (form_of_definition (norm (length y.definitions) z)) (get_stays y.definitions more.later_definitions j lt)
       ∙ by (slice_get y.definitions j) refl h
@@ -164,7 +164,7 @@ module _ (t : code.Symbols) (s : Context) where
           value_ok (length y.definitions) z j (final_form t j) d f (λ g k. ap (form_of_definition (norm (length y.definitions) z)) (sym at) ∙ final_among t z more (length y.definitions) j g lt k) d.value refl e
 
   -- so an operand that means the same keeps the form that is final
-  pub operand_stays : (e : Tree) (j : ℕ) (f : Form) → MeansAlways y s e j → attempt_definition (λ q v. known_form j (final_form t j)) (slice_get y.definitions j) ≡ Ok f → IsFinalWithin (length y.definitions) y s e f
+  pub operand_stays : (e : Tree) (j : ℕ) (f : Form) → HasFinalBinding y s e j → attempt_definition (λ q v. known_form j (final_form t j)) (slice_get y.definitions j) ≡ Ok f → IsFinalWithin (length y.definitions) y s e f
   operand_stays (number v) j f m h = absurd (let no = m.1 y (extends_itself y) in cc)
   operand_stays here j f m h = absurd (let no = m.1 y (extends_itself y) in cc)
   operand_stays (unary op e) j f m h = absurd (let no = m.1 y (extends_itself y) in cc)

@@ -20,7 +20,7 @@ use Rattle.symbols65.specs.declared.table.symbols.ScopeKey.{ScopeKey}
 use Rattle.symbols65.specs.declared.table.symbols.ScopeKey.TheVariants as opening
 use Rattle.symbols65.specs.declared.table.symbols.Definition.{Definition}
 use Rattle.semantics65.specs.Norms.{Extends}
-use Rattle.symbols65.specs.Tables.{AreCounted, AreDistinct, AreFinal, AreInnerKnown, AreNumbered, KeepsSearches, IsPrefixOf, HasNumber, IsCounted, IsInnerKnown, IsOpening, KeepsFinal, definition_in, entry_at, entry_of, first_number, key_in, same_opening, scope_by, scope_opened, table_in, table_without_imports, word_at, word_of, word_opened}
+use Rattle.symbols65.specs.Tables.{AreCounted, AreDistinct, AreFinal, AreInnerKnown, AreNumbered, KeepsSearches, IsPrefixOf, HasNumber, IsCounted, IsInnerKnown, IsScopeKey, StoresFinalForm, definition_in, entry_at, interned_key_of, first_number, key_in, same_scope_key, scope_by, scope_opened, table_in, table_without_imports, interned_name, key_name_id, scope_name_id}
 use Rattle.symbols65.proofs.Words.{position_none, first_within, first_passes, get_more, map_same, position_same, position_stays, finds_opened, get_word, keys_get}
 use Rattle.ast65.proofs.Lists.{same_bytes}
 
@@ -57,35 +57,35 @@ get_or_stays (n ∷ ws) more zero lt = refl
 get_or_stays (n ∷ ws) more (suc w) lt = get_or_stays ws more w (omega arith)
 
 module _ (ws more : List (List ℕ)) where
-  word_stays : (w : ℕ) → position (bytes_eq (word_at ws w)) ws ≡ Some w → word_at (ws ++ more) w ≡ word_at ws w
-  word_stays w h = get_or_stays ws more w (first_within (bytes_eq (word_at ws w)) ws w h)
+  word_stays : (w : ℕ) → position (bytes_eq (interned_name ws w)) ws ≡ Some w → interned_name (ws ++ more) w ≡ interned_name ws w
+  word_stays w h = get_or_stays ws more w (first_within (bytes_eq (interned_name ws w)) ws w h)
 
   number_stays : (o : Option ℕ) → first_number ws o ≡ o → first_number (ws ++ more) o ≡ o
   number_stays None h = refl
-  number_stays (Some w) h = ap (λ n. position (bytes_eq n) (ws ++ more)) (word_stays w h) ∙ position_stays (bytes_eq (word_at ws w)) ws more w h
+  number_stays (Some w) h = ap (λ n. position (bytes_eq n) (ws ++ more)) (word_stays w h) ∙ position_stays (bytes_eq (interned_name ws w)) ws more w h
 
-  key_stays : (k : InternedKey) → first_number ws (word_of k) ≡ word_of k → key_in (ws ++ more) k ≡ key_in ws k
+  key_stays : (k : InternedKey) → first_number ws (key_name_id k) ≡ key_name_id k → key_in (ws ++ more) k ≡ key_in ws k
   key_stays x h = grind (arith, common_steps)
 
-  scope_stays : (k : ScopeKey) (is_proc : Bool) → first_number ws (word_opened k) ≡ word_opened k → scope_by (ws ++ more) k is_proc ≡ scope_by ws k is_proc
+  scope_stays : (k : ScopeKey) (is_proc : Bool) → first_number ws (scope_name_id k) ≡ scope_name_id k → scope_by (ws ++ more) k is_proc ≡ scope_by ws k is_proc
   scope_stays x is_proc h = grind (arith, common_steps)
 
-  definition_stays : (e : InternedKey × Definition) → first_number ws (word_of e.0) ≡ word_of e.0 → definition_in (ws ++ more) e ≡ definition_in ws e
+  definition_stays : (e : InternedKey × Definition) → first_number ws (key_name_id e.0) ≡ key_name_id e.0 → definition_in (ws ++ more) e ≡ definition_in ws e
   definition_stays e h = ap (λ k. record { key = k; value = (definition_in ws e).value; context = (definition_in ws e).context; size = (definition_in ws e).size }) (key_stays e.0 h)
 
-  pub numbered_more : {K : Type 0} (word : K → Option ℕ) (ks : List K) → AreNumbered word ws ks → AreNumbered word (ws ++ more) ks
-  numbered_more word ks h = λ i k at. number_stays (word k) (h i k at)
+  pub numbered_more : {K : Type 0} (name_id : K → Option ℕ) (ks : List K) → AreNumbered name_id ws ks → AreNumbered name_id (ws ++ more) ks
+  numbered_more name_id ks h = λ i k at. number_stays (name_id k) (h i k at)
 
-  pub definitions_stay : (es : List (InternedKey × Definition)) → AreNumbered word_of ws (keys_of es) → map (definition_in (ws ++ more)) es ≡ map (definition_in ws) es
+  pub definitions_stay : (es : List (InternedKey × Definition)) → AreNumbered key_name_id ws (keys_of es) → map (definition_in (ws ++ more)) es ≡ map (definition_in ws) es
   definitions_stay es h = map_same (definition_in (ws ++ more)) (definition_in ws) es (λ i e at. definition_stays e (h i e.0 (keys_get ws es i e at)))
 
-  pub scopes_stay : (ss : List (ScopeKey × Bool)) → AreNumbered word_opened ws (keys_of ss) → map (scope_opened (ws ++ more)) ss ≡ map (scope_opened ws) ss
+  pub scopes_stay : (ss : List (ScopeKey × Bool)) → AreNumbered scope_name_id ws (keys_of ss) → map (scope_opened (ws ++ more)) ss ≡ map (scope_opened ws) ss
   scopes_stay ss h = map_same (scope_opened (ws ++ more)) (scope_opened ws) ss (λ i e at. scope_stays e.0 e.1 (h i e.0 (keys_get ws ss i e at)))
 
-  pub final_more : (es : List (InternedKey × Definition)) (ss : List (ScopeKey × Bool)) → AreNumbered word_of ws (keys_of es) → AreNumbered word_opened ws (keys_of ss) → AreFinal ws es ss → AreFinal (ws ++ more) es ss
+  pub final_more : (es : List (InternedKey × Definition)) (ss : List (ScopeKey × Bool)) → AreNumbered key_name_id ws (keys_of es) → AreNumbered scope_name_id ws (keys_of ss) → AreFinal ws es ss → AreFinal (ws ++ more) es ss
   final_more es ss entered scoped h = grind (arith, common_steps, definitions_stay, scopes_stay)
 
-  pub searched_more : (es : List (InternedKey × Definition)) (ss : List (ScopeKey × Bool)) (imports zero_page : List (List ℕ)) (searched : ℕ → Option SearchEntry) → AreNumbered word_of ws (keys_of es) → AreNumbered word_opened ws (keys_of ss) →
+  pub searched_more : (es : List (InternedKey × Definition)) (ss : List (ScopeKey × Bool)) (imports zero_page : List (List ℕ)) (searched : ℕ → Option SearchEntry) → AreNumbered key_name_id ws (keys_of es) → AreNumbered scope_name_id ws (keys_of ss) →
       KeepsSearches (table_in ws es ss imports zero_page) searched → KeepsSearches (table_in (ws ++ more) es ss imports zero_page) searched
   searched_more es ss imports zero_page searched entered scoped h =
       let Holds : l.Symbols → Type 0 = λ y. KeepsSearches y searched in
@@ -107,8 +107,8 @@ none_searched y searched none = (
 
 -- ---- One definition or scope more.
 
-pub numbered_pushed : {K V : Type 0} (word : K → Option ℕ) (ws : List (List ℕ)) (es : List (K × V)) (k : K) (v : V) → AreNumbered word ws (keys_of es) → first_number ws (word k) ≡ word k → AreNumbered word ws (keys_of (es ++ (k, v) ∷ []))
-numbered_pushed {K} word ws es k v h own = grind (arith, common_steps, get_more, keys_pushed)
+pub numbered_pushed : {K V : Type 0} (name_id : K → Option ℕ) (ws : List (List ℕ)) (es : List (K × V)) (k : K) (v : V) → AreNumbered name_id ws (keys_of es) → first_number ws (name_id k) ≡ name_id k → AreNumbered name_id ws (keys_of (es ++ (k, v) ∷ []))
+numbered_pushed {K} name_id ws es k v h own = grind (arith, common_steps, get_more, keys_pushed)
 
 pub counted_pushed : {V : Type 0} (es : List (InternedKey × V)) (k : InternedKey) (v : V) → AreCounted (keys_of es) → IsCounted k → AreCounted (keys_of (es ++ (k, v) ∷ []))
 counted_pushed es k v h own = grind (arith, common_steps, get_more, keys_pushed)
@@ -131,7 +131,7 @@ module _ (ws : List (List ℕ)) (es : List (InternedKey × Definition)) (ss : Li
   less_scope : (s : ScopeKey × Bool) (z : l.Symbols) → Extends (table_without_imports ws es (ss ++ s ∷ [])) z → Extends (table_without_imports ws es ss) z
   less_scope s z h = grind (arith, common_steps)
 
-  pub final_pushed : (e : InternedKey × Definition) → AreFinal ws es ss → KeepsFinal (table_without_imports ws es ss) (length es) (definition_in ws e) e.1 → AreFinal ws (es ++ e ∷ []) ss
+  pub final_pushed : (e : InternedKey × Definition) → AreFinal ws es ss → StoresFinalForm (table_without_imports ws es ss) (length es) (definition_in ws e) e.1 → AreFinal ws (es ++ e ∷ []) ss
   final_pushed e h own = grind (arith, common_steps, less_definition, get_more)
 
   pub final_scoped : (s : ScopeKey × Bool) → AreFinal ws es ss → AreFinal ws es (ss ++ s ∷ [])
@@ -140,59 +140,59 @@ module _ (ws : List (List ℕ)) (es : List (InternedKey × Definition)) (ss : Li
 -- ---- The entry of a key.
 
 -- it has the first number of its name, and stands for the key
-pub entry_is : (ws : List (List ℕ)) (q : Key) (k : InternedKey) → entry_of ws q ≡ Some k → (first_number ws (word_of k) ≡ word_of k) × (key_in ws k ≡ q)
+pub entry_is : (ws : List (List ℕ)) (q : Key) (k : InternedKey) → interned_key_of ws q ≡ Some k → (first_number ws (key_name_id k) ≡ key_name_id k) × (key_in ws k ≡ q)
 entry_is ws (named s n) k e = by (position (bytes_eq n) ws) refl e
   where
-    by : (o : Option ℕ) → position (bytes_eq n) ws ≡ o → option_map (entry.Named s) o ≡ Some k → (first_number ws (word_of k) ≡ word_of k) × (key_in ws k ≡ named s n)
+    by : (o : Option ℕ) → position (bytes_eq n) ws ≡ o → option_map (entry.Named s) o ≡ Some k → (first_number ws (key_name_id k) ≡ key_name_id k) × (key_in ws k ≡ named s n)
     by None is e = absurd cc
     by (Some w) is e =
         let same : entry.Named s w ≡ k = cc in
         let (m, at, passes) = first_passes (bytes_eq n) ws w is in
-        let word : word_at ws w ≡ n = get_word ws w m at ∙ sym (same_bytes n m passes) in
-        subst (λ x. (first_number ws (word_of x) ≡ word_of x) × (key_in ws x ≡ named s n)) same (ap (λ m. position (bytes_eq m) ws) word ∙ is, ap (named s) word)
+        let name_id : interned_name ws w ≡ n = get_word ws w m at ∙ sym (same_bytes n m passes) in
+        subst (λ x. (first_number ws (key_name_id x) ≡ key_name_id x) × (key_in ws x ≡ named s n)) same (ap (λ m. position (bytes_eq m) ws) name_id ∙ is, ap (named s) name_id)
 entry_is ws (cheap_in s n) k e = by (position (bytes_eq n) ws) refl e
   where
-    by : (o : Option ℕ) → position (bytes_eq n) ws ≡ o → option_map (entry.Cheap s) o ≡ Some k → (first_number ws (word_of k) ≡ word_of k) × (key_in ws k ≡ cheap_in s n)
+    by : (o : Option ℕ) → position (bytes_eq n) ws ≡ o → option_map (entry.Cheap s) o ≡ Some k → (first_number ws (key_name_id k) ≡ key_name_id k) × (key_in ws k ≡ cheap_in s n)
     by None is e = absurd cc
     by (Some w) is e =
         let same : entry.Cheap s w ≡ k = cc in
         let (m, at, passes) = first_passes (bytes_eq n) ws w is in
-        let word : word_at ws w ≡ n = get_word ws w m at ∙ sym (same_bytes n m passes) in
-        subst (λ x. (first_number ws (word_of x) ≡ word_of x) × (key_in ws x ≡ cheap_in s n)) same (ap (λ m. position (bytes_eq m) ws) word ∙ is, ap (cheap_in s) word)
-entry_is ws (unnamed_at c) k e = (let same : entry.Unnamed c ≡ k = cc in subst (λ x. (first_number ws (word_of x) ≡ word_of x) × (key_in ws x ≡ unnamed_at c)) same (refl, refl))
+        let name_id : interned_name ws w ≡ n = get_word ws w m at ∙ sym (same_bytes n m passes) in
+        subst (λ x. (first_number ws (key_name_id x) ≡ key_name_id x) × (key_in ws x ≡ cheap_in s n)) same (ap (λ m. position (bytes_eq m) ws) name_id ∙ is, ap (cheap_in s) name_id)
+entry_is ws (unnamed_at c) k e = (let same : entry.Unnamed c ≡ k = cc in subst (λ x. (first_number ws (key_name_id x) ≡ key_name_id x) × (key_in ws x ≡ unnamed_at c)) same (refl, refl))
 
 -- the same of the opening of a scope of a name
 pub opening_is : (ws : List (List ℕ)) (s : ℕ) (n : List ℕ) (k : ScopeKey) (is_proc : Bool) → option_map (opening.Named s) (position (bytes_eq n) ws) ≡ Some k →
-    (first_number ws (word_opened k) ≡ word_opened k) × (scope_by ws k is_proc ≡ record { within = s; name = Some n; is_proc = is_proc }) × ((i : ℕ) → HasNumber i k)
+    (first_number ws (scope_name_id k) ≡ scope_name_id k) × (scope_by ws k is_proc ≡ record { within = s; name = Some n; is_proc = is_proc }) × ((i : ℕ) → HasNumber i k)
 opening_is ws s n k is_proc e = by (position (bytes_eq n) ws) refl e
   where
     by : (o : Option ℕ) → position (bytes_eq n) ws ≡ o → option_map (opening.Named s) o ≡ Some k →
-        (first_number ws (word_opened k) ≡ word_opened k) × (scope_by ws k is_proc ≡ record { within = s; name = Some n; is_proc = is_proc }) × ((i : ℕ) → HasNumber i k)
+        (first_number ws (scope_name_id k) ≡ scope_name_id k) × (scope_by ws k is_proc ≡ record { within = s; name = Some n; is_proc = is_proc }) × ((i : ℕ) → HasNumber i k)
     by None is e = absurd cc
     by (Some w) is e =
         let same : opening.Named s w ≡ k = cc in
         let (m, at, passes) = first_passes (bytes_eq n) ws w is in
-        let word : word_at ws w ≡ n = get_word ws w m at ∙ sym (same_bytes n m passes) in
-        subst (λ x. (first_number ws (word_opened x) ≡ word_opened x) × (scope_by ws x is_proc ≡ record { within = s; name = Some n; is_proc = is_proc }) × ((i : ℕ) → HasNumber i x)) same
-        (ap (λ m. position (bytes_eq m) ws) word ∙ is, ap (λ m. record { within = s; name = Some m; is_proc = is_proc }) word, λ i within number no. absurd cc)
+        let name_id : interned_name ws w ≡ n = get_word ws w m at ∙ sym (same_bytes n m passes) in
+        subst (λ x. (first_number ws (scope_name_id x) ≡ scope_name_id x) × (scope_by ws x is_proc ≡ record { within = s; name = Some n; is_proc = is_proc }) × ((i : ℕ) → HasNumber i x)) same
+        (ap (λ m. position (bytes_eq m) ws) name_id ∙ is, ap (λ m. record { within = s; name = Some m; is_proc = is_proc }) name_id, λ i within number no. absurd cc)
 
 -- ---- The opening of a scope.
 
 module _ (ws : List (List ℕ)) (s : ℕ) (k : ScopeKey) where
-  pub opening_numbered : (count : ℕ) (name : Option (List ℕ)) → IsOpening ws count s name k → first_number ws (word_opened k) ≡ word_opened k
-  opening_numbered count None h = subst (λ x. first_number ws (word_opened x) ≡ word_opened x) (sym h) refl
+  pub opening_numbered : (count : ℕ) (name : Option (List ℕ)) → IsScopeKey ws count s name k → first_number ws (scope_name_id k) ≡ scope_name_id k
+  opening_numbered count None h = subst (λ x. first_number ws (scope_name_id x) ≡ scope_name_id x) (sym h) refl
   opening_numbered count (Some n) h = (opening_is ws s n k false h).0
 
-  pub opening_distinct : (count : ℕ) (name : Option (List ℕ)) → IsOpening ws count s name k → HasNumber count k
+  pub opening_distinct : (count : ℕ) (name : Option (List ℕ)) → IsScopeKey ws count s name k → HasNumber count k
   opening_distinct count x h = grind (arith, common_steps)
 
-  pub opening_scope : (count : ℕ) (name : Option (List ℕ)) (is_proc : Bool) → IsOpening ws count s name k → scope_by ws k is_proc ≡ record { within = s; name = name; is_proc = is_proc }
+  pub opening_scope : (count : ℕ) (name : Option (List ℕ)) (is_proc : Bool) → IsScopeKey ws count s name k → scope_by ws k is_proc ≡ record { within = s; name = name; is_proc = is_proc }
   opening_scope count None is_proc h = ap (λ x. scope_by ws x is_proc) h
   opening_scope count (Some n) is_proc h = (opening_is ws s n k is_proc h).1
 
   -- a scope is opened once by its opening
-  pub opened_once : (ss : List (ScopeKey × Bool)) (name : Option (List ℕ)) → AreNumbered word_opened ws (keys_of ss) → AreDistinct (keys_of ss) → IsOpening ws (length ss) s name k →
-      opened_twice (map (scope_opened ws) ss) s name ≡ None → position (same_opening k) (keys_of ss) ≡ None
+  pub opened_once : (ss : List (ScopeKey × Bool)) (name : Option (List ℕ)) → AreNumbered scope_name_id ws (keys_of ss) → AreDistinct (keys_of ss) → IsScopeKey ws (length ss) s name k →
+      opened_twice (map (scope_opened ws) ss) s name ≡ None → position (same_scope_key k) (keys_of ss) ≡ None
   opened_once ss x numbers distinct h e = grind (arith, common_steps, position_none, slice_get_within, keys_length, nat_tests, finds_opened)
 
 -- what follows after a call, whether it succeeded or not

@@ -15,10 +15,10 @@ use Rattle.object65.specs.Folding.{fold1, fold2}
 use Rattle.ast65.proofs.Lists.{bytes_swap, same_bytes}
 use Rattle.ast65.specs.declared.fault.AsmFault.{AsmFault}
 use Rattle.ast65.specs.declared.fault.AsmFault.TheVariants.{NoSuchLabel, NoSuchScope, Undefined}
-use Rattle.semantics65.specs.declared.laid.Context.{Context}
-use Rattle.semantics65.specs.Norms.{defined_form, fold_result, form_by, form_of_definition, form_of_meaning, form_of_value, norm}
-use Rattle.semantics65.specs.Symbols.{Definition, Key, Binding, Symbols, cheap_in, definition_index, defined_at, first_found, import_index, imported_as, last_of, binding_of, member_meaning, named, or_else, or_fault, same_key, scope_from, scopes_from, scopes_of, display_name, unnamed_at, unnamed_meaning}
-use Rattle.symbols65.specs.Resolving.{IsUnknownName, KeepsMeanings, KeepsOperand, plain_part}
+use Rattle.semantics65.specs.declared.contexts.Context.{Context}
+use Rattle.semantics65.specs.Norms.{defined_form, fold_result, form_by, form_of_definition, form_of_binding, form_of_value, norm}
+use Rattle.semantics65.specs.Symbols.{Definition, Key, Binding, Symbols, cheap_in, definition_index, defined_at, first_found, import_index, imported_as, last_of, binding_of, member_binding, named, or_else, binding_or_fault, same_key, scope_from, scopes_from, scope_path, display_name, unnamed_at, unnamed_binding}
+use Rattle.symbols65.specs.Resolving.{IsUnknownName, KeepsBindings, KeepsBinding, plain_part}
 use Rattle.symbols65.specs.Tables.{AreSearched, KeepsSearches, entries_at, entry_at}
 use Rattle.symbols65.specs.declared.table.symbols.SearchEntry.{SearchEntry}
 use Rattle.symbols65.specs.declared.table.symbols.SearchEntry.TheVariants.{KnownForm, NoForm}
@@ -40,12 +40,12 @@ first_none f none [] = refl
 first_none f none (s ∷ ss) = ap (λ o. or_else o (first_found f ss)) (none s) ∙ first_none f none ss
 
 -- what is defined or imported stays so
-fault_stays : (x : AsmFault) (o other more : Option ℕ) → ((k : ℕ) → other ≡ Some k → more ≡ Some k) → (m : Binding) → or_fault x o other ≡ Ok m → or_fault x o more ≡ Ok m
+fault_stays : (x : AsmFault) (o other more : Option ℕ) → ((k : ℕ) → other ≡ Some k → more ≡ Some k) → (m : Binding) → binding_or_fault x o other ≡ Ok m → binding_or_fault x o more ≡ Ok m
 fault_stays x (Some i) other more h m e = e
-fault_stays x None (Some k) more h m e = ap (or_fault x None) (h k refl) ∙ e
+fault_stays x None (Some k) more h m e = ap (binding_or_fault x None) (h k refl) ∙ e
 fault_stays x None None more h m e = absurd cc
 
-no_meaning : (x : AsmFault) (o other : Option ℕ) (m : Binding) → o ≡ None → other ≡ None → or_fault x o other ≡ Ok m → ⊥
+no_meaning : (x : AsmFault) (o other : Option ℕ) (m : Binding) → o ≡ None → other ≡ None → binding_or_fault x o other ≡ Ok m → ⊥
 no_meaning x o other m a b e = grind (arith, common_steps)
 
 -- the name for which a name, with scopes or without, is looked up
@@ -57,9 +57,9 @@ module _ (y : Symbols) where
   -- a name that is neither defined nor imported means nothing
   unknown_means : (s : Context) (global : Bool) (parts : List (List ℕ)) (o : Option (List ℕ)) (m : Binding) → ((q : ℕ) → definition_index y (named q (looked_up parts o)) ≡ None) → import_index y (looked_up parts o) ≡ None → name_meaning y s global parts o ≡ Ok m → ⊥
   unknown_means s global parts (Some n) m none absent e = no_meaning (Undefined n) (first_found (λ q. definition_index y (named q n)) (scopes_from y.scopes s.scope)) (import_index y n) m (first_none (λ q. definition_index y (named q n)) none (scopes_from y.scopes s.scope)) absent e
-  unknown_means s global parts None m none absent e = by (scope_from (take s.opened y.scopes) s.scope global (scopes_of parts)) e
+  unknown_means s global parts None m none absent e = by (scope_from (take s.opened y.scopes) s.scope global (scope_path parts)) e
     where
-      by : (o : Option ℕ) → member_meaning y (last_of parts) (Undefined (display_name global parts)) (NoSuchScope (display_name global parts)) o ≡ Ok m → ⊥
+      by : (o : Option ℕ) → member_binding y (last_of parts) (Undefined (display_name global parts)) (NoSuchScope (display_name global parts)) o ≡ Ok m → ⊥
       by None q = cc
       by (Some zero) q = no_meaning (Undefined (display_name global parts)) (definition_index y (named zero (last_of parts))) (import_index y (last_of parts)) m (none zero) absent q
       by (Some (suc i)) q = no_meaning (Undefined (display_name global parts)) (definition_index y (named (suc i) (last_of parts))) None m (none (suc i)) refl q
@@ -74,30 +74,30 @@ module _ (y z : Symbols) where
     outward : scopes_from z.scopes s.scope ≡ scopes_from y.scopes s.scope
     opened : take s.opened z.scopes ≡ take s.opened y.scopes
 
-  member_stays : (n : List ℕ) (absent lost : AsmFault) (o : Option ℕ) → Agree n → (m : Binding) → member_meaning y n absent lost o ≡ Ok m → member_meaning z n absent lost o ≡ Ok m
+  member_stays : (n : List ℕ) (absent lost : AsmFault) (o : Option ℕ) → Agree n → (m : Binding) → member_binding y n absent lost o ≡ Ok m → member_binding z n absent lost o ≡ Ok m
   member_stays n absent lost None h m e = absurd cc
-  member_stays n absent lost (Some zero) (same, more) m e = ap (λ o. or_fault absent o (import_index z n)) (same zero) ∙ fault_stays absent (definition_index y (named zero n)) (import_index y n) (import_index z n) more m e
-  member_stays n absent lost (Some (suc i)) (same, more) m e = ap (λ o. or_fault absent o None) (same (suc i)) ∙ e
+  member_stays n absent lost (Some zero) (same, more) m e = ap (λ o. binding_or_fault absent o (import_index z n)) (same zero) ∙ fault_stays absent (definition_index y (named zero n)) (import_index y n) (import_index z n) more m e
+  member_stays n absent lost (Some (suc i)) (same, more) m e = ap (λ o. binding_or_fault absent o None) (same (suc i)) ∙ e
 
   name_stays : (s : Context) → IsSameWithin s → (global : Bool) (parts : List (List ℕ)) (o : Option (List ℕ)) → Agree (looked_up parts o) → (m : Binding) → name_meaning y s global parts o ≡ Ok m → name_meaning z s global parts o ≡ Ok m
   name_stays s parent_scope global parts (Some n) (same, more) m e =
-      ap (λ ss. or_fault (Undefined n) (first_found (λ q. definition_index z (named q n)) ss) (import_index z n)) parent_scope.outward
-      ∙ ap (λ o. or_fault (Undefined n) o (import_index z n)) (first_same (λ q. definition_index z (named q n)) (λ q. definition_index y (named q n)) same (scopes_from y.scopes s.scope))
+      ap (λ ss. binding_or_fault (Undefined n) (first_found (λ q. definition_index z (named q n)) ss) (import_index z n)) parent_scope.outward
+      ∙ ap (λ o. binding_or_fault (Undefined n) o (import_index z n)) (first_same (λ q. definition_index z (named q n)) (λ q. definition_index y (named q n)) same (scopes_from y.scopes s.scope))
       ∙ fault_stays (Undefined n) (first_found (λ q. definition_index y (named q n)) (scopes_from y.scopes s.scope)) (import_index y n) (import_index z n) more m e
   name_stays s parent_scope global parts None h m e =
-      ap (λ cs. member_meaning z (last_of parts) (Undefined (display_name global parts)) (NoSuchScope (display_name global parts)) (scope_from cs s.scope global (scopes_of parts))) parent_scope.opened
-      ∙ member_stays (last_of parts) (Undefined (display_name global parts)) (NoSuchScope (display_name global parts)) (scope_from (take s.opened y.scopes) s.scope global (scopes_of parts)) h m e
+      ap (λ cs. member_binding z (last_of parts) (Undefined (display_name global parts)) (NoSuchScope (display_name global parts)) (scope_from cs s.scope global (scope_path parts))) parent_scope.opened
+      ∙ member_stays (last_of parts) (Undefined (display_name global parts)) (NoSuchScope (display_name global parts)) (scope_from (take s.opened y.scopes) s.scope global (scope_path parts)) h m e
 
   module _ (labels : (k : Key) (j : ℕ) → definition_index y k ≡ Some j → definition_index z k ≡ Some j) where
-    label_stays : (k : Key) (x : AsmFault) (m : Binding) → or_fault x (definition_index y k) None ≡ Ok m → or_fault x (definition_index z k) None ≡ Ok m
+    label_stays : (k : Key) (x : AsmFault) (m : Binding) → binding_or_fault x (definition_index y k) None ≡ Ok m → binding_or_fault x (definition_index z k) None ≡ Ok m
     label_stays k x m e = by (definition_index y k) refl e
       where
-        by : (o : Option ℕ) → definition_index y k ≡ o → or_fault x o None ≡ Ok m → or_fault x (definition_index z k) None ≡ Ok m
-        by (Some j) is q = ap (λ o. or_fault x o None) (labels k j is) ∙ q
+        by : (o : Option ℕ) → definition_index y k ≡ o → binding_or_fault x o None ≡ Ok m → binding_or_fault x (definition_index z k) None ≡ Ok m
+        by (Some j) is q = ap (λ o. binding_or_fault x o None) (labels k j is) ∙ q
         by None is q = absurd cc
 
     -- an operand keeps its meaning, where its name agrees if it means something
-    operand_keeps : (s : Context) → IsSameWithin s → (t : Tree) → ((global : Bool) (parts : List (List ℕ)) (m : Binding) → t ≡ name global parts → name_meaning y s global parts (plain_part global parts) ≡ Ok m → Agree (looked_up parts (plain_part global parts))) → KeepsOperand y z s t
+    operand_keeps : (s : Context) → IsSameWithin s → (t : Tree) → ((global : Bool) (parts : List (List ℕ)) (m : Binding) → t ≡ name global parts → name_meaning y s global parts (plain_part global parts) ≡ Ok m → Agree (looked_up parts (plain_part global parts))) → KeepsBinding y z s t
     operand_keeps s parent_scope (name global parts) agree m e =
         let is : name_meaning y s global parts (plain_part global parts) ≡ Ok m = sym (name_is y s global parts) ∙ e in
         name_is z s global parts ∙ name_stays s parent_scope global parts (plain_part global parts) (agree global parts m refl is) m is
@@ -105,7 +105,7 @@ module _ (y z : Symbols) where
     operand_keeps s parent_scope (forward n) agree m e = label_stays (unnamed_at (s.unnamed + n - 1)) NoSuchLabel m e
     operand_keeps s parent_scope (backward n) agree m e = by (nat_le n s.unnamed) e
       where
-        by : (b : Bool) → (if b then unnamed_meaning y (s.unnamed - n) else Err NoSuchLabel) ≡ Ok m → (if b then unnamed_meaning z (s.unnamed - n) else Err NoSuchLabel) ≡ Ok m
+        by : (b : Bool) → (if b then unnamed_binding y (s.unnamed - n) else Err NoSuchLabel) ≡ Ok m → (if b then unnamed_binding z (s.unnamed - n) else Err NoSuchLabel) ≡ Ok m
         by true q = label_stays (unnamed_at (s.unnamed - n)) NoSuchLabel m q
         by false q = absurd cc
     operand_keeps s parent_scope (number v) agree m e = absurd cc
@@ -139,13 +139,13 @@ module _ (y : Symbols) (d : Definition) where
   abbrev more : Symbols
   more = with_definition y d
 
-  operand_defined : (s : Context) (t : Tree) → ((global : Bool) (parts : List (List ℕ)) (m : Binding) → t ≡ name global parts → name_meaning y s global parts (plain_part global parts) ≡ Ok m → IsOther d.key (looked_up parts (plain_part global parts))) → KeepsOperand y more s t
+  operand_defined : (s : Context) (t : Tree) → ((global : Bool) (parts : List (List ℕ)) (m : Binding) → t ≡ name global parts → name_meaning y s global parts (plain_part global parts) ≡ Ok m → IsOther d.key (looked_up parts (plain_part global parts))) → KeepsBinding y more s t
   operand_defined s t other =
       operand_keeps y more (λ k j e. position_stays (λ c. same_key c.key k) y.definitions (d ∷ []) j e) s (same_scopes y more s refl) t
       (λ global parts m is e. (λ q. passed_over (λ c. same_key c.key (named q (looked_up parts (plain_part global parts)))) y.definitions d (other_name d.key (looked_up parts (plain_part global parts)) (other global parts m is e) q), λ k at. at))
 
   -- a label's definition keeps all meanings
-  pub keeps_label : ((q : ℕ) (n : List ℕ) → d.key ≡ named q n → ⊥) → KeepsMeanings y more
+  pub keeps_label : ((q : ℕ) (n : List ℕ) → d.key ≡ named q n → ⊥) → KeepsBindings y more
   keeps_label none s t = operand_defined s t (λ global parts m is e q n at. absurd (none q n at))
 
   module _ (scope : ℕ) (n : List ℕ) (key : d.key ≡ named scope n) where
@@ -153,7 +153,7 @@ module _ (y : Symbols) (d : Definition) where
     its_name q m at = (let both : named q m ≡ named scope n = sym at ∙ key in cc)
 
     -- so does that of a name that means nothing yet
-    pub keeps_unknown : IsUnknownName y n → KeepsMeanings y more
+    pub keeps_unknown : IsUnknownName y n → KeepsBindings y more
     keeps_unknown new s t = operand_defined s t (λ global parts m is e q k at. differs (looked_up parts (plain_part global parts)) (λ none absent. unknown_means y s global parts (plain_part global parts) m none absent e) k (its_name q k at))
       where
         differs : (x : List ℕ) → (((q : ℕ) → definition_index y (named q x) ≡ None) → import_index y x ≡ None → ⊥) → (k : List ℕ) → k ≡ n → bytes_eq x k ≡ false
@@ -187,7 +187,7 @@ stays_by a b s h (binary op e g) =
     stays_then (form_by a s e) (form_by b s e) (λ f. form_by a s g >>= (λ k. fold_result (fold2 op f k))) (λ f. form_by b s g >>= (λ k. fold_result (fold2 op f k))) (stays_by a b s h e)
     (λ f. stays_then (form_by a s g) (form_by b s g) (λ k. fold_result (fold2 op f k)) (λ k. fold_result (fold2 op f k)) (stays_by a b s h g) (λ k x q. q))
 
-module _ (y : Symbols) (d : Definition) (keeps : KeepsMeanings y (with_definition y d)) where
+module _ (y : Symbols) (d : Definition) (keeps : KeepsBindings y (with_definition y d)) where
   abbrev z : Symbols
   z = with_definition y d
 
@@ -202,15 +202,15 @@ module _ (y : Symbols) (d : Definition) (keeps : KeepsMeanings y (with_definitio
       by None is = λ f e. absurd cc
       by (Some c) is = λ f e. ap (form_of_definition b) (get_stays y.definitions (d ∷ []) j (slice_get_within y.definitions j c is) ∙ is) ∙ value c.context c.value f e
 
-  meaning_stays : (a b : Context → Tree → Result Form AsmFault) → ((s : Context) (e : Tree) → Stays (a s e) (b s e)) → (m : Binding) → Stays (form_of_meaning a y m) (form_of_meaning b z m)
+  meaning_stays : (a b : Context → Tree → Result Form AsmFault) → ((s : Context) (e : Tree) → Stays (a s e) (b s e)) → (m : Binding) → Stays (form_of_binding a y m) (form_of_binding b z m)
   meaning_stays a b h (imported_as k) = λ f e. e
   meaning_stays a b h (defined_at j) = definition_stays a b h j
 
   norm_stays : (n : ℕ) (s : Context) (e : Tree) → Stays (norm n y s e) (norm n z s e)
   norm_stays zero s e = λ f q. absurd cc
   norm_stays (suc n) s e =
-      stays_by (λ t. binding_of y s t >>= form_of_meaning (norm n y) y) (λ t. binding_of z s t >>= form_of_meaning (norm n z) z) s
-      (λ t. stays_then (binding_of y s t) (binding_of z s t) (form_of_meaning (norm n y) y) (form_of_meaning (norm n z) z) (keeps s t) (λ m. meaning_stays (norm n y) (norm n z) (norm_stays n) m)) e
+      stays_by (λ t. binding_of y s t >>= form_of_binding (norm n y) y) (λ t. binding_of z s t >>= form_of_binding (norm n z) z) s
+      (λ t. stays_then (binding_of y s t) (binding_of z s t) (form_of_binding (norm n y) y) (form_of_binding (norm n z) z) (keeps s t) (λ m. meaning_stays (norm n y) (norm n z) (norm_stays n) m)) e
 
   -- so a definition has the form that it had
   form_stays : (j : ℕ) (f : Form) → result_ok (defined_form y j) ≡ Some f → result_ok (defined_form z j) ≡ Some f
@@ -239,7 +239,7 @@ searches_kept y old new true same none (found, past) = (
 )
 
 -- it holds with one definition more, if operands keep their meanings: a mark says nothing then
-searches_stay : (y : Symbols) (d : Definition) → KeepsMeanings y (with_definition y d) → (searched : ℕ → Option SearchEntry) → KeepsSearches y searched → KeepsSearches (with_definition y d) searched
+searches_stay : (y : Symbols) (d : Definition) → KeepsBindings y (with_definition y d) → (searched : ℕ → Option SearchEntry) → KeepsSearches y searched → KeepsSearches (with_definition y d) searched
 searches_stay y d keeps searched (found, past) = (
   holds,
   λ j n at. (let before = past j n at in omega (arith, before, longer)),
@@ -261,6 +261,6 @@ searches_stay y d keeps searched (found, past) = (
     holds j (Some f) at = form_stays y d keeps j f (found j (Some f) (entry_stays (length y.definitions) (length (with_definition y d).definitions) f (searched j) at))
     holds j None at = absurd (no_mark j (searched j) refl at)
 
-pub searches_pushed : (y : Symbols) (d : Definition) (old new : ℕ → Option SearchEntry) (keeps : Bool) → (keeps ≡ true → (j : ℕ) → new j ≡ old j) → (keeps ≡ false → (j : ℕ) → new j ≡ None) → (keeps ≡ true → KeepsMeanings y (with_definition y d)) → KeepsSearches y old → KeepsSearches (with_definition y d) new
+pub searches_pushed : (y : Symbols) (d : Definition) (old new : ℕ → Option SearchEntry) (keeps : Bool) → (keeps ≡ true → (j : ℕ) → new j ≡ old j) → (keeps ≡ false → (j : ℕ) → new j ≡ None) → (keeps ≡ true → KeepsBindings y (with_definition y d)) → KeepsSearches y old → KeepsSearches (with_definition y d) new
 searches_pushed y d old new false same none meanings h = none_searched (with_definition y d) new (none refl)
 searches_pushed y d old new true same none meanings h = searches_stay y d (meanings refl) new (searches_kept y old new true same none h)

@@ -6,13 +6,13 @@ use Rattle.base65.specs.Outcome.{Unless, ◌>>=◌, Refines}
 use Rattle.std.proofs.lemmas.List.{drop_all}
 use Rattle.std.proofs.lemmas.List.Sums.{sum_by-cons}
 use Rattle.base65.specs.declared.width.Width.{Width}
-use Rattle.semantics65.specs.Norms.{byte_count, fill_settled, gap, item_len, optional_value, constant_in}
+use Rattle.semantics65.specs.Norms.{nat_or_zero, fill_encoding, gap, item_len, optional_value, constant_in}
 use Rattle.syntax65.specs.Trees.{Tree}
 use Rattle.ast65.specs.declared.fault.AsmFault.{AsmFault}
-use Rattle.ast65.specs.Faults.{is_memory}
+use Rattle.ast65.specs.Faults.{is_out_of_memory}
 use Rattle.ast65.specs.declared.fault.AsmFault.TheVariants.{BadOperand, NotUnderstood, SectionTooLarge}
 use Rattle.ast65.specs.declared.language.Item.{Item}
-use Rattle.semantics65.specs.declared.laid.EncodingChoice.{EncodingChoice}
+use Rattle.semantics65.specs.declared.contexts.EncodingChoice.{EncodingChoice}
 use Rattle.semantics65.specs.Symbols.{Scope, Symbols, key_defined}
 use Rattle.ast65.specs.declared.language.Statement.{Statement}
 use Rattle.ast65.specs.declared.language.Statement.TheVariants as statement
@@ -23,10 +23,10 @@ use Rattle.ast65.proofs.Lists.{drop_item}
 use Rattle.syntax65.specs.declared.lexing.tokens.AddressSize.TheVariants.{Absolute}
 use Rattle.syntax65.specs.declared.lexing.tokens.AddressSize.{AddressSize}
 use Rattle.semantics65.specs.declared.contents.Segment.{Segment}
-use Rattle.semantics65.specs.Layout.{Cursor, own_size, segment_at, context_of, first_fault, defined_twice, is_open, line_fault, opened_twice, placing_faults, scope_name, stands_outside, trees_of, is_byte_value, is_count, is_there, multiple_fault, item_trees, lost_scopes, or_then, when, unless_fault}
+use Rattle.semantics65.specs.Layout.{Cursor, own_size, segment_at, context_of, first_fault, defined_twice, is_not_global, line_fault, opened_twice, layout_faults, scope_name, is_global_only, trees_of, is_byte_value, is_count, has_value, alignment_value_fault, item_trees, missing_scopes_fault, or_then, fault_if, unless_fault}
 use Rattle.symbols65.specs.declared.measuring.StatementLayout as code
 use Rattle.symbols65.specs.declared.measuring.StatementLayout.{StatementLayout}
-use Rattle.symbols65.specs.Measuring.{ChecksStatement, count_if_it_fits, measure_of, layout_result, naming_fault, layout_or_error}
+use Rattle.symbols65.specs.Measuring.{ChecksStatement, count_if_it_fits, layout_of_statement, layout_result, naming_fault, layout_or_error}
 
 -- ---- Small steps that many proofs take.
 
@@ -47,12 +47,12 @@ pub two_faults : {A : Type 0} (f g : Option AsmFault) (x : A) → unless_fault (
 two_faults y g x = grind (arith, common_steps)
 
 -- a refusal for the first of two faults
-pub refused_first : {A : Type 0} (e : AsmFault) (f g : Option AsmFault) (x : A) → Unless (is_memory e) (unless_fault {A = Unit {0}} f tt ≡ Err e) → Unless (is_memory e) (unless_fault (or_then f g) x ≡ Err e)
-refused_first e f g x h = unless_then (is_memory e) (λ p. two_faults f g x ∙ ap (λ r. r >>= λ u. unless_fault g x) p) h
+pub refused_first : {A : Type 0} (e : AsmFault) (f g : Option AsmFault) (x : A) → Unless (is_out_of_memory e) (unless_fault {A = Unit {0}} f tt ≡ Err e) → Unless (is_out_of_memory e) (unless_fault (or_then f g) x ≡ Err e)
+refused_first e f g x h = unless_then (is_out_of_memory e) (λ p. two_faults f g x ∙ ap (λ r. r >>= λ u. unless_fault g x) p) h
 
 -- a refusal of what is the same
-pub refused_same : {A : Type 0} (e : AsmFault) (r s : Result A AsmFault) → s ≡ r → Unless (is_memory e) (r ≡ Err e) → Unless (is_memory e) (s ≡ Err e)
-refused_same e r s q h = unless_then (is_memory e) (λ p. q ∙ p) h
+pub refused_same : {A : Type 0} (e : AsmFault) (r s : Result A AsmFault) → s ≡ r → Unless (is_out_of_memory e) (r ≡ Err e) → Unless (is_out_of_memory e) (s ≡ Err e)
+refused_same e r s q h = unless_then (is_out_of_memory e) (λ p. q ∙ p) h
 
 -- what is left where the first of two faults isn't there
 pub left_after : {A : Type 0} (f g : Option AsmFault) (x y : A) → unless_fault f x ≡ Ok y → or_then f g ≡ g
@@ -64,12 +64,12 @@ checked_next f g r h k = subst (ChecksStatement r) (sym (left_after f g tt tt h)
 
 -- ---- Lists of values.
 
-first_item : (cs : List Scope) (scope : ℕ) (item : Item) (items : List Item) → lost_scopes cs scope (item_trees (item ∷ items)) ≡ or_then (lost_scopes cs scope (item_trees (item ∷ []))) (lost_scopes cs scope (item_trees items))
+first_item : (cs : List Scope) (scope : ℕ) (item : Item) (items : List Item) → missing_scopes_fault cs scope (item_trees (item ∷ items)) ≡ or_then (missing_scopes_fault cs scope (item_trees (item ∷ []))) (missing_scopes_fault cs scope (item_trees items))
 first_item cs scope x items = grind (arith, common_steps)
 
 -- what the items from a place on are refused for
-pub items_lost : (cs : List Scope) (scope : ℕ) (items : List Item) (i : ℕ) (item : Item) → i < length items → item ≡ get_or items i item → lost_scopes cs scope (item_trees (drop i items)) ≡ or_then (lost_scopes cs scope (item_trees (item ∷ []))) (lost_scopes cs scope (item_trees (drop (i + 1) items)))
-items_lost cs scope items i item lt e = rw add-one (ap (λ is. lost_scopes cs scope (item_trees is)) (drop_item items i item lt e) ∙ first_item cs scope item (drop (suc i) items))
+pub items_lost : (cs : List Scope) (scope : ℕ) (items : List Item) (i : ℕ) (item : Item) → i < length items → item ≡ get_or items i item → missing_scopes_fault cs scope (item_trees (drop i items)) ≡ or_then (missing_scopes_fault cs scope (item_trees (item ∷ []))) (missing_scopes_fault cs scope (item_trees (drop (i + 1) items)))
+items_lost cs scope items i item lt e = rw add-one (ap (λ is. missing_scopes_fault cs scope (item_trees is)) (drop_item items i item lt e) ∙ first_item cs scope item (drop (suc i) items))
 
 -- ---- What a section has room for.
 
@@ -106,7 +106,7 @@ pub what_is_left : (o : Option ℕ) (remaining len n : ℕ) → len ≡ n → So
 what_is_left x remaining len n e h = grind (arith, common_steps)
 
 -- and they have no names
-pub numbers_keep : (cs : List Scope) (scope : ℕ) (ns : List ℕ) → lost_scopes cs scope (item_trees (map literal_item ns)) ≡ None
+pub numbers_keep : (cs : List Scope) (scope : ℕ) (ns : List ℕ) → missing_scopes_fault cs scope (item_trees (map literal_item ns)) ≡ None
 numbers_keep cs scope [] = refl
 numbers_keep cs scope (n ∷ ns) = numbers_keep cs scope ns
 
@@ -122,35 +122,35 @@ abbrev pub reserved : Cursor → Bool → EncodingChoice → Option ℤ → Resu
 reserved w b st k =
     unless_fault (first_fault (
     None
-    ∷ when (not (is_count k && b)) BadOperand
+    ∷ fault_if (not (is_count k && b)) BadOperand
     ∷ None ∷ None ∷ None ∷ None ∷ None ∷ None
-    ∷ when (nat_lt section_limit ((context_of w).offset + byte_count k)) SectionTooLarge
+    ∷ fault_if (nat_lt section_limit ((context_of w).offset + nat_or_zero k)) SectionTooLarge
     ∷ []))
-    (record { length = byte_count k; size = own_size w; alignment = 1; settled = st })
+    (record { length = nat_or_zero k; size = own_size w; alignment = 1; encoding = st })
 
-pub reserved_as : (y : Symbols) (w : Cursor) (n : Tree) (v : Option Tree) (k : Option ℤ) → constant_in y (context_of w) n ≡ k → layout_or_error y w (statement.Reserve n v) ≡ reserved w (is_byte_value (optional_value y (context_of w) v (pos 0))) (fill_settled y (context_of w) v) k
-reserved_as y w n v k e = ap (reserved w (is_byte_value (optional_value y (context_of w) v (pos 0))) (fill_settled y (context_of w) v)) e
+pub reserved_as : (y : Symbols) (w : Cursor) (n : Tree) (v : Option Tree) (k : Option ℤ) → constant_in y (context_of w) n ≡ k → layout_or_error y w (statement.Reserve n v) ≡ reserved w (is_byte_value (optional_value y (context_of w) v (pos 0))) (fill_encoding y (context_of w) v) k
+reserved_as y w n v k e = ap (reserved w (is_byte_value (optional_value y (context_of w) v (pos 0))) (fill_encoding y (context_of w) v)) e
 
 -- a byte that is refused, where the number is one
-pub bad_fill : (w : Cursor) (b : Bool) (st : EncodingChoice) (k : Option ℤ) (m : ℕ) (e : AsmFault) → unless_fault (when (not (is_count k)) BadOperand) (byte_count k) ≡ Ok m → Unless (is_memory e) (unless_fault {A = Unit {0}} (when (not b) BadOperand) tt ≡ Err e) → Unless (is_memory e) (reserved w b st k ≡ Err e)
+pub bad_fill : (w : Cursor) (b : Bool) (st : EncodingChoice) (k : Option ℤ) (m : ℕ) (e : AsmFault) → unless_fault (fault_if (not (is_count k)) BadOperand) (nat_or_zero k) ≡ Ok m → Unless (is_out_of_memory e) (unless_fault {A = Unit {0}} (fault_if (not b) BadOperand) tt ≡ Err e) → Unless (is_out_of_memory e) (reserved w b st k ≡ Err e)
 bad_fill w b st x m e t h = grind (arith, common_steps)
 
 -- a number that is refused
-pub bad_count : (w : Cursor) (b : Bool) (st : EncodingChoice) (k : Option ℤ) (e : AsmFault) → Unless (is_memory e) (unless_fault (when (not (is_count k)) BadOperand) (byte_count k) ≡ Err e) → Unless (is_memory e) (reserved w b st k ≡ Err e)
+pub bad_count : (w : Cursor) (b : Bool) (st : EncodingChoice) (k : Option ℤ) (e : AsmFault) → Unless (is_out_of_memory e) (unless_fault (fault_if (not (is_count k)) BadOperand) (nat_or_zero k) ≡ Err e) → Unless (is_out_of_memory e) (reserved w b st k ≡ Err e)
 bad_count w b st x e h = grind (arith, common_steps)
 
 -- too much room, where the values aren't refused
-pub reserved_full : (w : Cursor) (b : Bool) (st : EncodingChoice) (k : Option ℤ) (m : ℕ) (e : AsmFault) → unless_fault (when (not (is_count k)) BadOperand) (byte_count k) ≡ Ok m → unless_fault {A = Unit {0}} (when (not b) BadOperand) tt ≡ Ok tt → count_if_it_fits w m ≡ Err e → Unless (is_memory e) (reserved w b st k ≡ Err e)
+pub reserved_full : (w : Cursor) (b : Bool) (st : EncodingChoice) (k : Option ℤ) (m : ℕ) (e : AsmFault) → unless_fault (fault_if (not (is_count k)) BadOperand) (nat_or_zero k) ≡ Ok m → unless_fault {A = Unit {0}} (fault_if (not b) BadOperand) tt ≡ Ok tt → count_if_it_fits w m ≡ Err e → Unless (is_out_of_memory e) (reserved w b st k ≡ Err e)
 reserved_full w b st x m e h k f = grind (arith, common_steps)
 
-pub reserved_well : (w : Cursor) (b : Bool) (st : EncodingChoice) (k : Option ℤ) (m len : ℕ) → unless_fault (when (not (is_count k)) BadOperand) (byte_count k) ≡ Ok m → unless_fault {A = Unit {0}} (when (not b) BadOperand) tt ≡ Ok tt → count_if_it_fits w m ≡ Ok len → reserved w b st k ≡ Ok (record { length = len; size = own_size w; alignment = 1; settled = st })
+pub reserved_well : (w : Cursor) (b : Bool) (st : EncodingChoice) (k : Option ℤ) (m len : ℕ) → unless_fault (fault_if (not (is_count k)) BadOperand) (nat_or_zero k) ≡ Ok m → unless_fault {A = Unit {0}} (fault_if (not b) BadOperand) tt ≡ Ok tt → count_if_it_fits w m ≡ Ok len → reserved w b st k ≡ Ok (record { length = len; size = own_size w; alignment = 1; encoding = st })
 reserved_well w b st x m len h k f = grind (arith, common_steps)
 
 -- ---- What fills room.
 
 -- it is refused by whatever it is
-pub fill_refused : {A B : Type 0} (e : AsmFault) (f : Option AsmFault) (x : A) (y : B) → Unless (is_memory e) (unless_fault f x ≡ Err e) → Unless (is_memory e) (unless_fault f y ≡ Err e)
-fill_refused e f x y h = unless_then (is_memory e) (λ p. other f p) h
+pub fill_refused : {A B : Type 0} (e : AsmFault) (f : Option AsmFault) (x : A) (y : B) → Unless (is_out_of_memory e) (unless_fault f x ≡ Err e) → Unless (is_out_of_memory e) (unless_fault f y ≡ Err e)
+fill_refused e f x y h = unless_then (is_out_of_memory e) (λ p. other f p) h
   where
     other : (f : Option AsmFault) → unless_fault f x ≡ Err e → unless_fault f y ≡ Err e
     other None p = absurd cc
@@ -169,49 +169,49 @@ abbrev pub aligned : Cursor → Bool → EncodingChoice → Option ℤ → Resul
 aligned w b st k =
     unless_fault (first_fault (
     None
-    ∷ when (not (is_there k && b)) BadOperand
-    ∷ multiple_fault k
+    ∷ fault_if (not (has_value k && b)) BadOperand
+    ∷ alignment_value_fault k
     ∷ None ∷ None ∷ None ∷ None ∷ None
-    ∷ when (nat_lt section_limit ((context_of w).offset + gap (context_of w).offset k)) SectionTooLarge
+    ∷ fault_if (nat_lt section_limit ((context_of w).offset + gap (context_of w).offset k)) SectionTooLarge
     ∷ []))
-    (record { length = gap (context_of w).offset k; size = own_size w; alignment = byte_count k; settled = st })
+    (record { length = gap (context_of w).offset k; size = own_size w; alignment = nat_or_zero k; encoding = st })
 
-pub aligned_as : (y : Symbols) (w : Cursor) (n : Tree) (v : Option Tree) (k : Option ℤ) → constant_in y (context_of w) n ≡ k → layout_or_error y w (statement.Align n v) ≡ aligned w (is_byte_value (optional_value y (context_of w) v (pos 0))) (fill_settled y (context_of w) v) k
-aligned_as y w n v k e = ap (aligned w (is_byte_value (optional_value y (context_of w) v (pos 0))) (fill_settled y (context_of w) v)) e
+pub aligned_as : (y : Symbols) (w : Cursor) (n : Tree) (v : Option Tree) (k : Option ℤ) → constant_in y (context_of w) n ≡ k → layout_or_error y w (statement.Align n v) ≡ aligned w (is_byte_value (optional_value y (context_of w) v (pos 0))) (fill_encoding y (context_of w) v) k
+aligned_as y w n v k e = ap (aligned w (is_byte_value (optional_value y (context_of w) v (pos 0))) (fill_encoding y (context_of w) v)) e
 
-pub none_there : (k : Option ℤ) → is_some k ≡ false → is_there k ≡ false
+pub none_there : (k : Option ℤ) → is_some k ≡ false → has_value k ≡ false
 none_there None e = refl
 none_there (Some v) e = absurd cc
 
-pub is_multiple : (k : Option ℤ) → is_some k ≡ true → unless_fault {A = Unit {0}} (when (not (is_there k)) BadOperand) tt ≡ Ok tt
+pub is_multiple : (k : Option ℤ) → is_some k ≡ true → unless_fault {A = Unit {0}} (fault_if (not (has_value k)) BadOperand) tt ≡ Ok tt
 is_multiple None e = absurd cc
 is_multiple (Some v) e = refl
 
 -- a multiple that isn't constant
-pub no_multiple : (w : Cursor) (b : Bool) (st : EncodingChoice) (k : Option ℤ) → is_there k ≡ false → aligned w b st k ≡ Err BadOperand
+pub no_multiple : (w : Cursor) (b : Bool) (st : EncodingChoice) (k : Option ℤ) → has_value k ≡ false → aligned w b st k ≡ Err BadOperand
 no_multiple w b st x e = grind (arith, common_steps)
 
 -- a multiple that is refused, where the values aren't
-refused_third : {A : Type 0} (a b : Bool) (f r : Option AsmFault) (x : A) (m : ℕ) (e : AsmFault) → unless_fault {A = Unit {0}} (when (not a) BadOperand) tt ≡ Ok tt → unless_fault {A = Unit {0}} (when (not b) BadOperand) tt ≡ Ok tt → Unless (is_memory e) (unless_fault f m ≡ Err e) → Unless (is_memory e) (unless_fault (first_fault (None ∷ when (not (a && b)) BadOperand ∷ f ∷ None ∷ None ∷ None ∷ None ∷ None ∷ r ∷ [])) x ≡ Err e)
+refused_third : {A : Type 0} (a b : Bool) (f r : Option AsmFault) (x : A) (m : ℕ) (e : AsmFault) → unless_fault {A = Unit {0}} (fault_if (not a) BadOperand) tt ≡ Ok tt → unless_fault {A = Unit {0}} (fault_if (not b) BadOperand) tt ≡ Ok tt → Unless (is_out_of_memory e) (unless_fault f m ≡ Err e) → Unless (is_out_of_memory e) (unless_fault (first_fault (None ∷ fault_if (not (a && b)) BadOperand ∷ f ∷ None ∷ None ∷ None ∷ None ∷ None ∷ r ∷ [])) x ≡ Err e)
 refused_third false b f r x m e t h g = absurd cc
 refused_third true false f r x m e t h g = absurd cc
-refused_third true true None r x m e t h g = unless_then (is_memory e) (λ p. absurd cc) g
-refused_third true true (Some d) r x m e t h g = unless_then (is_memory e) (λ p. let same : d ≡ e = cc in ap (λ k. Err k) same) g
+refused_third true true None r x m e t h g = unless_then (is_out_of_memory e) (λ p. absurd cc) g
+refused_third true true (Some d) r x m e t h g = unless_then (is_out_of_memory e) (λ p. let same : d ≡ e = cc in ap (λ k. Err k) same) g
 
-pub bad_multiple : (w : Cursor) (b : Bool) (st : EncodingChoice) (k : Option ℤ) (e : AsmFault) → unless_fault {A = Unit {0}} (when (not (is_there k)) BadOperand) tt ≡ Ok tt → unless_fault {A = Unit {0}} (when (not b) BadOperand) tt ≡ Ok tt → Unless (is_memory e) (unless_fault (multiple_fault k) (byte_count k) ≡ Err e) → Unless (is_memory e) (aligned w b st k ≡ Err e)
-bad_multiple w b st k e t h g = refused_third (is_there k) b (multiple_fault k) _ _ (byte_count k) e t h g
+pub bad_multiple : (w : Cursor) (b : Bool) (st : EncodingChoice) (k : Option ℤ) (e : AsmFault) → unless_fault {A = Unit {0}} (fault_if (not (has_value k)) BadOperand) tt ≡ Ok tt → unless_fault {A = Unit {0}} (fault_if (not b) BadOperand) tt ≡ Ok tt → Unless (is_out_of_memory e) (unless_fault (alignment_value_fault k) (nat_or_zero k) ≡ Err e) → Unless (is_out_of_memory e) (aligned w b st k ≡ Err e)
+bad_multiple w b st k e t h g = refused_third (has_value k) b (alignment_value_fault k) _ _ (nat_or_zero k) e t h g
 
 -- a byte that is refused, where the multiple is constant
-pub bad_byte : (w : Cursor) (b : Bool) (st : EncodingChoice) (k : Option ℤ) (e : AsmFault) → unless_fault {A = Unit {0}} (when (not (is_there k)) BadOperand) tt ≡ Ok tt → Unless (is_memory e) (unless_fault {A = Unit {0}} (when (not b) BadOperand) tt ≡ Err e) → Unless (is_memory e) (aligned w b st k ≡ Err e)
+pub bad_byte : (w : Cursor) (b : Bool) (st : EncodingChoice) (k : Option ℤ) (e : AsmFault) → unless_fault {A = Unit {0}} (fault_if (not (has_value k)) BadOperand) tt ≡ Ok tt → Unless (is_out_of_memory e) (unless_fault {A = Unit {0}} (fault_if (not b) BadOperand) tt ≡ Err e) → Unless (is_out_of_memory e) (aligned w b st k ≡ Err e)
 bad_byte w b st x e t h = grind (arith, common_steps)
 
 all_well : {A : Type 0} (f r : Option AsmFault) (x : A) → f ≡ None → r ≡ None → unless_fault (first_fault (None ∷ None ∷ f ∷ None ∷ None ∷ None ∷ None ∷ None ∷ r ∷ [])) x ≡ Ok x
 all_well y z x p q = grind (arith, common_steps)
 
 abbrev pub as_ok : ℕ → AddressSize → ℕ → EncodingChoice → Result StatementLayout AsmFault
-as_ok len own alignment st = Ok (record { length = len; size = own; alignment = alignment; settled = st })
+as_ok len own alignment st = Ok (record { length = len; size = own; alignment = alignment; encoding = st })
 
-pub aligned_well : (w : Cursor) (b : Bool) (st : EncodingChoice) (k : Option ℤ) (m g len : ℕ) → unless_fault {A = Unit {0}} (when (not b) BadOperand) tt ≡ Ok tt → unless_fault (multiple_fault k) (byte_count k) ≡ Ok m → g ≡ gap (context_of w).offset (Some (pos m)) → count_if_it_fits w g ≡ Ok len → aligned w b st k ≡ as_ok len (own_size w) m st
+pub aligned_well : (w : Cursor) (b : Bool) (st : EncodingChoice) (k : Option ℤ) (m g len : ℕ) → unless_fault {A = Unit {0}} (fault_if (not b) BadOperand) tt ≡ Ok tt → unless_fault (alignment_value_fault k) (nat_or_zero k) ≡ Ok m → g ≡ gap (context_of w).offset (Some (pos m)) → count_if_it_fits w g ≡ Ok len → aligned w b st k ≡ as_ok len (own_size w) m st
 aligned_well w false st k m g len h hm hg hf = absurd cc
 aligned_well w true st None m g len h hm hg hf = absurd cc
 aligned_well w true st (Some (negsuc j)) m g len h hm hg hf = absurd cc
@@ -228,13 +228,13 @@ always true h = tt
 always false h = h
 
 -- too much of it, where the values aren't refused
-pub aligned_full : (w : Cursor) (b : Bool) (st : EncodingChoice) (k : Option ℤ) (m g : ℕ) (e : AsmFault) → unless_fault {A = Unit {0}} (when (not b) BadOperand) tt ≡ Ok tt → unless_fault (multiple_fault k) (byte_count k) ≡ Ok m → g ≡ gap (context_of w).offset (Some (pos m)) → count_if_it_fits w g ≡ Err e → Unless (is_memory e) (aligned w b st k ≡ Err e)
+pub aligned_full : (w : Cursor) (b : Bool) (st : EncodingChoice) (k : Option ℤ) (m g : ℕ) (e : AsmFault) → unless_fault {A = Unit {0}} (fault_if (not b) BadOperand) tt ≡ Ok tt → unless_fault (alignment_value_fault k) (nat_or_zero k) ≡ Ok m → g ≡ gap (context_of w).offset (Some (pos m)) → count_if_it_fits w g ≡ Err e → Unless (is_out_of_memory e) (aligned w b st k ≡ Err e)
 aligned_full w false st k m g e h hm hg hf = absurd cc
 aligned_full w true st None m g e h hm hg hf = absurd cc
 aligned_full w true st (Some (negsuc j)) m g e h hm hg hf = absurd cc
 aligned_full w true st (Some (pos j)) m g e h hm hg hf =
     let same : aligned w true st (Some (pos j)) ≡ Err e = grind (arith, common_steps, no_fault, no_room, fault_there) in
-    always (is_memory e) same
+    always (is_out_of_memory e) same
 
 -- ---- All faults.
 
@@ -242,19 +242,19 @@ four_first : (a b c d : Option AsmFault) (rest : List (Option AsmFault)) → fir
 four_first x b c d rest = grind (arith, common_steps)
 
 module _ (y : Symbols) (w : Cursor) (x : Statement) where
-  pub faults_are : line_fault y w x ≡ or_then (naming_fault y (context_of w) x) (first_fault (placing_faults y w x))
-  faults_are = four_first (when (stands_outside x && is_open w.scope) NotUnderstood) (lost_scopes y.scopes w.scope (trees_of x)) (opened_twice y.scopes w.scope (scope_name x)) (defined_twice y (key_defined (context_of w) x)) (placing_faults y w x)
+  pub faults_are : line_fault y w x ≡ or_then (naming_fault y (context_of w) x) (first_fault (layout_faults y w x))
+  faults_are = four_first (fault_if (is_global_only x && is_not_global w.scope) NotUnderstood) (missing_scopes_fault y.scopes w.scope (trees_of x)) (opened_twice y.scopes w.scope (scope_name x)) (defined_twice y (key_defined (context_of w) x)) (layout_faults y w x)
 
   -- a statement that is refused for its names
-  pub measured_refused : (e : AsmFault) → Unless (is_memory e) (unless_fault {A = Unit {0}} (naming_fault y (context_of w) x) tt ≡ Err e) → Unless (is_memory e) (layout_result y w x ≡ Err e)
-  measured_refused e h = refused_same e _ _ (ap (λ f. unless_fault f (measure_of y w x)) faults_are) (refused_first e (naming_fault y (context_of w) x) (first_fault (placing_faults y w x)) (measure_of y w x) h)
+  pub measured_refused : (e : AsmFault) → Unless (is_out_of_memory e) (unless_fault {A = Unit {0}} (naming_fault y (context_of w) x) tt ≡ Err e) → Unless (is_out_of_memory e) (layout_result y w x ≡ Err e)
+  measured_refused e h = refused_same e _ _ (ap (λ f. unless_fault f (layout_of_statement y w x)) faults_are) (refused_first e (naming_fault y (context_of w) x) (first_fault (layout_faults y w x)) (layout_of_statement y w x) h)
 
   -- and one that isn't
   pub measured_named : unless_fault {A = Unit {0}} (naming_fault y (context_of w) x) tt ≡ Ok tt → layout_result y w x ≡ layout_or_error y w x
-  measured_named h = ap (λ f. unless_fault f (measure_of y w x)) (faults_are ∙ left_after (naming_fault y (context_of w) x) (first_fault (placing_faults y w x)) tt tt h)
+  measured_named h = ap (λ f. unless_fault f (layout_of_statement y w x)) (faults_are ∙ left_after (naming_fault y (context_of w) x) (first_fault (layout_faults y w x)) tt tt h)
 
 -- ---- Room for what is placed.
 
 -- what is placed has room
-pub room_of : (y : Symbols) (w : Cursor) (x : Statement) (r : Result code.StatementLayout AsmFault) → Refines is_memory (λ m. m) r (layout_or_error y w x) → IfOk r (λ m. (context_of w).offset + m.length ≤ section_limit)
+pub room_of : (y : Symbols) (w : Cursor) (x : Statement) (r : Result code.StatementLayout AsmFault) → Refines is_out_of_memory (λ m. m) r (layout_or_error y w x) → IfOk r (λ m. (context_of w).offset + m.length ≤ section_limit)
 room_of y w x z h = grind (arith, common_steps)

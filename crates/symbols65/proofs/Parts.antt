@@ -7,13 +7,13 @@ use Rattle.base65.specs.Outcome.{Unless}
 use Rattle.syntax65.specs.Trees.{Tree}
 use Rattle.ast65.specs.declared.fault.AsmFault.{AsmFault}
 use Rattle.ast65.specs.declared.fault.AsmFault.TheVariants.{BadOperand}
-use Rattle.ast65.specs.Faults.{is_memory}
-use Rattle.semantics65.specs.declared.laid.Context.{Context}
+use Rattle.ast65.specs.Faults.{is_out_of_memory}
+use Rattle.semantics65.specs.declared.contexts.Context.{Context}
 use Rattle.ast65.specs.declared.language.Statement.TheVariants.{Incbin}
-use Rattle.semantics65.specs.Layout.{Cursor, context_of, is_there, lost_scopes, operand_fault, optional_tree, when, unless_fault}
+use Rattle.semantics65.specs.Layout.{Cursor, context_of, has_value, missing_scopes_fault, operand_fault, optional_tree, fault_if, unless_fault}
 use Rattle.semantics65.specs.Norms.{optional_value}
 use Rattle.semantics65.specs.Symbols.{Symbols}
-use Rattle.symbols65.specs.Measuring.{IsFound, layout_or_error, range_in_file, unread_fault}
+use Rattle.symbols65.specs.Measuring.{IsOptionalValue, layout_or_error, range_in_file, unread_fault}
 use Rattle.symbols65.proofs.Measures.{left_after, unless_then}
 
 -- ---- Ranges.
@@ -22,21 +22,21 @@ use Rattle.symbols65.proofs.Measures.{left_after, unless_then}
 
 module _ (y : Symbols) (w : Cursor) (start len : Option Tree) where
   abbrev there : Bool
-  there = is_there (optional_value y (context_of w) start (pos 0)) && is_there (optional_value y (context_of w) len (pos 0))
+  there = has_value (optional_value y (context_of w) start (pos 0)) && has_value (optional_value y (context_of w) len (pos 0))
 
 module _ (y : Symbols) (w : Cursor) (start len : Option Tree) (s : Context) (at : s ≡ context_of w) where
-  found_here : (value : Option Tree) (r : Result (Option ℤ) AsmFault) → IsFound (optional_value y s value) r → IsFound (optional_value y (context_of w) value) r
-  found_here value r h = subst (λ (here : Context). IsFound (optional_value y here value) r) at h
+  found_here : (value : Option Tree) (r : Result (Option ℤ) AsmFault) → IsOptionalValue (optional_value y s value) r → IsOptionalValue (optional_value y (context_of w) value) r
+  found_here value r h = subst (λ (here : Context). IsOptionalValue (optional_value y here value) r) at h
 
   -- a start that isn't constant
-  pub bad_start : (bytes : Option (List ℕ)) (e : AsmFault) → IsFound (optional_value y s start) (Err e) → Unless (is_memory e) (layout_or_error y w (Incbin bytes start len) ≡ Err e)
+  pub bad_start : (bytes : Option (List ℕ)) (e : AsmFault) → IsOptionalValue (optional_value y s start) (Err e) → Unless (is_out_of_memory e) (layout_or_error y w (Incbin bytes start len) ≡ Err e)
   bad_start bytes e h = grind (arith, common_steps)
 
   -- a length that isn't
-  pub bad_len : (bytes : Option (List ℕ)) (e : AsmFault) → IsFound (optional_value y s len) (Err e) → Unless (is_memory e) (layout_or_error y w (Incbin bytes start len) ≡ Err e)
+  pub bad_len : (bytes : Option (List ℕ)) (e : AsmFault) → IsOptionalValue (optional_value y s len) (Err e) → Unless (is_out_of_memory e) (layout_or_error y w (Incbin bytes start len) ≡ Err e)
   bad_len bytes e h = grind (arith, common_steps)
 
-  module _ (v n : Option ℤ) (first : IsFound (optional_value y s start) (Ok v)) (second : IsFound (optional_value y s len) (Ok n)) where
+  module _ (v n : Option ℤ) (first : IsOptionalValue (optional_value y s start) (Ok v)) (second : IsOptionalValue (optional_value y s len) (Ok n)) where
     from : (d : ℤ) → optional_value y (context_of w) start d ≡ Some (unwrap_or v d)
     from = found_here start (Ok v) first
 
@@ -44,39 +44,39 @@ module _ (y : Symbols) (w : Cursor) (start len : Option Tree) (s : Context) (at 
     more = found_here len (Ok n) second
 
     both : there y w start len ≡ true
-    both = ap (λ k. is_there k && is_there (optional_value y (context_of w) len (pos 0))) (from (pos 0)) ∙ ap is_there (more (pos 0))
+    both = ap (λ k. has_value k && has_value (optional_value y (context_of w) len (pos 0))) (from (pos 0)) ∙ ap has_value (more (pos 0))
 
     -- a part that the file hasn't
     refused_so : (bytes : List ℕ) (e : AsmFault) → range_in_file (length bytes) v n ≡ Err e → layout_or_error y w (Incbin (Some bytes) start len) ≡ Err e
     refused_so bytes e h = grind (arith, common_steps)
 
-    pub refused : (bytes : List ℕ) (e : AsmFault) → Unless (is_memory e) (range_in_file (length bytes) v n ≡ Err e) → Unless (is_memory e) (layout_or_error y w (Incbin (Some bytes) start len) ≡ Err e)
-    refused bytes e h = unless_then (is_memory e) (λ p. refused_so bytes e p) h
+    pub refused : (bytes : List ℕ) (e : AsmFault) → Unless (is_out_of_memory e) (range_in_file (length bytes) v n ≡ Err e) → Unless (is_out_of_memory e) (layout_or_error y w (Incbin (Some bytes) start len) ≡ Err e)
+    refused bytes e h = unless_then (is_out_of_memory e) (λ p. refused_so bytes e p) h
 
   -- ---- Whatever the file has.
 
   abbrev lost : ℕ → Option AsmFault
-  lost scope = lost_scopes y.scopes scope (optional_tree start ++ optional_tree len)
+  lost scope = missing_scopes_fault y.scopes scope (optional_tree start ++ optional_tree len)
 
   abbrev checks : Option AsmFault → Result (Unit {0}) AsmFault
   checks f = unless_fault f tt
 
   -- a name whose scope isn't there
-  pub unread_lost : (scope : ℕ) (e : AsmFault) → scope ≡ w.scope → Unless (is_memory e) (checks (lost scope) ≡ Err e) → Unless (is_memory e) (checks (unread_fault y w start len) ≡ Err e)
+  pub unread_lost : (scope : ℕ) (e : AsmFault) → scope ≡ w.scope → Unless (is_out_of_memory e) (checks (lost scope) ≡ Err e) → Unless (is_out_of_memory e) (checks (unread_fault y w start len) ≡ Err e)
   unread_lost scope e here h = grind (arith, common_steps)
 
   module _ (scope : ℕ) (here : scope ≡ w.scope) (none : checks (lost scope) ≡ Ok tt) where
-    after_lost : checks (unread_fault y w start len) ≡ checks (when (not (there y w start len)) BadOperand)
+    after_lost : checks (unread_fault y w start len) ≡ checks (fault_if (not (there y w start len)) BadOperand)
     after_lost = ap checks (left_after (lost w.scope) (operand_fault y (context_of w) (Incbin None start len)) tt tt (subst (λ k. checks (lost k) ≡ Ok tt) here none))
 
     -- a start that isn't constant
-    pub unread_start : (e : AsmFault) → IsFound (optional_value y s start) (Err e) → Unless (is_memory e) (checks (unread_fault y w start len) ≡ Err e)
+    pub unread_start : (e : AsmFault) → IsOptionalValue (optional_value y s start) (Err e) → Unless (is_out_of_memory e) (checks (unread_fault y w start len) ≡ Err e)
     unread_start e h = grind (arith, common_steps)
 
     -- a length that isn't
-    pub unread_len : (e : AsmFault) → IsFound (optional_value y s len) (Err e) → Unless (is_memory e) (checks (unread_fault y w start len) ≡ Err e)
+    pub unread_len : (e : AsmFault) → IsOptionalValue (optional_value y s len) (Err e) → Unless (is_out_of_memory e) (checks (unread_fault y w start len) ≡ Err e)
     unread_len e h = grind (arith, common_steps)
 
     -- nothing is wrong
-    pub unread_well : (v n : Option ℤ) → IsFound (optional_value y s start) (Ok v) → IsFound (optional_value y s len) (Ok n) → checks (unread_fault y w start len) ≡ Ok tt
-    unread_well v n first second = after_lost ∙ ap (λ b. checks (when (not b) BadOperand)) (both v n first second)
+    pub unread_well : (v n : Option ℤ) → IsOptionalValue (optional_value y s start) (Ok v) → IsOptionalValue (optional_value y s len) (Ok n) → checks (unread_fault y w start len) ≡ Ok tt
+    unread_well v n first second = after_lost ∙ ap (λ b. checks (fault_if (not b) BadOperand)) (both v n first second)

@@ -8,7 +8,7 @@ use Rattle.std.proofs.lemmas.Option.{slice_get_within}
 use Rattle.std.proofs.Math.Path.{fun_ext}
 use Rattle.base65.specs.Outcome.{RefinesProp, Unless}
 use Rattle.object65.specs.Form.{Form}
-use Rattle.ast65.specs.Faults.{is_memory}
+use Rattle.ast65.specs.Faults.{is_out_of_memory}
 use Rattle.ast65.specs.declared.fault.AsmFault.{AsmFault}
 use Rattle.ast65.specs.declared.fault.AsmFault.TheVariants.{Circular}
 use Rattle.semantics65.specs.Norms.{defined_form}
@@ -18,7 +18,7 @@ use Rattle.symbols65.specs.declared.resolving.attempt.AttemptError.TheVariants.{
 use Rattle.symbols65.specs.declared.table.symbols.SearchEntry.{SearchEntry}
 use Rattle.symbols65.specs.declared.table.symbols.SearchEntry.TheVariants.{KnownForm, NoForm}
 use Rattle.symbols65.specs.declared.table.symbols.Symbols as code
-use Rattle.symbols65.specs.Resolving.{FindsForm, FoundBy, IsEntryOf, plain, plain_in, tried_at}
+use Rattle.symbols65.specs.Resolving.{FindsForm, HaveBoundedDepth, IsEntryOf, plain_form, plain_result, constant_attempt}
 use Rattle.symbols65.specs.Tables.{AreSearched, KeepsSearches, entries_at}
 use Rattle.symbols65.specs.Views.{entry_form, final_form, known_by, table_of}
 use Rattle.symbols65.proofs.Chains.{Among, IsChain, among_after, among_cases, among_last, among_more, chain_less, chain_more, chain_passes, last_course, met_ever}
@@ -75,7 +75,7 @@ module _ (t : code.Symbols) where
   -- and no form is pending, or had such an entry before the search.
   pub record IsPursuit (before met : ℕ → Option (Option Form)) (v : Course) (ws : List ℕ) : Type 0 where
     pub turns : ℕ
-    pub found : FoundBy turns y (found_in met)
+    pub found : HaveBoundedDepth turns y (found_in met)
     pub chain : IsChain y (InheritsErrors y) v ws
     pub marked : (j : ℕ) → met j ≡ Some None → Among j ws ⊎ (before j ≡ Some None)
 
@@ -113,7 +113,7 @@ module _ (t : code.Symbols) where
     abbrev AtLast : Result Form AttemptError → Type 0
     AtLast a = IsAttempt (p.turns + count) y (known_of met) (last_course y v ws) a
 
-    pub pursuit_known : FoundBy (p.turns + count) y (known_of met)
+    pub pursuit_known : HaveBoundedDepth (p.turns + count) y (known_of met)
     pursuit_known = known_found t p.turns (found_in met) p.found
 
     -- the last that is pending needs a constant
@@ -249,24 +249,24 @@ module _ (t : code.Symbols) where
 
   -- what an attempt at a constant says of it, by what searches have found
   module _ (met : ℕ → Option (Option Form)) (h : AreSearched y met) (r : ℕ) where
-    tried : IsAttempt (suc count + count) y (known_of met) (constant_course y r) (tried_at (known_of met) y r)
+    tried : IsAttempt (suc count + count) y (known_of met) (constant_course y r) (constant_attempt (known_of met) y r)
     unfolding pursuit_starts
     tried = attempt_at (suc count + count) y (known_of met) (pursuit_known met met (constant_course y r) [] (pursuit_starts met (constant_course y r) h)) r
 
-    pub form_at : (f : Form) → tried_at (known_of met) y r ≡ Ok f → defined_form y r ≡ Ok f
-    form_at f e = constant_is_last y (suc count + count) r ∙ form_from (suc count + count) y (known_of met) (constant_course y r) (tried_at (known_of met) y r) f tried e (suc count + count + count) (omega arith)
+    pub form_at : (f : Form) → constant_attempt (known_of met) y r ≡ Ok f → defined_form y r ≡ Ok f
+    form_at f e = constant_is_last y (suc count + count) r ∙ form_from (suc count + count) y (known_of met) (constant_course y r) (constant_attempt (known_of met) y r) f tried e (suc count + count + count) (omega arith)
 
-    pub fault_at : (z : AsmFault) → tried_at (known_of met) y r ≡ Err (Fault z) → defined_form y r ≡ Err z
-    fault_at z e = constant_is_last y (suc count + count) r ∙ fault_from (suc count + count) y (known_of met) (constant_course y r) (tried_at (known_of met) y r) z tried e (suc count + count + count) (omega arith)
+    pub fault_at : (z : AsmFault) → constant_attempt (known_of met) y r ≡ Err (Fault z) → defined_form y r ≡ Err z
+    fault_at z e = constant_is_last y (suc count + count) r ∙ fault_from (suc count + count) y (known_of met) (constant_course y r) (constant_attempt (known_of met) y r) z tried e (suc count + count + count) (omega arith)
 
 pub unless_not : {P : Type 0} (b : Bool) → b ≡ false → Unless b P → P
 unless_not true is h = absurd cc
 unless_not false is h = h
 
 -- the number or address of a form, if there is one
-pub plain_known : (r : Result Form AsmFault) (o : Option Form) → result_ok r ≡ o → option_and_then plain o ≡ plain_in r
-plain_known (Ok f) o h = ap (option_and_then plain) (sym h)
-plain_known (Err z) o h = ap (option_and_then plain) (sym h)
+pub plain_known : (r : Result Form AsmFault) (o : Option Form) → result_ok r ≡ o → option_and_then plain_form o ≡ plain_result r
+plain_known (Ok f) o h = ap (option_and_then plain_form) (sym h)
+plain_known (Err z) o h = ap (option_and_then plain_form) (sym h)
 
 pub unless_more : {P Q : Type 0} (b : Bool) → (P → Q) → Unless b P → Unless b Q
 unless_more true f h = tt
@@ -274,9 +274,9 @@ unless_more false f h = f h
 
 -- ---- The entry of one constant more.
 
-pub entry_kept : {K : Type 0} (n : ℕ) (r : Result Form AsmFault) (e : SearchEntry) → IsEntryOf n r e → RefinesProp is_memory (λ q. K) r → K
+pub entry_kept : {K : Type 0} (n : ℕ) (r : Result Form AsmFault) (e : SearchEntry) → IsEntryOf n r e → RefinesProp is_out_of_memory (λ q. K) r → K
 entry_kept n (Ok f) e is h = h
-entry_kept n (Err z) e is h = unless_not (is_memory z) is.0 h
+entry_kept n (Err z) e is h = unless_not (is_out_of_memory z) is.0 h
 
 module _ (y : Symbols) (old new : ℕ → Option SearchEntry) (j : ℕ) where
   abbrev so_many : ℕ
@@ -297,6 +297,6 @@ module _ (y : Symbols) (old new : ℕ → Option SearchEntry) (j : ℕ) where
       )
   searched_more (Err z) e finds (is, mark) h (hold, past) =
       let made : (i : ℕ) → new i ≡ (if nat_eq j i then Some (NoForm so_many) else old i) = λ i. h i ∙ ap (λ (x : SearchEntry). if nat_eq j i then Some x else old i) mark in (
-        entry_holds None (meets_mark so_many old new j so_many refl made) (unless_not (is_memory z) is finds) hold,
+        entry_holds None (meets_mark so_many old new j so_many refl made) (unless_not (is_out_of_memory z) is finds) hold,
         past_mark so_many old new j so_many refl made past,
       )

@@ -6,12 +6,12 @@ use Rattle.syntax65.specs.Kinds.{tree_of}
 use Rattle.syntax65.specs.declared.expressions.trees.ExprKind.{ExprKind}
 use Rattle.syntax65.specs.declared.expressions.trees.ExprKind.TheVariants as kind
 use Rattle.syntax65.specs.declared.expressions.trees.Name.{Name}
-use Rattle.symbols65.specs.Resolving.{IsReference, defined_place, plain_part}
+use Rattle.symbols65.specs.Resolving.{IsReference, defined_index, plain_part}
 use Rattle.std.specs.Prelude.{Result, codes, slice_get}
 use Rattle.std.proofs.lemmas.List.{append_assoc}
-use Rattle.semantics65.specs.declared.laid.Context.{Context}
+use Rattle.semantics65.specs.declared.contexts.Context.{Context}
 use Rattle.ast65.specs.declared.fault.AsmFault.{AsmFault}
-use Rattle.semantics65.specs.Symbols.{Symbols, Binding, definition_index, named, Scope, first_found, qualified_name, last_of, binding_of, or_else, or_fault, outward_from, plain_meaning, scoped_meaning, scopes_from, scopes_of, enclosing, nested_scope, scope_in, parent_scope}
+use Rattle.semantics65.specs.Symbols.{Symbols, Binding, definition_index, named, Scope, first_found, qualified_name, last_of, binding_of, or_else, binding_or_fault, outward_from, plain_binding, scoped_binding, scopes_from, scope_path, enclosing, nested_scope, scope_in, parent_scope}
 use Rattle.std.specs.List.{position_from}
 use Rattle.std.proofs.lemmas.Bool.Decides.{nat_tests}
 use Rattle.std.proofs.lemmas.Iterator.Adapters.{position_from-zero}
@@ -27,7 +27,7 @@ reference k e is taken = grind (arith, common_steps)
 
 -- ---- The parts of names.
 
-pub scopes_before : (rest : List (List ℕ)) (n : List ℕ) → scopes_of (rest ++ n ∷ []) ≡ rest
+pub scopes_before : (rest : List (List ℕ)) (n : List ℕ) → scope_path (rest ++ n ∷ []) ≡ rest
 scopes_before [] n = refl
 scopes_before (m ∷ []) n = refl
 scopes_before (m ∷ k ∷ rest) n = ap (λ l. m ∷ l) (scopes_before (k ∷ rest) n)
@@ -48,8 +48,8 @@ joined_first n (m ∷ names) = append_assoc n (codes "::") (qualified_name (m �
 
 -- what a name means where it stands, by its one part if it is plain
 abbrev pub name_meaning : Symbols → Context → Bool → List (List ℕ) → Option (List ℕ) → Result Binding AsmFault
-name_meaning y s global parts (Some n) = plain_meaning y s.scope n
-name_meaning y s global parts None = scoped_meaning y s global parts
+name_meaning y s global parts (Some n) = plain_binding y s.scope n
+name_meaning y s global parts None = scoped_binding y s global parts
 
 pub name_is : (y : Symbols) (s : Context) (global : Bool) (parts : List (List ℕ)) → binding_of y s (name global parts) ≡ name_meaning y s global parts (plain_part global parts)
 name_is y s false [] = refl
@@ -58,11 +58,11 @@ name_is y s false (n ∷ m ∷ names) = refl
 name_is y s true [] = refl
 name_is y s true (n ∷ names) = refl
 
-defined_first : (e : AsmFault) (o other : Option ℕ) → o ≡ defined_place (or_fault e o other)
+defined_first : (e : AsmFault) (o other : Option ℕ) → o ≡ defined_index (binding_or_fault e o other)
 defined_first e x other = grind (arith, common_steps)
 
 -- what a plain name means is defined where a scope from its own outward defines it
-pub defined_outward_at : (y : Symbols) (s : Context) (global : Bool) (parts : List (List ℕ)) (n : List ℕ) → plain_part global parts ≡ Some n → first_found (λ c. definition_index y (named c n)) (scopes_from y.scopes s.scope) ≡ defined_place (binding_of y s (name global parts))
+pub defined_outward_at : (y : Symbols) (s : Context) (global : Bool) (parts : List (List ℕ)) (n : List ℕ) → plain_part global parts ≡ Some n → first_found (λ c. definition_index y (named c n)) (scopes_from y.scopes s.scope) ≡ defined_index (binding_of y s (name global parts))
 defined_outward_at y s false [] n e = absurd cc
 defined_outward_at y s false (m ∷ []) n e = grind (arith, common_steps, defined_first)
 defined_outward_at y s false (m ∷ k ∷ parts) n e = absurd cc

@@ -10,8 +10,8 @@ use Rattle.semantics65.specs.declared.contents.Segment.{Segment}
 use Rattle.std.specs.Str.{bytes_eq}
 use Rattle.object65.specs.Objects.{section_limit}
 use Rattle.symbols65.specs.declared.cursor.Cursor.TheInside.{Inside}
-use Rattle.semantics65.specs.Layout.{segment_after, grown_at, place_of, segment_at}
-use Rattle.symbols65.specs.Internal.Cursors.{AreWithin, IsSoundCursor}
+use Rattle.semantics65.specs.Layout.{segment_after, with_grown_segment, segment_index, segment_at}
+use Rattle.symbols65.specs.Internal.Cursors.{HaveBoundedSizes, IsWellFormedCursor}
 use Rattle.ast65.proofs.Lists.{bytes_swap, position_mapped}
 use Rattle.semantics65.proofs.Segments.{all_more, all_same, grown_length, grown_names}
 
@@ -29,7 +29,7 @@ segment_or [] i g lt = absurd (omega arith)
 segment_or (h ∷ gs) zero g lt = refl
 segment_or (h ∷ gs) (suc i) g lt = segment_or gs i g (omega arith)
 
-pub grown_is : (gs : List Segment) (i count alignment : ℕ) → set gs i (segment_after count alignment (segment_at gs i)) ≡ grown_at gs i count alignment
+pub grown_is : (gs : List Segment) (i count alignment : ℕ) → set gs i (segment_after count alignment (segment_at gs i)) ≡ with_grown_segment gs i count alignment
 grown_is [] i count alignment = refl
 grown_is (g ∷ gs) zero count alignment = refl
 grown_is (g ∷ gs) (suc i) count alignment = ap (λ hs. g ∷ hs) (grown_is gs i count alignment)
@@ -40,7 +40,7 @@ same_test : {A : Type 0} (p q : A → Bool) → ((x : A) → p x ≡ q x) → (x
 same_test p q h xs = ap (λ (t : _ → Bool). position t xs) (fun_ext h)
 
 -- the place of a name among those of the segments
-pub place_is : (n : List ℕ) (w : Inside) → map (λ k. k.items) w.names.keys ≡ map (λ (g : Segment). g.name) w.segments.items → position (λ k. bytes_eq n k.items) w.names.keys ≡ place_of w.segments.items n
+pub place_is : (n : List ℕ) (w : Inside) → map (λ k. k.items) w.names.keys ≡ map (λ (g : Segment). g.name) w.segments.items → position (λ k. bytes_eq n k.items) w.names.keys ≡ segment_index w.segments.items n
 place_is n w e =
     sym (position_mapped (bytes_eq n) (λ k. k.items) w.names.keys)
     ∙ ap (position (bytes_eq n)) e
@@ -49,38 +49,38 @@ place_is n w e =
 
 -- ---- Ends.
 
-pub grown_within : (gs : List Segment) (i count alignment : ℕ) → (segment_at gs i).end + count ≤ section_limit → AreWithin gs → AreWithin (grown_at gs i count alignment)
+pub grown_within : (gs : List Segment) (i count alignment : ℕ) → (segment_at gs i).end + count ≤ section_limit → HaveBoundedSizes gs → HaveBoundedSizes (with_grown_segment gs i count alignment)
 grown_within [] i count alignment le h = tt
 grown_within (g ∷ gs) zero count alignment le h = (le, h.1)
 grown_within (g ∷ gs) (suc i) count alignment le h = (h.0, grown_within gs i count alignment le h.1)
 
 -- what is written over the segments, where it is they with one grown
-pub written_grown : (n : ℕ) (new held gs : List Segment) (i count alignment : ℕ) → held ≡ gs → length held ≡ n → length new ≡ length held → new ≡ grown_at held i count alignment → take n (new ++ drop (length new) gs) ≡ grown_at gs i count alignment
+pub written_grown : (n : ℕ) (new held gs : List Segment) (i count alignment : ℕ) → held ≡ gs → length held ≡ n → length new ≡ length held → new ≡ with_grown_segment held i count alignment → take n (new ++ drop (length new) gs) ≡ with_grown_segment gs i count alignment
 written_grown n new held gs i count alignment value long same e =
-    written_over n new gs (same ∙ ap length value) (sym long ∙ ap length value) ∙ e ∙ ap (λ hs. grown_at hs i count alignment) value
+    written_over n new gs (same ∙ ap length value) (sym long ∙ ap length value) ∙ e ∙ ap (λ hs. with_grown_segment hs i count alignment) value
 
-pub within_at : (gs : List Segment) (i : ℕ) → AreWithin gs → i < length gs → (segment_at gs i).end ≤ section_limit
+pub within_at : (gs : List Segment) (i : ℕ) → HaveBoundedSizes gs → i < length gs → (segment_at gs i).end ≤ section_limit
 within_at [] i h lt = absurd (omega arith)
 within_at (g ∷ gs) zero h lt = h.0
 within_at (g ∷ gs) (suc i) h lt = within_at gs i h.1 (omega arith)
 
 -- ---- What is sound.
 
-pub sound_of : (v : Inside) (gs : List Segment) (i : ℕ) → v.segments.items ≡ gs → v.current ≡ i → i < length gs → AreWithin gs → map (λ k. k.items) v.names.keys ≡ map (λ (g : Segment). g.name) gs → AllByRecursion (λ k. k < length gs) v.kept.items → IsSoundCursor v
-sound_of v gs i e at lt within names kept = record { current = rw (e, at) lt; ends = rw e within; names = rw e names; kept = rw e kept }
+pub sound_of : (v : Inside) (gs : List Segment) (i : ℕ) → v.segments.items ≡ gs → v.current ≡ i → i < length gs → HaveBoundedSizes gs → map (λ k. k.items) v.names.keys ≡ map (λ (g : Segment). g.name) gs → AllByRecursion (λ k. k < length gs) v.pushed_segments.items → IsWellFormedCursor v
+sound_of v gs i e at lt within names kept = record { current = rw (e, at) lt; ends = rw e within; names = rw e names; pushed_segments = rw e kept }
 
-pub sound_grown : (w v : Inside) (count alignment : ℕ) → IsSoundCursor w → (segment_at w.segments.items w.current).end + count ≤ section_limit → v.segments.items ≡ grown_at w.segments.items w.current count alignment → v.current ≡ w.current → v.names ≡ w.names → v.kept ≡ w.kept → IsSoundCursor v
-sound_grown w v count alignment sound capacity e at names kept =
-    let gs = grown_at w.segments.items w.current count alignment in
+pub sound_grown : (w v : Inside) (count alignment : ℕ) → IsWellFormedCursor w → (segment_at w.segments.items w.current).end + count ≤ section_limit → v.segments.items ≡ with_grown_segment w.segments.items w.current count alignment → v.current ≡ w.current → v.names ≡ w.names → v.pushed_segments ≡ w.pushed_segments → IsWellFormedCursor v
+sound_grown w v count alignment sound fits e at names kept =
+    let gs = with_grown_segment w.segments.items w.current count alignment in
     let long = grown_length w.segments.items w.current count alignment in
-    sound_of v gs w.current e at (rw long sound.current) (grown_within w.segments.items w.current count alignment capacity sound.ends)
-    (rw names (sound.names ∙ sym (grown_names w.segments.items w.current count alignment))) (rw (kept, long) sound.kept)
+    sound_of v gs w.current e at (rw long sound.current) (grown_within w.segments.items w.current count alignment fits sound.ends)
+    (rw names (sound.names ∙ sym (grown_names w.segments.items w.current count alignment))) (rw (kept, long) sound.pushed_segments)
 
-pub sound_begun : (w v : Inside) (n : List ℕ) (g : Segment) → IsSoundCursor w → g.name ≡ n → g.end ≡ 0 → v.segments.items ≡ w.segments.items ++ g ∷ [] → v.current ≡ length w.segments.items → v.kept ≡ w.kept → map (λ k. k.items) v.names.keys ≡ map (λ k. k.items) w.names.keys ++ n ∷ [] → IsSoundCursor v
+pub sound_begun : (w v : Inside) (n : List ℕ) (g : Segment) → IsWellFormedCursor w → g.name ≡ n → g.end ≡ 0 → v.segments.items ≡ w.segments.items ++ g ∷ [] → v.current ≡ length w.segments.items → v.pushed_segments ≡ w.pushed_segments → map (λ k. k.items) v.names.keys ≡ map (λ k. k.items) w.names.keys ++ n ∷ [] → IsWellFormedCursor v
 sound_begun w v n g sound name end e at kept names = grind (arith, common_steps, length-append, sound_of, all_more, map-append, all_same)
 
 -- a name that no segment has is new among theirs
-pub new_name : (n : List ℕ) (w : Inside) → IsSoundCursor w → place_of w.segments.items n ≡ None → list_any (λ k. bytes_eq n k) (map (λ k. k.items) w.names.keys) ≡ false
+pub new_name : (n : List ℕ) (w : Inside) → IsWellFormedCursor w → segment_index w.segments.items n ≡ None → list_any (λ k. bytes_eq n k) (map (λ k. k.items) w.names.keys) ≡ false
 new_name n w sound none = absent (map (λ k. k.items) w.names.keys) (position_mapped (bytes_eq n) (λ k. k.items) w.names.keys ∙ place_is n w sound.names ∙ none)
   where
     go : (i : ℕ) (ns : List (List ℕ)) → position_from (bytes_eq n) i ns ≡ None → list_any (λ k. bytes_eq n k) ns ≡ false

@@ -12,8 +12,8 @@ use Rattle.symbols65.specs.declared.table.symbols.InternedKey.{InternedKey}
 use Rattle.symbols65.specs.declared.table.symbols.Symbols.{Symbols}
 use Rattle.std.specs.Option.{option_and_then}
 use Rattle.std.specs.Result.{result_ok}
-use Rattle.symbols65.specs.Resolving.{FoundBy}
-use Rattle.symbols65.specs.Views.{final_form, known_by, table_of, words_of}
+use Rattle.symbols65.specs.Resolving.{HaveBoundedDepth}
+use Rattle.symbols65.specs.Views.{final_form, known_by, table_of, interned_names_of}
 use Rattle.symbols65.specs.Tables.{definition_in}
 use Rattle.symbols65.proofs.Words.{get_mapped, get_stays, without_imports}
 use Rattle.symbols65.proofs.Turns.{extends_itself, constant_course, constant_is, ok_later}
@@ -30,8 +30,8 @@ module _ (t : Symbols) where
       by None is e = absurd cc
       by (Some e) is q =
           let own = has_form _ f ((t.forms_final j e is).0 f q z (without_imports t z more)) in
-          let at : slice_get (table_of t).definitions j ≡ Some (definition_in (words_of t) e) = get_mapped (definition_in (words_of t)) t.definitions.entries j e is in
-          let lt : j < length (table_of t).definitions = slice_get_within (table_of t).definitions j (definition_in (words_of t) e) at in
+          let at : slice_get (table_of t).definitions j ≡ Some (definition_in (interned_names_of t) e) = get_mapped (definition_in (interned_names_of t)) t.definitions.entries j e is in
+          let lt : j < length (table_of t).definitions = slice_get_within (table_of t).definitions j (definition_in (interned_names_of t) e) at in
           ap (λ ds. form_of_definition (norm (suc j) z) (slice_get ds j)) more.definitions
           ∙ ap (form_of_definition (norm (suc j) z)) (get_stays (table_of t).definitions more.later_definitions j lt ∙ at)
           ∙ own
@@ -43,11 +43,11 @@ module _ (t : Symbols) where
   pub known_inside : (j : ℕ) (f : Form) → final_form t j ≡ Some f → j < length (table_of t).definitions
   known_inside j f h = grind (arith, common_steps, slice_get_within, get_mapped)
 
-  pub finals_found : FoundBy (length (table_of t).definitions) (table_of t) (final_form t)
+  pub finals_found : HaveBoundedDepth (length (table_of t).definitions) (table_of t) (final_form t)
   finals_found = λ j f h. final_among (table_of t) (extends_itself (table_of t)) (length (table_of t).definitions) j f (known_inside j f h) h
 
   -- so is what is known by these and by a search
-  pub known_found : (c : ℕ) (found : ℕ → Option Form) → FoundBy c (table_of t) found → FoundBy (c + length (table_of t).definitions) (table_of t) (known_by t found)
+  pub known_found : (c : ℕ) (found : ℕ → Option Form) → HaveBoundedDepth c (table_of t) found → HaveBoundedDepth (c + length (table_of t).definitions) (table_of t) (known_by t found)
   known_found c found h = λ j f e. by j f (final_form t j) refl e
     where
       later : (j n : ℕ) (f : Form) → n ≤ c + length (table_of t).definitions → constant_course (table_of t) j n ≡ Ok f → constant_course (table_of t) j (c + length (table_of t).definitions) ≡ Ok f

@@ -7,9 +7,9 @@ use Rattle.object65.specs.Form.{Form}
 use Rattle.object65.specs.Folding.{fold1}
 use Rattle.ast65.specs.declared.fault.AsmFault.{AsmFault}
 use Rattle.ast65.specs.declared.fault.AsmFault.TheVariants.{Circular}
-use Rattle.semantics65.specs.declared.laid.Context.{Context}
+use Rattle.semantics65.specs.declared.contexts.Context.{Context}
 use Rattle.semantics65.specs.Symbols.{Symbols, Definition, Binding, binding_of}
-use Rattle.semantics65.specs.Norms.{fold_result, form_by, form_of_value, form_of_definition, form_of_meaning, norm, norm_of}
+use Rattle.semantics65.specs.Norms.{fold_result, form_by, form_of_value, form_of_definition, form_of_binding, norm, norm_of}
 use Rattle.std.proofs.Math.Path.{fun_ext}
 use Rattle.std.specs.Prelude.{sum_by}
 use Rattle.std.proofs.lemmas.Bool.Decides.{nat_tests}
@@ -42,16 +42,16 @@ known_form a b s h (binary op e g) = grind (arith, common_steps, (known_form a b
 pub known_definition : (a b : Context → Tree → Result Form AsmFault) → ((s : Context) (e : Tree) → NormCache (a s e) (b s e)) → (o : Option Definition) → NormCache (form_of_definition a o) (form_of_definition b o)
 known_definition a b h x = grind (arith, common_steps)
 
-known_meaning : (a b : Context → Tree → Result Form AsmFault) (table : Symbols) → ((s : Context) (e : Tree) → NormCache (a s e) (b s e)) → (m : Binding) → NormCache (form_of_meaning a table m) (form_of_meaning b table m)
+known_meaning : (a b : Context → Tree → Result Form AsmFault) (table : Symbols) → ((s : Context) (e : Tree) → NormCache (a s e) (b s e)) → (m : Binding) → NormCache (form_of_binding a table m) (form_of_binding b table m)
 known_meaning a b table h x = grind (arith, common_steps, known_definition)
 
-known_result : (a b : Context → Tree → Result Form AsmFault) (table : Symbols) → ((s : Context) (e : Tree) → NormCache (a s e) (b s e)) → (m : Result Binding AsmFault) → NormCache (m >>= form_of_meaning a table) (m >>= form_of_meaning b table)
+known_result : (a b : Context → Tree → Result Form AsmFault) (table : Symbols) → ((s : Context) (e : Tree) → NormCache (a s e) (b s e)) → (m : Result Binding AsmFault) → NormCache (m >>= form_of_binding a table) (m >>= form_of_binding b table)
 known_result a b table h x = grind (arith, common_steps, known_meaning)
 
 pub norm_known : (n : ℕ) (table : Symbols) (s : Context) (e : Tree) → NormCache (norm n table s e) (norm (suc n) table s e)
 norm_known zero table s e = inl refl
 norm_known (suc n) table s e =
-    known_form (λ t. binding_of table s t >>= form_of_meaning (norm n table) table) (λ t. binding_of table s t >>= form_of_meaning (norm (suc n) table) table) s
+    known_form (λ t. binding_of table s t >>= form_of_binding (norm n table) table) (λ t. binding_of table s t >>= form_of_binding (norm (suc n) table) table) s
     (λ t. known_result (norm n table) (norm (suc n) table) table (norm_known n table) (binding_of table s t)) e
 
 -- ---- What is said so at more and more turns.
@@ -196,13 +196,13 @@ module _ (y : Symbols) where
           let (m, le_m, still) = rest (omega (arith, le, fewer_there, other)) in
           (m, omega (arith, le_m), still)
 
-  operand_still : (n : ℕ) → IsStill n → (m : Result Binding AsmFault) → (m >>= form_of_meaning (norm n y) y) ≡ (m >>= form_of_meaning (norm (suc n) y) y)
+  operand_still : (n : ℕ) → IsStill n → (m : Result Binding AsmFault) → (m >>= form_of_binding (norm n y) y) ≡ (m >>= form_of_binding (norm (suc n) y) y)
   operand_still n h x = grind (arith, common_steps)
 
   form_still : (n : ℕ) → IsStill n → (s : Context) (e : Tree) → norm (suc n) y s e ≡ norm (suc (suc n)) y s e
   form_still n h s e =
-      let a : Tree → Result Form AsmFault = λ t. binding_of y s t >>= form_of_meaning (norm n y) y in
-      let b : Tree → Result Form AsmFault = λ t. binding_of y s t >>= form_of_meaning (norm (suc n) y) y in
+      let a : Tree → Result Form AsmFault = λ t. binding_of y s t >>= form_of_binding (norm n y) y in
+      let b : Tree → Result Form AsmFault = λ t. binding_of y s t >>= form_of_binding (norm (suc n) y) y in
       let same : a ≡ b = fun_ext (λ t. operand_still n h (binding_of y s t)) in
       ap (λ (o : Tree → Result Form AsmFault). form_by o s e) same
 

@@ -18,13 +18,13 @@ use Rattle.symbols65.specs.declared.table.symbols.InternedKey.TheVariants as ent
 use Rattle.symbols65.specs.declared.table.symbols.ScopeKey.{ScopeKey}
 use Rattle.symbols65.specs.declared.table.symbols.ScopeKey.TheVariants as opening
 use Rattle.symbols65.specs.declared.table.symbols.Definition.{Definition}
-use Rattle.symbols65.specs.Tables.{AreCounted, AreInnerKnown, AreNumbered, IsCounted, definition_in, entry_of, first_number, key_in, same_entry, same_opening, scope_by, scope_opened, table_without_imports, word_at, word_of, word_opened, IsPrefixOf}
-use Rattle.symbols65.specs.Views.{table_of, words_of}
+use Rattle.symbols65.specs.Tables.{AreCounted, AreInnerKnown, AreNumbered, IsCounted, definition_in, interned_key_of, first_number, key_in, same_interned_key, same_scope_key, scope_by, scope_opened, table_without_imports, interned_name, key_name_id, scope_name_id, IsPrefixOf}
+use Rattle.symbols65.specs.Views.{table_of, interned_names_of}
 use Rattle.symbols65.specs.declared.table.symbols.Symbols.{Symbols}
 use Rattle.indexmap.specs.IndexSet.{insert_key}
 
 -- what extends a table extends it without its imports
-pub without_imports : (t : Symbols) (z : l.Symbols) → Extends (table_of t) z → Extends (table_without_imports (words_of t) t.definitions.entries t.scopes.entries) z
+pub without_imports : (t : Symbols) (z : l.Symbols) → Extends (table_of t) z → Extends (table_without_imports (interned_names_of t) t.definitions.entries t.scopes.entries) z
 without_imports t z h = record { later_definitions = h.later_definitions; definitions = h.definitions; later_scopes = h.later_scopes; scopes = h.scopes }
 
 -- ---- Tests.
@@ -117,7 +117,7 @@ get_mapped_none f (y ∷ xs) (suc i) e = get_mapped_none f xs i e
 pub itself : (n : List ℕ) → bytes_eq n n ≡ true
 itself n = grind (arith, bytes_eq-Decides n n)
 
-pub get_word : (ws : List (List ℕ)) (w : ℕ) (n : List ℕ) → slice_get ws w ≡ Some n → word_at ws w ≡ n
+pub get_word : (ws : List (List ℕ)) (w : ℕ) (n : List ℕ) → slice_get ws w ≡ Some n → interned_name ws w ≡ n
 get_word [] w n e = absurd cc
 get_word (m ∷ ws) zero n e = cc
 get_word (m ∷ ws) (suc w) n e = get_word ws w n e
@@ -128,22 +128,22 @@ is_number None v = false
 is_number (Some w) v = w == v
 
 -- a word that has its first number is found by its name, and by no other
-pub word_test : (ws : List (List ℕ)) (n : List ℕ) (v : ℕ) → position (bytes_eq (word_at ws v)) ws ≡ Some v → is_number (position (bytes_eq n) ws) v ≡ bytes_eq (word_at ws v) n
-word_test ws n v h = same_test (is_number (position (bytes_eq n) ws) v) (bytes_eq (word_at ws v) n) (λ t. found (position (bytes_eq n) ws) refl t) (λ t. (let same : word_at ws v ≡ n = same_bytes (word_at ws v) n t in ap (λ m. is_number (position (bytes_eq m) ws) v) (sym same) ∙ ap (λ o. is_number o v) h ∙ (let own : (v == v) ≡ true = grind (arith, nat_tests) in own)))
+pub word_test : (ws : List (List ℕ)) (n : List ℕ) (v : ℕ) → position (bytes_eq (interned_name ws v)) ws ≡ Some v → is_number (position (bytes_eq n) ws) v ≡ bytes_eq (interned_name ws v) n
+word_test ws n v h = same_test (is_number (position (bytes_eq n) ws) v) (bytes_eq (interned_name ws v) n) (λ t. found (position (bytes_eq n) ws) refl t) (λ t. (let same : interned_name ws v ≡ n = same_bytes (interned_name ws v) n t in ap (λ m. is_number (position (bytes_eq m) ws) v) (sym same) ∙ ap (λ o. is_number o v) h ∙ (let own : (v == v) ≡ true = grind (arith, nat_tests) in own)))
   where
-    found : (o : Option ℕ) → position (bytes_eq n) ws ≡ o → is_number o v ≡ true → bytes_eq (word_at ws v) n ≡ true
+    found : (o : Option ℕ) → position (bytes_eq n) ws ≡ o → is_number o v ≡ true → bytes_eq (interned_name ws v) n ≡ true
     found None e t = absurd cc
     found (Some w) e t =
         let one : w ≡ v = grind (arith, nat_tests) in
         let (m, at, passes) = first_passes (bytes_eq n) ws w e in
-        let is : word_at ws v ≡ m = ap (word_at ws) (sym one) ∙ get_word ws w m at in
+        let is : interned_name ws v ≡ m = ap (interned_name ws) (sym one) ∙ get_word ws w m at in
         ap (λ k. bytes_eq k n) is ∙ bytes_swap m n ∙ passes
 
 -- ---- Definitions.
 
 abbrev tests : Option InternedKey → InternedKey → Bool
 tests None k = false
-tests (Some q) k = same_entry q k
+tests (Some q) k = same_interned_key q k
 
 pub and_false : (b : Bool) → (b && false) ≡ false
 and_false true = refl
@@ -155,15 +155,15 @@ named_test s t v x = grind (arith, common_steps)
 cheap_test : (s t v : ℕ) (o : Option ℕ) → tests (option_map (entry.Cheap s) o) (entry.Cheap t v) ≡ (s == t && is_number o v)
 cheap_test s t v x = grind (arith, common_steps)
 
-other_named : (s : ℕ) (o : Option ℕ) (k : InternedKey) → ((w : ℕ) → same_entry (entry.Named s w) k ≡ false) → tests (option_map (entry.Named s) o) k ≡ false
+other_named : (s : ℕ) (o : Option ℕ) (k : InternedKey) → ((w : ℕ) → same_interned_key (entry.Named s w) k ≡ false) → tests (option_map (entry.Named s) o) k ≡ false
 other_named s x k h = grind (arith, common_steps)
 
-other_cheap : (s : ℕ) (o : Option ℕ) (k : InternedKey) → ((w : ℕ) → same_entry (entry.Cheap s w) k ≡ false) → tests (option_map (entry.Cheap s) o) k ≡ false
+other_cheap : (s : ℕ) (o : Option ℕ) (k : InternedKey) → ((w : ℕ) → same_interned_key (entry.Cheap s w) k ≡ false) → tests (option_map (entry.Cheap s) o) k ≡ false
 other_cheap s x k h = grind (arith, common_steps)
 
 abbrev opens : Option ScopeKey → ScopeKey → Bool
 opens None k = false
-opens (Some q) k = same_opening q k
+opens (Some q) k = same_scope_key q k
 
 opened_test : (s t v : ℕ) (o : Option ℕ) → opens (option_map (opening.Named s) o) (opening.Named t v) ≡ (s == t && is_number o v)
 opened_test s t v x = grind (arith, common_steps)
@@ -173,14 +173,14 @@ other_opened s t v x = grind (arith, common_steps)
 
 abbrev pub place_of_opening : List (ScopeKey × Bool) → Option ScopeKey → Option ℕ
 place_of_opening ss None = None
-place_of_opening ss (Some k) = position (same_opening k) (keys_of ss)
+place_of_opening ss (Some k) = position (same_scope_key k) (keys_of ss)
 
 abbrev pub place_of_entry : List (InternedKey × Definition) → Option InternedKey → Option ℕ
 place_of_entry es None = None
-place_of_entry es (Some k) = position (same_entry k) (keys_of es)
+place_of_entry es (Some k) = position (same_interned_key k) (keys_of es)
 
 module _ (ws : List (List ℕ)) where
-  entry_test : (q : Key) (k : InternedKey) → first_number ws (word_of k) ≡ word_of k → tests (entry_of ws q) k ≡ same_key (key_in ws k) q
+  entry_test : (q : Key) (k : InternedKey) → first_number ws (key_name_id k) ≡ key_name_id k → tests (interned_key_of ws q) k ≡ same_key (key_in ws k) q
   entry_test (named s n) (entry.Named t v) h = named_test s t v (position (bytes_eq n) ws) ∙ ap (λ b. b && is_number (position (bytes_eq n) ws) v) (swapped s t) ∙ ap (λ b. t == s && b) (word_test ws n v h)
   entry_test (named s n) (entry.Cheap t v) h = other_named s (position (bytes_eq n) ws) (entry.Cheap t v) (λ w. refl)
   entry_test (named s n) (entry.Unnamed c) h = other_named s (position (bytes_eq n) ws) (entry.Unnamed c) (λ w. refl)
@@ -200,30 +200,30 @@ module _ (ws : List (List ℕ)) where
   keys_position p es = position_mapped p (λ e. e.0) es
 
   -- what is found by the number of its name is what the table defines
-  pub finds : (es : List (InternedKey × Definition)) (q : Key) → AreNumbered word_of ws (keys_of es) → place_of_entry es (entry_of ws q) ≡ position (λ d. same_key d.key q) (map (definition_in ws) es)
-  finds es q h = by (entry_of ws q) refl ∙ sym (position_mapped (λ d. same_key d.key q) (definition_in ws) es)
+  pub finds : (es : List (InternedKey × Definition)) (q : Key) → AreNumbered key_name_id ws (keys_of es) → place_of_entry es (interned_key_of ws q) ≡ position (λ d. same_key d.key q) (map (definition_in ws) es)
+  finds es q h = by (interned_key_of ws q) refl ∙ sym (position_mapped (λ d. same_key d.key q) (definition_in ws) es)
     where
-      by : (o : Option InternedKey) → entry_of ws q ≡ o → place_of_entry es o ≡ position (λ e. same_key (key_in ws e.0) q) es
+      by : (o : Option InternedKey) → interned_key_of ws q ≡ o → place_of_entry es o ≡ position (λ e. same_key (key_in ws e.0) q) es
       by None is = sym (position_none (λ e. same_key (key_in ws e.0) q) es (λ i e at. sym (entry_test q e.0 (h i e.0 (keys_get es i e at))) ∙ ap (λ o. tests o e.0) is))
-      by (Some k) is = keys_position (same_entry k) es ∙ position_same (λ e. same_entry k e.0) (λ e. same_key (key_in ws e.0) q) es (λ i e at. sym (ap (λ o. tests o e.0) is) ∙ entry_test q e.0 (h i e.0 (keys_get es i e at)))
+      by (Some k) is = keys_position (same_interned_key k) es ∙ position_same (λ e. same_interned_key k e.0) (λ e. same_key (key_in ws e.0) q) es (λ i e at. sym (ap (λ o. tests o e.0) is) ∙ entry_test q e.0 (h i e.0 (keys_get es i e at)))
 
   -- no unnamed label has a count that is no machine's number
-  pub never_counted : (es : List (InternedKey × Definition)) (count : ℕ) → AreNumbered word_of ws (keys_of es) → AreCounted (keys_of es) → 2 ^ 64 ≤ count → position (λ d. same_key d.key (unnamed_at count)) (map (definition_in ws) es) ≡ None
-  never_counted es count h counted le = sym (finds es (unnamed_at count) h) ∙ position_none (same_entry (entry.Unnamed count)) (keys_of es) (λ i k at. differs k (counted i k at))
+  pub never_counted : (es : List (InternedKey × Definition)) (count : ℕ) → AreNumbered key_name_id ws (keys_of es) → AreCounted (keys_of es) → 2 ^ 64 ≤ count → position (λ d. same_key d.key (unnamed_at count)) (map (definition_in ws) es) ≡ None
+  never_counted es count h counted le = sym (finds es (unnamed_at count) h) ∙ position_none (same_interned_key (entry.Unnamed count)) (keys_of es) (λ i k at. differs k (counted i k at))
     where
-      differs : (k : InternedKey) → IsCounted k → same_entry (entry.Unnamed count) k ≡ false
+      differs : (k : InternedKey) → IsCounted k → same_interned_key (entry.Unnamed count) k ≡ false
       differs (entry.Named t v) own = refl
       differs (entry.Cheap t v) own = refl
       differs (entry.Unnamed d) own = (let lt = own d refl in grind (arith, nat_tests, lt, le))
 
   -- no scope but the global one defines a word of which none is noted
-  pub never_inner : (es : List (InternedKey × Definition)) (inner : List Bool) (w : ℕ) → AreNumbered word_of ws (keys_of es) → AreInnerKnown (keys_of es) inner → (slice_get inner w ≡ Some true → ⊥) → (scope : ℕ) (n : List ℕ) → position (bytes_eq n) ws ≡ Some w → position (λ d. same_key d.key (named (suc scope) n)) (map (definition_in ws) es) ≡ None
+  pub never_inner : (es : List (InternedKey × Definition)) (inner : List Bool) (w : ℕ) → AreNumbered key_name_id ws (keys_of es) → AreInnerKnown (keys_of es) inner → (slice_get inner w ≡ Some true → ⊥) → (scope : ℕ) (n : List ℕ) → position (bytes_eq n) ws ≡ Some w → position (λ d. same_key d.key (named (suc scope) n)) (map (definition_in ws) es) ≡ None
   never_inner es inner w h known none scope n at =
       sym (finds es (named (suc scope) n) h)
       ∙ ap (λ o. place_of_entry es (option_map (entry.Named (suc scope)) o)) at
-      ∙ position_none (same_entry (entry.Named (suc scope) w)) (keys_of es) (λ i k here. differs k (λ is. none (known i k here scope w is)))
+      ∙ position_none (same_interned_key (entry.Named (suc scope) w)) (keys_of es) (λ i k here. differs k (λ is. none (known i k here scope w is)))
     where
-      differs : (k : InternedKey) → (k ≡ entry.Named (suc scope) w → ⊥) → same_entry (entry.Named (suc scope) w) k ≡ false
+      differs : (k : InternedKey) → (k ≡ entry.Named (suc scope) w → ⊥) → same_interned_key (entry.Named (suc scope) w) k ≡ false
       differs (entry.Named t v) other = by ((suc scope == t) && (w == v)) refl
         where
           by : (b : Bool) → ((suc scope == t) && (w == v)) ≡ b → ((suc scope == t) && (w == v)) ≡ false
@@ -237,11 +237,11 @@ module _ (ws : List (List ℕ)) where
 
   -- ---- Scopes.
 
-  opening_test : (s : ℕ) (n : List ℕ) (k : ScopeKey) (is_proc : Bool) → first_number ws (word_opened k) ≡ word_opened k → opens (option_map (opening.Named s) (position (bytes_eq n) ws)) k ≡ ((scope_by ws k is_proc).within == s && is_named n (scope_by ws k is_proc).name)
+  opening_test : (s : ℕ) (n : List ℕ) (k : ScopeKey) (is_proc : Bool) → first_number ws (scope_name_id k) ≡ scope_name_id k → opens (option_map (opening.Named s) (position (bytes_eq n) ws)) k ≡ ((scope_by ws k is_proc).within == s && is_named n (scope_by ws k is_proc).name)
   opening_test s n x is_proc h = grind (arith, common_steps, opened_test, swapped, word_test, other_opened, and_false)
 
   -- what is found by the number of its name is what the table opened
-  pub finds_opened : (ss : List (ScopeKey × Bool)) (s : ℕ) (n : List ℕ) → AreNumbered word_opened ws (keys_of ss) →
+  pub finds_opened : (ss : List (ScopeKey × Bool)) (s : ℕ) (n : List ℕ) → AreNumbered scope_name_id ws (keys_of ss) →
       place_of_opening ss (option_map (opening.Named s) (position (bytes_eq n) ws)) ≡ position (λ c. c.within == s && is_named n c.name) (map (scope_opened ws) ss)
   finds_opened ss s n h = by (option_map (opening.Named s) (position (bytes_eq n) ws)) refl ∙ sym (position_mapped is_it (scope_opened ws) ss)
     where
@@ -250,7 +250,7 @@ module _ (ws : List (List ℕ)) where
 
       by : (o : Option ScopeKey) → option_map (opening.Named s) (position (bytes_eq n) ws) ≡ o → place_of_opening ss o ≡ position (λ e. is_it (scope_opened ws e)) ss
       by None is = sym (position_none (λ e. is_it (scope_opened ws e)) ss (λ i e at. sym (opening_test s n e.0 e.1 (h i e.0 (keys_get ss i e at))) ∙ ap (λ o. opens o e.0) is))
-      by (Some k) is = keys_position (same_opening k) ss ∙ position_same (λ e. same_opening k e.0) (λ e. is_it (scope_opened ws e)) ss (λ i e at. sym (ap (λ o. opens o e.0) is) ∙ opening_test s n e.0 e.1 (h i e.0 (keys_get ss i e at)))
+      by (Some k) is = keys_position (same_scope_key k) ss ∙ position_same (λ e. same_scope_key k e.0) (λ e. is_it (scope_opened ws e)) ss (λ i e at. sym (ap (λ o. opens o e.0) is) ∙ opening_test s n e.0 e.1 (h i e.0 (keys_get ss i e at)))
 
 -- a name among others, whichever of the two is asked for
 pub any_swapped : {K : Type 0} (f : K → List ℕ) (n : List ℕ) (ks : List K) → list_any (λ k. bytes_eq n (f k)) ks ≡ list_any (λ m. bytes_eq m n) (map f ks)

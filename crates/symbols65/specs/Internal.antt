@@ -1,3 +1,3 @@
 -- The memory layout of a type, below the model that contracts see.
-pub mod Absences
+pub mod BindingFaults
 pub mod Cursors

@@ -5,7 +5,7 @@ use Rattle.semantics65.specs.Layout as layout
 use Rattle.std.specs.List.{AllByRecursion}
 use Rattle.std.specs.Option.{unwrap_or}
 use Rattle.object65.specs.Objects.{section_limit}
-use Rattle.semantics65.specs.Layout.{context_of, current_after, kept_after, opens_scope, scope_after, segments_after, multiple_of, own_size, size_stated, defined_twice, file_limit, first_fault, is_byte_value, is_open, is_part, left_from, line_fault, lost_scopes, opened_twice, operand_fault, optional_tree, or_then, placing_faults, scope_name, stands_outside, trees_of, when, unless_fault}
+use Rattle.semantics65.specs.Layout.{context_of, current_after, pushed_segments_after, opens_scope, scope_after, segments_after, statement_alignment, own_size, size_stated, defined_twice, file_limit, first_fault, is_byte_value, is_not_global, is_part, remaining_from, line_fault, missing_scopes_fault, opened_twice, operand_fault, optional_tree, or_then, layout_faults, scope_name, is_global_only, trees_of, fault_if, unless_fault}
 use Rattle.ast65.specs.declared.language.Statement.{Statement}
 use Rattle.ast65.specs.declared.language.Statement.TheVariants as statement
 use Rattle.ast65.specs.declared.language.Statement.TheVariants.{Label, OpenProc, OpenScope, UnnamedLabel, Incbin}
@@ -14,45 +14,46 @@ use Rattle.base65.specs.Outcome.{Refines, Unless}
 use Rattle.syntax65.specs.Trees.{Tree}
 use Rattle.ast65.specs.declared.fault.AsmFault.{AsmFault}
 use Rattle.ast65.specs.declared.fault.AsmFault.TheVariants.{BadOperand, BadPart, NotUnderstood, SectionTooLarge}
-use Rattle.ast65.specs.Faults.{is_memory}
-use Rattle.semantics65.specs.declared.laid.Context.{Context}
-use Rattle.semantics65.specs.declared.laid.EncodingChoice.{EncodingChoice}
-use Rattle.semantics65.specs.Norms.{byte_count, fill_settled, length_of, optional_value, settled_of}
+use Rattle.ast65.specs.Faults.{is_out_of_memory}
+use Rattle.semantics65.specs.declared.contexts.Context.{Context}
+use Rattle.semantics65.specs.declared.contexts.EncodingChoice.{EncodingChoice}
+use Rattle.semantics65.specs.Norms.{nat_or_zero, fill_encoding, length_of, optional_value, encoding_of}
 use Rattle.symbols65.specs.declared.measuring.LineState.{LineState}
 use Rattle.symbols65.specs.declared.measuring.StatementLayout.{StatementLayout}
 use Rattle.symbols65.specs.Views.{table_of}
 
--- ---- What is counted.
+-- ---- Counts.
 
--- no more of anything than this number of statements opens, and of segments one more
-pub record IsCounted (count : ℕ) (w : layout.Cursor) : Type 0 where
+-- the counts of a cursor after at most this many openings: each is at most that, and the number of
+-- segments is at most one more
+pub record HasBoundedCounts (count : ℕ) (w : layout.Cursor) : Type 0 where
   pub scope : w.scope ≤ count
   pub scopes : w.opened ≤ count
   pub regions : w.region ≤ count
   pub unnamed : w.unnamed ≤ count
   pub segments : length w.segments ≤ count + 1
 
--- ---- How much statements open, and what the code's numbers have room for.
+-- ---- The openings of statements, and their limits.
 
--- 1 where a statement opens something that is counted: a scope, a region, a segment, an unnamed label
-abbrev pub opened_by : Statement → ℕ
-opened_by (Label n) = 1
-opened_by UnnamedLabel = 1
-opened_by (OpenScope n) = 1
-opened_by (OpenProc n) = 1
-opened_by (statement.Segment n size) = 1
-opened_by _ = 0
+-- 1 if a statement opens something that is counted: a scope, a region, a segment or an unnamed label
+abbrev pub opening_count : Statement → ℕ
+opening_count (Label n) = 1
+opening_count UnnamedLabel = 1
+opening_count (OpenScope n) = 1
+opening_count (OpenProc n) = 1
+opening_count (statement.Segment n size) = 1
+opening_count _ = 0
 
--- each scope is opened within one of this many
-abbrev pub AreInside : ℕ → List Scope → Type 0
-AreInside count scopes = AllByRecursion (λ c. c.within ≤ count) scopes
+-- each scope is opened within one whose number is at most this
+abbrev pub HaveBoundedParents : ℕ → List Scope → Type 0
+HaveBoundedParents count scopes = AllByRecursion (λ c. c.within ≤ count) scopes
 
--- how much statements may open
+-- the greatest number of openings
 abbrev pub opening_limit : ℕ
 opening_limit = 4294967294
 
--- the numbers in which a cursor counts have room for what one more statement opens
-pub record HasNumbers (y : Symbols) (w : layout.Cursor) : Type 0 where
+-- the cursor's 32-bit counts don't overflow if one more statement opens something
+pub record HasSpareCounts (y : Symbols) (w : layout.Cursor) : Type 0 where
   pub segments : length w.segments < 4294967295
   pub opened : w.opened < 4294967295
   pub region : w.region < 4294967295
@@ -61,7 +62,7 @@ pub record HasNumbers (y : Symbols) (w : layout.Cursor) : Type 0 where
 
 -- ---- The cursor after a statement, by its layout.
 
--- the cursor after a statement of this length, which aligns its section to a multiple
+-- the cursor after a statement with this length and alignment
 abbrev pub cursor_with_bytes : Symbols → layout.Cursor → Statement → (count alignment : ℕ) → layout.Cursor
 cursor_with_bytes y w x count alignment = record {
   scope = scope_after y w x;
@@ -70,79 +71,81 @@ cursor_with_bytes y w x count alignment = record {
   unnamed = if is_unnamed x then w.unnamed + 1 else w.unnamed;
   segments = segments_after w.segments w.current count alignment x;
   current = current_after w x;
-  kept = kept_after w x;
+  pushed_segments = pushed_segments_after w x;
 }
 
--- ---- What is found of a statement at its line, in the parts in which the code finds it.
+-- ---- The layout of a statement, in the order of the code.
 
-abbrev pub measure_of : Symbols → layout.Cursor → Statement → StatementLayout
-measure_of y w x = record {
+abbrev pub layout_of_statement : Symbols → layout.Cursor → Statement → StatementLayout
+layout_of_statement y w x = record {
   length = length_of y (context_of w) (own_size w) x;
   size = size_stated y (context_of w) (own_size w) x;
-  alignment = multiple_of y (context_of w) x;
-  settled = settled_of y (context_of w) (own_size w) x;
+  alignment = statement_alignment y (context_of w) x;
+  encoding = encoding_of y (context_of w) (own_size w) x;
 }
 
--- that, or the first fault of the statement
+-- the layout of a statement, or its first error
 abbrev pub layout_result : Symbols → layout.Cursor → Statement → Result StatementLayout AsmFault
-layout_result y w x = unless_fault (line_fault y w x) (measure_of y w x)
+layout_result y w x = unless_fault (line_fault y w x) (layout_of_statement y w x)
 
--- ---- Faults in their groups.
+-- ---- Errors by group.
 
--- what names and scopes refuse a statement for
+-- the error of a statement in its names or scopes
 abbrev pub naming_fault : Symbols → Context → Statement → Option AsmFault
 naming_fault y s x =
-    or_then (when (stands_outside x && is_open s.scope) NotUnderstood)
-    (or_then (lost_scopes y.scopes s.scope (trees_of x))
+    or_then (fault_if (is_global_only x && is_not_global s.scope) NotUnderstood)
+    (or_then (missing_scopes_fault y.scopes s.scope (trees_of x))
     (or_then (opened_twice y.scopes s.scope (scope_name x)) (defined_twice y (key_defined s x))))
 
--- the layout of a statement whose names are understood, or its first error
+-- the layout of a statement without an error in its names, or its first error
 abbrev pub layout_or_error : Symbols → layout.Cursor → Statement → Result StatementLayout AsmFault
-layout_or_error y w x = unless_fault (first_fault (placing_faults y w x)) (measure_of y w x)
+layout_or_error y w x = unless_fault (first_fault (layout_faults y w x)) (layout_of_statement y w x)
 
 -- the check fails with this error alone, or because memory ran out
 abbrev pub ChecksStatement : Result (Unit {0}) AsmFault → Option AsmFault → Type 0
-ChecksStatement result fault = Refines is_memory (λ u. u) result (unless_fault fault tt)
+ChecksStatement result fault = Refines is_out_of_memory (λ u. u) result (unless_fault fault tt)
 
--- what a statement places, where its names are understood, or its first fault
+-- the result refines the layout of a statement without an error in its names, or its first error
 abbrev pub LaysOutStatement : LineState → Result StatementLayout AsmFault → Statement → Type 0
 LaysOutStatement before result x =
-    Refines is_memory (λ m. m) result (layout_or_error (table_of before.symbols.now) before.cursor.now x)
+    Refines is_out_of_memory (λ m. m) result (layout_or_error (table_of before.symbols.now) before.cursor.now x)
 
--- what fills room, where that is a byte
-abbrev pub FillsRoom : Symbols → Context → Option Tree → Result EncodingChoice AsmFault → Type 0
-FillsRoom y s v result =
-    Refines is_memory (λ st. st) result
-    (unless_fault (when (not (is_byte_value (optional_value y s v (pos 0)))) BadOperand) (fill_settled y s v))
+-- the result refines the fill byte, or an error if it isn't a byte
+abbrev pub RefinesFillByte : Symbols → Context → Option Tree → Result EncodingChoice AsmFault → Type 0
+RefinesFillByte y s v result =
+    Refines is_out_of_memory (λ st. st) result
+    (unless_fault (fault_if (not (is_byte_value (optional_value y s v (pos 0)))) BadOperand) (fill_encoding y s v))
 
--- this many bytes, if the section has room for them
+-- this many bytes, or an error if the section would be too large
 abbrev pub count_if_it_fits : layout.Cursor → ℕ → Result ℕ AsmFault
 count_if_it_fits w count =
-    unless_fault (when (nat_lt section_limit ((context_of w).offset + count)) SectionTooLarge) count
+    unless_fault (fault_if (nat_lt section_limit ((context_of w).offset + count)) SectionTooLarge) count
 
 -- ---- Parts of files.
 
--- what is named was found to be constant, or isn't; what isn't named is the default
-abbrev pub IsFound : (ℤ → Option ℤ) → Result (Option ℤ) AsmFault → Type 0
-IsFound value (Ok v) = (default : ℤ) → value default ≡ Some (unwrap_or v default)
-IsFound value (Err e) =
-    Unless (is_memory e) ((e ≡ BadOperand) × ((default : ℤ) → value default ≡ None))
+-- the value of an optional expression, which is the default if there is none, or an error if it isn't
+-- constant
+abbrev pub IsOptionalValue : (ℤ → Option ℤ) → Result (Option ℤ) AsmFault → Type 0
+IsOptionalValue value (Ok v) = (default : ℤ) → value default ≡ Some (unwrap_or v default)
+IsOptionalValue value (Err e) =
+    Unless (is_out_of_memory e) ((e ≡ BadOperand) × ((default : ℤ) → value default ≡ None))
 
--- what a part of a file is refused for whatever the file has
+-- the error of a part of a file that doesn't depend on the file
 abbrev pub unread_fault : Symbols → layout.Cursor → Option Tree → Option Tree → Option AsmFault
 unread_fault y w start len =
-    or_then (lost_scopes y.scopes w.scope (optional_tree start ++ optional_tree len))
+    or_then (missing_scopes_fault y.scopes w.scope (optional_tree start ++ optional_tree len))
     (operand_fault y (context_of w) (Incbin None start len))
 
--- an index up to this number
-abbrev pub is_within : ℕ → ℤ → Bool
-is_within count (pos n) = nat_le n count
-is_within count (negsuc n) = false
+-- whether a value is between 0 and this number
+abbrev pub is_in_range : ℕ → ℤ → Bool
+is_in_range count (pos n) = nat_le n count
+is_in_range count (negsuc n) = false
 
--- whether a file of this many bytes has a part, and the part's start and length
+-- the start and the length of a part of a file of this many bytes, or an error if the file is too large or
+-- doesn't contain the part
 abbrev pub range_in_file : ℕ → Option ℤ → Option ℤ → Result (ℕ × ℕ) AsmFault
 range_in_file count start len =
     let from : Option ℤ = Some (unwrap_or start (pos 0)) in
-    let more : Option ℤ = Some (unwrap_or len (left_from count from)) in
-    unless_fault (when (not (nat_le count file_limit && is_part count from more)) BadPart)
-    (byte_count from, byte_count more)
+    let more : Option ℤ = Some (unwrap_or len (remaining_from count from)) in
+    unless_fault (fault_if (not (nat_le count file_limit && is_part count from more)) BadPart)
+    (nat_or_zero from, nat_or_zero more)

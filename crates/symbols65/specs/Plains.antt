@@ -4,11 +4,11 @@ use Rattle.object65.specs.Form.{Form, lit, sec}
 use Rattle.ast65.specs.declared.fault.AsmFault.{AsmFault}
 
 -- a form that is a number or an address
-abbrev pub plain : Form → Option Form
-plain (lit v) = Some (lit v)
-plain (sec k a) = Some (sec k a)
-plain f = None
+abbrev pub plain_form : Form → Option Form
+plain_form (lit v) = Some (lit v)
+plain_form (sec k a) = Some (sec k a)
+plain_form f = None
 
-abbrev pub plain_in : Result Form AsmFault → Option Form
-plain_in (Ok f) = plain f
-plain_in (Err e) = None
+abbrev pub plain_result : Result Form AsmFault → Option Form
+plain_result (Ok f) = plain_form f
+plain_result (Err e) = None

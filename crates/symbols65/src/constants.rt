@@ -4,22 +4,22 @@
 ghost use Rattle.std.specs.Prelude.{◌≡◌, Ok, IfOk, IfSome, Option, Some, if◌then◌else◌};
 ghost use Rattle.syntax65.specs.Trees.{Tree, binary, name, unary};
 ghost use Rattle.semantics65.specs.Contents.{operand_tree};
-ghost use Rattle.semantics65.specs.Layout.{context_of, lost_scope, own_size};
-ghost use Rattle.semantics65.specs.Norms.{literal_in, constant_in, larger, size_by, size_of, size_of_meaning, size_of_value, takes_byte, address_mode, first_of, is_branch, mode_for, mode_of};
+ghost use Rattle.semantics65.specs.Layout.{context_of, missing_scope_fault, own_size};
+ghost use Rattle.semantics65.specs.Norms.{literal_in, constant_in, larger, size_by, size_of, size_of_binding, size_of_value, is_byte_selector, address_mode, first_of, is_branch, mode_for, mode_of};
 ghost use Rattle.symbols65.specs.Evaluations.{EvaluatesTree, HasFinal, IsEvaluated, IsEvaluation};
 ghost use Rattle.symbols65.specs.Measuring.{ChecksStatement};
-ghost use Rattle.symbols65.specs.Resolving.{IsReference, meaning_in, plain};
+ghost use Rattle.symbols65.specs.Resolving.{IsReference, binding_in, plain_form};
 ghost use Rattle.symbols65.specs.Views.{table_of};
 ghost use Rattle.std.specs.Option.{option_and_then};
 ghost use Rattle.semantics65.specs.Symbols.{Symbols as Table};
 ghost use Rattle.syntax65.specs.declared.lexing.tokens.AddressSize.{AddressSize};
 ghost use Rattle.syntax65.specs.declared.lexing.tokens.AddressSize.TheVariants.{ZeroPage};
-ghost use Rattle.semantics65.specs.declared.laid.Context.{Context};
+ghost use Rattle.semantics65.specs.declared.contexts.Context.{Context};
 
 use crate::measuring::LineState;
 use crate::resolving::{
-    Binding, address, binary_form, final_meaning, find_plain, meaning_at, meant_plain, plain,
-    plain_part, prefix_form, scope_of, scopes_in, shown,
+    Binding, address, binary_form, binding_at, final_binding_form, find_plain_form, name_text,
+    plain_form, plain_form_of_binding, plain_part, prefix_form, scope_of, scopes_in,
 };
 use crate::table::Symbols;
 use ast65::{AsmFault, Index, Operand};
@@ -48,7 +48,7 @@ pub fn constant(
 ) -> Result<Option<i64>, AllocError>
     ensures { IfOk result (λ v. v ≡ constant_in (table_of symbols.now) context value.now) }
 {
-    match find_plain(alloc, symbols, context, value)? {
+    match find_plain_form(alloc, symbols, context, value)? {
         Some(form) => Ok(literal_of(&form)),
         None => Ok(None),
     }
@@ -64,9 +64,9 @@ fn size_of_value(value: i64) -> AddressSize
     }
 }
 
-/// The size of a prefix operation by that of its part, where neither is constant.
+/// Returns the address size of a prefix operation without a constant value, given the size of its operand.
 fn prefix_size(op: Op1, part: AddressSize) -> AddressSize
-    ensures { result ≡ (if takes_byte op then ZeroPage else part) }
+    ensures { result ≡ (if is_byte_selector op then ZeroPage else part) }
 {
     match op {
         Op1::LowByte | Op1::HighByte | Op1::BankByte => AddressSize::ZeroPage,
@@ -74,7 +74,7 @@ fn prefix_size(op: Op1, part: AddressSize) -> AddressSize
     }
 }
 
-/// The larger of two sizes.
+/// Returns the larger of two address sizes.
 fn larger(first: AddressSize, second: AddressSize) -> AddressSize
     ensures { result ≡ larger first second }
 {
@@ -84,8 +84,8 @@ fn larger(first: AddressSize, second: AddressSize) -> AddressSize
     }
 }
 
-fn size_of_meaning(symbols: &Symbols, meaning: Binding) -> AddressSize
-    ensures { result ≡ size_of_meaning (table_of symbols.now) (Ok (meaning_in meaning)) }
+fn size_of_binding(symbols: &Symbols, meaning: Binding) -> AddressSize
+    ensures { result ≡ size_of_binding (table_of symbols.now) (Ok (binding_in meaning)) }
 {
     match meaning {
         Binding::Defined(index) => match symbols.definition(index) {
@@ -99,20 +99,20 @@ fn size_of_meaning(symbols: &Symbols, meaning: Binding) -> AddressSize
     }
 }
 
-/// What one walk over an expression finds, by the symbol table of the statements so far.
+/// The evaluation of an expression by the symbol table of the statements so far.
 #[derive(Drop)]
 pub struct Evaluation {
-    /// Its normal form, if that is final, or is a number or an address. Only from these does folding make a number, so no
-    /// other form that may change is copied, however large it is.
+    /// The normal form, if it is final, a number or an address. Folding makes numbers only from these, so no other form,
+    /// which may be large, is copied.
     pub form: Option<Norm>,
-    /// Whether the form stays whatever statements follow.
+    /// Whether the form is final: whether it stays whatever statements follow.
     pub is_final: bool,
     pub size: AddressSize,
 }
 
-/// An evaluation by a form, which may be final, and by the size that the expression has without a value.
+/// Creates an evaluation from a form, which may be final, and from the size that the expression has without a value.
 fn evaluation_of(form: Option<Norm>, is_final: bool, other: AddressSize) -> Evaluation
-    ensures form { result.form ≡ (if is_final then form else option_and_then plain form) }
+    ensures form { result.form ≡ (if is_final then form else option_and_then plain_form form) }
     ensures stays { result.is_final ≡ is_final }
     ensures size { result.size ≡ size_by other (option_and_then (λ f. literal_in (Ok f)) form) }
 {
@@ -127,7 +127,11 @@ fn evaluation_of(form: Option<Norm>, is_final: bool, other: AddressSize) -> Eval
         Some(value) => size_of_value(value),
         None => other,
     };
-    let form = if is_final { Some(form) } else { plain(&form) };
+    let form = if is_final {
+        Some(form)
+    } else {
+        plain_form(&form)
+    };
     Evaluation {
         form,
         is_final,
@@ -146,19 +150,19 @@ fn evaluate_reference(
         (context_of before.entry.cursor.now) (own_size before.entry.cursor.now) operand.now) }
 {
     let context = before.cursor.context();
-    let Some(meaning) = meaning_at(before.symbols, context, operand) else {
-        // A name without a meaning may be defined anywhere.
+    let Some(meaning) = binding_at(before.symbols, context, operand) else {
+        // An undefined symbol may still be defined anywhere.
         return Ok(evaluation_of(None, false, AddressSize::Absolute));
     };
-    let other = size_of_meaning(before.symbols, meaning);
-    if let Some(form) = final_meaning(alloc, before.symbols, context, operand, meaning)? {
+    let other = size_of_binding(before.symbols, meaning);
+    if let Some(form) = final_binding_form(alloc, before.symbols, context, operand, meaning)? {
         return Ok(evaluation_of(Some(form), true, other));
     }
-    let form = meant_plain(alloc, before.symbols, meaning)?;
+    let form = plain_form_of_binding(alloc, before.symbols, meaning)?;
     Ok(evaluation_of(form, false, other))
 }
 
-/// The evaluation of a prefix operation by that of its part.
+/// Evaluates a prefix operation, given the evaluation of its operand.
 fn evaluate_prefix(alloc: Global, op: Op1, part: Evaluation) -> Result<Evaluation, AllocError>
     ensures { (y : Table) (s : Context) (own : AddressSize) (e : Tree) →
         IsEvaluation y s own e part → IfOk result (IsEvaluation y s own (unary op e)) }
@@ -169,7 +173,7 @@ fn evaluate_prefix(alloc: Global, op: Op1, part: Evaluation) -> Result<Evaluatio
     Ok(evaluation_of(form, is_final, other))
 }
 
-/// The evaluation of an operation by those of its parts.
+/// Evaluates a binary operation, given the evaluations of its operands.
 fn evaluate_binary(
     alloc: Global,
     op: Op2,
@@ -186,7 +190,7 @@ fn evaluate_binary(
     Ok(evaluation_of(form, is_final, other))
 }
 
-/// Refuses a name with `::` whose scope isn't there.
+/// Rejects a name with `::` whose scope doesn't exist.
 #[inline(never)]
 fn check_name(
     alloc: Global,
@@ -194,7 +198,7 @@ fn check_name(
     scope: usize,
     written: &Name,
 ) -> Result<(), AsmFault>
-    ensures { ChecksStatement result (lost_scope (table_of symbols.now).scopes scope
+    ensures { ChecksStatement result (missing_scope_fault (table_of symbols.now).scopes scope
         (name written.now.is_global written.now.parts)) }
 {
     if plain_part(written).is_some() {
@@ -205,7 +209,7 @@ fn check_name(
     match scope_of(symbols, opened, scope, written.is_global, scopes_in(parts)) {
         Some(_) => Ok(()),
         None => {
-            let name = shown(alloc, written.is_global, parts)?;
+            let name = name_text(alloc, written.is_global, parts)?;
             Err(AsmFault::NoSuchScope(name))
         }
     }
@@ -250,7 +254,7 @@ pub fn evaluate(alloc: Global, before: LineState<'_>, value: &Expr) -> Result<Ev
     }
 }
 
-/// The form of an address of a size.
+/// Returns the addressing mode of an address of this size.
 fn mode_for(size: AddressSize, index: Option<Index>) -> Mode
     ensures { result ≡ mode_for size index }
 {
@@ -264,7 +268,7 @@ fn mode_for(size: AddressSize, index: Option<Index>) -> Mode
     }
 }
 
-/// The first of two forms that the instruction has.
+/// Returns the first of two addressing modes that the instruction has, if it has one of them.
 fn first_of(mnemonic: Mnemonic, first: Mode, second: Mode) -> Option<Mode>
     ensures { result ≡ first_of mnemonic first second }
 {
@@ -283,7 +287,8 @@ fn is_branch(mnemonic: Mnemonic) -> bool
     opcode(mnemonic, Mode::Relative).is_some()
 }
 
-/// The form of an address that a prefix forces, or that goes by the size of its expression.
+/// Returns the addressing mode of an address operand, if the instruction has one. A prefix forces the size. Without a
+/// prefix, the expression's size comes first, then the other size.
 fn address_mode(
     mnemonic: Mnemonic,
     prefix: Option<AddressSize>,
@@ -302,8 +307,8 @@ fn address_mode(
     }
 }
 
-/// The value of an expression that was evaluated, if it is constant.
-pub fn number(found: &Option<Evaluation>) -> Option<i64>
+/// Returns the value of an evaluated expression, if it is constant.
+pub fn constant_value(found: &Option<Evaluation>) -> Option<i64>
     ensures { (y : Table) (s : Context) (own : AddressSize) (e : Tree) →
         IsEvaluated y s own (Some e) found.now → result ≡ constant_in y s e }
 {
@@ -316,8 +321,8 @@ pub fn number(found: &Option<Evaluation>) -> Option<i64>
     }
 }
 
-/// The size of an expression that was evaluated.
-pub fn size_found(found: &Option<Evaluation>) -> AddressSize
+/// Returns the address size of an evaluated expression.
+pub fn evaluated_size(found: &Option<Evaluation>) -> AddressSize
     ensures { (y : Table) (s : Context) (own : AddressSize) (e : Tree) →
         IsEvaluated y s own (Some e) found.now → result ≡ size_of y s own e }
 {
@@ -327,7 +332,7 @@ pub fn size_found(found: &Option<Evaluation>) -> AddressSize
     }
 }
 
-/// The final form of an expression that was evaluated, if that is evident already.
+/// Returns the final form of an evaluated expression, if that is evident already.
 #[inline(always)]
 pub fn final_form(found: Option<Evaluation>) -> Option<Norm>
     ensures { (y : Table) (s : Context) (own : AddressSize) (e : Option Tree) →
@@ -339,7 +344,7 @@ pub fn final_form(found: Option<Evaluation>) -> Option<Norm>
     }
 }
 
-/// The addressing form of an instruction by the evaluation of its operand, if it has that form.
+/// Returns the addressing mode of an instruction, given the evaluation of its operand, if the instruction has that mode.
 pub fn mode(mnemonic: Mnemonic, operand: &Operand, found: &Option<Evaluation>) -> Option<Mode>
     ensures { (y : Table) (s : Context) (own : AddressSize) →
         IsEvaluated y s own (operand_tree operand.now) found.now →
@@ -351,13 +356,13 @@ pub fn mode(mnemonic: Mnemonic, operand: &Operand, found: &Option<Evaluation>) -
         Operand::Immediate(_) => first_of(mnemonic, Mode::Immediate, Mode::Immediate),
         Operand::Address { prefix, index, .. } => {
             if is_branch(mnemonic) {
-                // A branch takes a target alone, without a prefix.
+                // A branch accepts neither a prefix nor an index.
                 return match (prefix, index) {
                     (None, None) => Some(Mode::Relative),
                     _ => None,
                 };
             }
-            address_mode(mnemonic, *prefix, size_found(found), *index)
+            address_mode(mnemonic, *prefix, evaluated_size(found), *index)
         }
         Operand::Indirect(_) => first_of(mnemonic, Mode::Indirect, Mode::Indirect),
         Operand::IndirectX(_) => first_of(mnemonic, Mode::IndirectX, Mode::IndirectX),

@@ -3,12 +3,12 @@
 ghost use Rattle.std.specs.Prelude.{◌≡◌, ◌+◌, ◌<◌, ◌≤◌, length, OnOk, IfOk, None, ◌++◌, ◌∷◌, [], if◌then◌else◌};
 ghost use Rattle.object65.specs.Objects.{section_limit};
 ghost use Rattle.semantics65.specs.Symbols.{is_unnamed, opens_region, Symbols as Table};
-ghost use Rattle.semantics65.specs.Layout.{current_after, first_size, grown_at, is_kept, kept_after, last_kept, named_segments, new_segment, opens_scope, or_last, place_of, rest_kept, scope_after, segment_at, segments_after, context_of, start};
+ghost use Rattle.semantics65.specs.Layout.{current_after, first_size, with_grown_segment, has_pushed_segments, pushed_segments_after, last_pushed_segment, named_segments, new_segment, opens_scope, existing_or_new_index, segment_index, earlier_pushed_segments, scope_after, segment_at, segments_after, context_of, start};
 ghost use Rattle.syntax65.specs.declared.instructions.names.Mnemonic.{Mnemonic};
 ghost use Rattle.ast65.specs.declared.language.Operand.{Operand};
 ghost use Rattle.ast65.specs.declared.language.Statement.TheVariants.{Instruction};
 ghost use Rattle.symbols65.specs.Views.{table_of};
-ghost use Rattle.symbols65.specs.Measuring.{cursor_with_bytes, HasNumbers};
+ghost use Rattle.symbols65.specs.Measuring.{cursor_with_bytes, HasSpareCounts};
 
 use crate::measuring::StatementLayout;
 use crate::table::Symbols;
@@ -21,23 +21,23 @@ use std::alloc::{AllocError, Global};
 use std::marker::Model;
 use syntax65::AddressSize;
 
-/// The state of the layout after statements.
+/// The state of the layout after the statements so far.
 #[derive(Drop)]
 pub struct Cursor {
     /// The innermost open scope.
     scope: u32,
-    /// How many scopes were opened.
+    /// The number of scopes that were opened.
     opened: u32,
-    /// How many regions of cheap labels were opened.
+    /// The number of regions of cheap labels that were opened.
     region: u32,
-    /// The number of unnamed labels before.
+    /// The number of unnamed labels so far.
     unnamed: u32,
     /// The segments in the order in which they were first named.
     segments: Vec<Segment>,
     /// The index of the current segment.
     current: u32,
-    /// The places of segments that were kept, the last one last.
-    kept: Vec<u32>,
+    /// The indices of the segments that `.pushseg` saved, the latest one last.
+    pushed_segments: Vec<u32>,
     /// The names of the segments, in their order.
     names: IndexSet<Vec<u8>>,
 }
@@ -47,15 +47,15 @@ impl Model for Cursor {
 
     ghost Value = { layout.Cursor };
 
-    ghost use Rattle.symbols65.specs.Internal.Cursors.{cursor_of, IsSoundCursor};
+    ghost use Rattle.symbols65.specs.Internal.Cursors.{cursor_of, IsWellFormedCursor};
 
     ghost view = { cursor_of };
 
-    ghost invariant = { IsSoundCursor };
+    ghost invariant = { IsWellFormedCursor };
 }
 
 impl Cursor {
-    /// Returns the cursor before the first statement: in CODE.
+    /// Creates the cursor before the first statement, in the segment CODE.
     pub fn start(alloc: Global) -> Result<Self, AllocError>
         ensures { IfOk result (λ w. w ≡ start) }
     {
@@ -70,30 +70,30 @@ impl Cursor {
             unnamed: 0,
             segments,
             current: 0,
-            kept: Vec::new(alloc),
+            pushed_segments: Vec::new(alloc),
             names,
         })
     }
 
-    /// The segments in the order in which they were first named.
+    /// Returns the segments in the order in which they were first named.
     pub fn segments(&self) -> &[Segment]
         ensures { result.now ≡ self.now.segments }
     {
         self.segments.as_slice()
     }
 
-    /// The innermost open scope.
+    /// Returns the innermost open scope.
     pub fn scope(&self) -> u32
         ensures { result ≡ self.now.scope }
     {
         self.scope
     }
 
-    /// Returns whether a segment was kept to go back to.
+    /// Returns whether a saved segment is left to return to.
     pub fn has_pushed(&self) -> bool
-        ensures { result ≡ is_kept self.now.kept }
+        ensures { result ≡ has_pushed_segments self.now.pushed_segments }
     {
-        !self.kept.is_empty()
+        !self.pushed_segments.is_empty()
     }
 
     /// Returns the segment of the next statement.
@@ -104,9 +104,9 @@ impl Cursor {
         &self.segments[self.current as usize]
     }
 
-    /// The place of the segment of a name.
-    pub fn place_of(&self, name: &[u8]) -> Option<usize>
-        ensures { result ≡ place_of self.now.segments name.now }
+    /// Returns the index of the segment with this name, if there is one.
+    pub fn segment_index(&self, name: &[u8]) -> Option<usize>
+        ensures { result ≡ segment_index self.now.segments name.now }
     {
         self.names.get_index_of(name)
     }
@@ -125,32 +125,33 @@ impl Cursor {
         }
     }
 
-    /// How many bytes the section has room for.
+    /// Returns how many more bytes the current section can hold.
     pub fn remaining_bytes(&self) -> u32
         ensures { (context_of self.now).offset + result ≡ section_limit }
     {
         SECTION_LIMIT - self.segment().end
     }
 
-    /// Moves the end of the current section.
+    /// Extends the current section by `count` bytes, and raises its alignment to
+    /// `alignment` if it is lower.
     fn grow(&mut self, count: u32, alignment: u32)
         requires { (context_of self.old).offset + count ≤ section_limit }
         ensures { self.new ≡ record self.old {
-          segments = grown_at self.old.segments self.old.current count alignment;
+          segments = with_grown_segment self.old.segments self.old.current count alignment;
         } }
     {
         grow(&mut self.segments, self.current as usize, count, alignment);
     }
 
     /// Adds a segment and makes it the current one.
-    fn begin(
+    fn add_segment(
         &mut self,
         alloc: Global,
         name: &[u8],
         size: Option<AddressSize>,
     ) -> Result<(), AllocError>
         requires few { length self.old.segments < 4294967295 }
-        requires new { place_of self.old.segments name.now ≡ None }
+        requires new { segment_index self.old.segments name.now ≡ None }
         ensures { OnOk result (self.new ≡ record self.old {
           segments = self.old.segments ++ new_segment name.now (first_size name.now size) ∷ [];
           current = length self.old.segments;
@@ -158,7 +159,7 @@ impl Cursor {
     {
         let index = self.segments.len();
         let segment = segment_of(alloc, name, size)?;
-        // Both tables take it, or none does.
+        // If memory runs out, neither table gets the segment.
         self.segments.reserve(1)?;
         self.names.insert(Vec::from_slice(alloc, name)?)?;
         self.segments.push_reserved(segment);
@@ -166,7 +167,7 @@ impl Cursor {
         Ok(())
     }
 
-    /// Goes on in the segment of a name, which begins if there is none.
+    /// Makes the segment with this name the current one. Adds it if there is none.
     #[inline(never)]
     fn select(
         &mut self,
@@ -177,13 +178,13 @@ impl Cursor {
         requires { length self.old.segments < 4294967295 }
         ensures { OnOk result (self.new ≡ record self.old {
           segments = named_segments self.old.segments name.now size
-              (place_of self.old.segments name.now);
-          current = or_last self.old.segments
-              (place_of self.old.segments name.now);
+              (segment_index self.old.segments name.now);
+          current = existing_or_new_index self.old.segments
+              (segment_index self.old.segments name.now);
         }) }
     {
-        match self.place_of(name) {
-            None => self.begin(alloc, name, size),
+        match self.segment_index(name) {
+            None => self.add_segment(alloc, name, size),
             Some(index) => {
                 self.current = index as u32;
                 Ok(())
@@ -195,27 +196,28 @@ impl Cursor {
     #[inline(never)]
     fn push_segment(&mut self) -> Result<(), AllocError>
         ensures { OnOk result (self.new ≡ record self.old {
-          kept = self.old.current ∷ self.old.kept;
+          pushed_segments = self.old.current ∷ self.old.pushed_segments;
         }) }
     {
-        self.kept.push(self.current)?;
+        self.pushed_segments.push(self.current)?;
         Ok(())
     }
 
-    /// Goes back to the segment that was kept last.
+    /// Makes the segment that was saved last the current one, if there is one, and
+    /// removes it from the saved ones.
     fn pop_segment(&mut self)
         ensures { self.new ≡ record self.old {
-          current = last_kept self.old.current self.old.kept;
-          kept = rest_kept self.old.kept;
+          current = last_pushed_segment self.old.current self.old.pushed_segments;
+          pushed_segments = earlier_pushed_segments self.old.pushed_segments;
         } }
     {
-        if let Some(index) = self.kept.pop() {
+        if let Some(index) = self.pushed_segments.pop() {
             self.current = index;
         }
     }
 
-    /// Moves on over a statement of this length in its segments.
-    fn move_on(
+    /// Updates the segments after a statement of `count` bytes.
+    fn advance_segments(
         &mut self,
         alloc: Global,
         statement: &Statement,
@@ -223,12 +225,12 @@ impl Cursor {
         alignment: u32,
     ) -> Result<(), AllocError>
         requires few { length self.old.segments < 4294967295 }
-        requires capacity { (context_of self.old).offset + count ≤ section_limit }
+        requires fits { (context_of self.old).offset + count ≤ section_limit }
         ensures { OnOk result (self.new ≡ record self.old {
           segments = segments_after self.old.segments self.old.current count alignment
               statement.now;
           current = current_after self.old statement.now;
-          kept = kept_after self.old statement.now;
+          pushed_segments = pushed_segments_after self.old statement.now;
         }) }
     {
         match statement {
@@ -249,7 +251,7 @@ impl Cursor {
         }
     }
 
-    /// Moves on over an instruction of this length.
+    /// Moves the cursor past an instruction of `count` bytes.
     pub fn advance_by(&mut self, count: u32)
         requires { (context_of self.old).offset + count ≤ section_limit }
         ensures { (y : Table) (m : Mnemonic) (operand : Operand) → self.new
@@ -258,7 +260,7 @@ impl Cursor {
         self.grow(count, 1);
     }
 
-    /// Moves on over a statement of this length that aligns its section to a multiple.
+    /// Moves the cursor past a statement with this layout.
     pub fn advance(
         &mut self,
         alloc: Global,
@@ -266,18 +268,19 @@ impl Cursor {
         statement: &Statement,
         measure: StatementLayout,
     ) -> Result<(), AllocError>
-        requires capacity { (context_of self.old).offset + measure.length ≤ section_limit }
-        requires numbers { HasNumbers (table_of symbols.now) self.old }
+        requires fits { (context_of self.old).offset + measure.length ≤ section_limit }
+        requires numbers { HasSpareCounts (table_of symbols.now) self.old }
         ensures { OnOk result (self.new ≡ cursor_with_bytes (table_of symbols.now)
             self.old statement.now measure.length measure.alignment) }
     {
         self.count_openings(symbols, statement);
-        self.move_on(alloc, statement, measure.length, measure.alignment)
+        self.advance_segments(alloc, statement, measure.length, measure.alignment)
     }
 
-    /// Counts the scopes, regions and unnamed labels that a statement opens.
+    /// Updates the open scope and the numbers of scopes, regions and unnamed labels
+    /// after a statement.
     fn count_openings(&mut self, symbols: &Symbols, statement: &Statement)
-        requires { HasNumbers (table_of symbols.now) self.old }
+        requires { HasSpareCounts (table_of symbols.now) self.old }
         ensures { self.new ≡ record self.old {
           scope = scope_after (table_of symbols.now) self.old
               statement.now;
@@ -309,18 +312,20 @@ impl Cursor {
     }
 }
 
-/// Moves the end of a segment's section.
+/// Extends a segment's section by `count` bytes, and raises its alignment to
+/// `alignment` if it is lower.
 fn grow(segments: &mut [Segment], index: usize, count: u32, alignment: u32)
     requires index { index < length segments.old }
     requires end { (segment_at segments.old index).end + count ≤ section_limit }
-    ensures { segments.new ≡ grown_at segments.old index count alignment }
+    ensures { segments.new ≡ with_grown_segment segments.old index count alignment }
 {
     let segment = &mut segments[index];
     segment.end += count;
     segment.align = segment.align.max(alignment);
 }
 
-/// A new segment. Its size is absolute where none is given, but for ZEROPAGE.
+/// Creates a segment. The default size is zero page for ZEROPAGE, and absolute for all
+/// others.
 fn segment_of(alloc: Global, name: &[u8], size: Option<AddressSize>) -> Result<Segment, AllocError>
     ensures { IfOk result (λ g. g ≡ new_segment name.now (first_size name.now size)) }
 {

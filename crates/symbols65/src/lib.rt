@@ -11,11 +11,11 @@ mod table;
 
 pub use cursor::Cursor;
 pub use measuring::{
-    Analysis, LineState, StatementLayout, check_unread, lay_out_statement, measure_instruction,
+    Analysis, LineState, StatementLayout, check_unread, lay_out_instruction, lay_out_statement,
     needs_section, search_operand, search_statement,
 };
 pub use resolving::{
-    Binding, binding_of, blocker_of, defined_norm, definition_of, empty_cache, norm, operand_form,
-    plain_part, scope_of, scopes_in, shown,
+    Binding, binding_of, blocker_of, defined_norm, definition_of, empty_cache, name_text, norm,
+    operand_form, plain_part, scope_of, scopes_in,
 };
 pub use table::{Definition, FormCache, InternedKey, Key, ScopeKey, Symbols, define};

@@ -2,14 +2,14 @@
 
 mod bytes;
 mod kinds;
-mod rooms;
+mod reserves;
 mod trees;
 
 ghost use Rattle.std.specs.Prelude.{◌≡◌, ◌+◌, ◌≤◌, false, nat_lt, IfOk};
 ghost use Rattle.base65.specs.Outcome.{Refines};
 ghost use Rattle.object65.specs.Objects.{section_limit};
-ghost use Rattle.ast65.specs.Faults.{is_memory};
-ghost use Rattle.semantics65.specs.declared.laid.EncodingChoice.TheVariants.{Undecided};
+ghost use Rattle.ast65.specs.Faults.{is_out_of_memory};
+ghost use Rattle.semantics65.specs.declared.contexts.EncodingChoice.TheVariants.{Undecided};
 ghost use Rattle.ast65.specs.declared.language.Statement.TheVariants.{Instruction};
 ghost use Rattle.semantics65.specs.Contents.{operand_tree};
 ghost use Rattle.semantics65.specs.Layout.{own_size, context_of, unless_fault};
@@ -20,7 +20,7 @@ ghost use Rattle.symbols65.specs.Measuring.{count_if_it_fits, layout_result, nam
 pub use self::bytes::check_unread;
 use self::bytes::instruction;
 pub use self::kinds::needs_section;
-use self::kinds::{check_defined, check_opened, check_outside, place};
+use self::kinds::{check_defined, check_global_only, check_opened, layout_by_kind};
 pub use self::trees::{search_operand, search_statement};
 use self::trees::{Evaluations, evaluate_optional, evaluate_trees, operand_value};
 use crate::constants::final_form;
@@ -39,35 +39,36 @@ pub struct LineState<'a> {
     pub cursor: &'a Cursor,
 }
 
-/// What a statement places and defines.
+/// The layout of a statement.
 #[derive(Clone, Copy)]
 pub struct StatementLayout {
-    /// How many bytes it places.
+    /// The number of bytes that it emits.
     pub length: u32,
-    /// The address size of what it defines.
+    /// The address size of the symbol that it defines.
     pub size: AddressSize,
     /// The multiple to which it aligns its section.
     pub alignment: u32,
-    pub settled: EncodingChoice,
+    pub encoding: EncodingChoice,
 }
 
-/// What is known of a statement at its line.
+/// The analysis of a statement at its line.
 #[derive(Drop)]
 pub struct Analysis {
     pub measured: StatementLayout,
     /// The final form of the expression of an instruction, a constant or an assertion, if that is evident already.
     pub form: Option<Norm>,
-    /// The final forms of the elements of a list, each at the place of its element; none of numbers alone.
+    /// The final forms of the elements of a list, each at the index of its element; empty if all elements are
+    /// numbers.
     pub forms: Vec<Option<Norm>>,
 }
 
-/// The evaluations of the expressions of a statement; or the statement is refused for the names and scopes in it.
+/// Evaluates the expressions of a statement. Rejects the statement if there is an error in its names or scopes.
 fn check_naming(
     alloc: Global,
     before: LineState<'_>,
     statement: &Statement,
 ) -> Result<Evaluations, AsmFault>
-    ensures naming { Refines is_memory (λ _. tt {0}) result (unless_fault (naming_fault
+    ensures naming { Refines is_out_of_memory (λ _. tt {0}) result (unless_fault (naming_fault
         (table_of before.entry.symbols.now) (context_of before.entry.cursor.now)
         statement.now) tt) }
     ensures found { IfOk result (AreEvaluations (table_of before.entry.symbols.now)
@@ -76,14 +77,14 @@ fn check_naming(
 {
     let context = before.cursor.context();
     let scope = context.scope as usize;
-    check_outside(scope, statement)?;
+    check_global_only(scope, statement)?;
     let found = evaluate_trees(alloc, before, statement)?;
     check_opened(alloc, before.symbols, scope, statement)?;
     check_defined(alloc, before.symbols, context, statement)?;
     Ok(found)
 }
 
-/// So many bytes, if the section has room for them.
+/// Returns `length`, or an error if the current section has fewer remaining bytes.
 #[tactic(auto, using(crate::proofs::Measures::same_test))]
 fn fit(cursor: &Cursor, length: usize) -> Result<u32, AsmFault>
     ensures { result ≡ count_if_it_fits cursor.now length }
@@ -95,20 +96,20 @@ fn fit(cursor: &Cursor, length: usize) -> Result<u32, AsmFault>
     Ok(length as u32)
 }
 
-/// What a statement without bytes places.
-fn nothing(cursor: &Cursor) -> StatementLayout
-    ensures capacity { nat_lt section_limit
+/// Returns the layout of a statement that emits no bytes.
+fn layout_without_bytes(cursor: &Cursor) -> StatementLayout
+    ensures fits { nat_lt section_limit
         ((context_of cursor.now).offset + 0) ≡ false }
     ensures length { result.length ≡ 0 }
     ensures size { result.size ≡ own_size cursor.now }
     ensures alignment { result.alignment ≡ 1 }
-    ensures settled { result.settled ≡ Undecided }
+    ensures encoding { result.encoding ≡ Undecided }
 {
     StatementLayout {
         length: 0,
         size: cursor.segment().size,
         alignment: 1,
-        settled: EncodingChoice::Undecided,
+        encoding: EncodingChoice::Undecided,
     }
 }
 
@@ -118,10 +119,10 @@ pub fn lay_out_statement(
     before: LineState<'_>,
     statement: &Statement,
 ) -> Result<Analysis, AsmFault>
-    ensures measured { Refines is_memory (λ a. a.measured) result (layout_result
+    ensures measured { Refines is_out_of_memory (λ a. a.measured) result (layout_result
         (table_of before.entry.symbols.now) before.entry.cursor.now
         statement.now) }
-    ensures capacity { IfOk result (λ a.
+    ensures fits { IfOk result (λ a.
         (context_of before.entry.cursor.now).offset + a.measured.length ≤ section_limit) }
     ensures form { IfOk result (λ a. HasFinal (table_of before.entry.symbols.now)
         (context_of before.entry.cursor.now) (first_tree statement.now) a.form) }
@@ -129,7 +130,7 @@ pub fn lay_out_statement(
         (context_of before.entry.cursor.now) (items_in statement.now) a.forms.items) }
 {
     let found = check_naming(alloc, before, statement)?;
-    let measured = place(before, statement, &found)?;
+    let measured = layout_by_kind(before, statement, &found)?;
     let Evaluations { first, forms, .. } = found;
     let form = final_form(first);
     Ok(Analysis {
@@ -139,17 +140,18 @@ pub fn lay_out_statement(
     })
 }
 
-/// The same of an instruction, which most statements are.
-pub fn measure_instruction(
+/// Computes the layout of an instruction, or its first error at its line. Instructions have a function of their
+/// own, since most statements are instructions.
+pub fn lay_out_instruction(
     alloc: Global,
     before: LineState<'_>,
     mnemonic: Mnemonic,
     operand: &Operand,
 ) -> Result<Analysis, AsmFault>
-    ensures measured { Refines is_memory (λ a. a.measured) result (layout_result
+    ensures measured { Refines is_out_of_memory (λ a. a.measured) result (layout_result
         (table_of before.entry.symbols.now) before.entry.cursor.now
         (Instruction mnemonic operand.now)) }
-    ensures capacity { IfOk result (λ a.
+    ensures fits { IfOk result (λ a.
         (context_of before.entry.cursor.now).offset + a.measured.length ≤ section_limit) }
     ensures form { IfOk result (λ a. HasFinal (table_of before.entry.symbols.now)
         (context_of before.entry.cursor.now) (operand_tree operand.now) a.form) }

@@ -1,17 +1,17 @@
 //! Meanings of names, and forms of expressions, by a symbol table.
 
 mod attempt;
+mod bindings;
 mod finals;
-mod meaning;
 mod plains;
 mod scopes;
 mod search;
 
 pub use attempt::address;
-pub use finals::{binary_form, blocker_of, final_meaning, prefix_form};
-pub use meaning::{
-    Binding, binding_of, definition_of, meaning_at, operand_form, plain_part, scopes_in,
+pub use bindings::{
+    Binding, binding_at, binding_of, definition_of, operand_form, plain_part, scopes_in,
 };
-pub use plains::{find_plain, meant_plain, plain, search_constants};
-pub use scopes::{scope_of, shown};
+pub use finals::{binary_form, blocker_of, final_binding_form, prefix_form};
+pub use plains::{find_plain_form, plain_form, plain_form_of_binding, search_constants};
+pub use scopes::{name_text, scope_of};
 pub use search::{defined_norm, empty_cache, norm};

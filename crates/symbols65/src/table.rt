@@ -1,65 +1,64 @@
-//! The symbol table: definitions by their keys, scopes by their names, and imports; looking things up in it takes no
-//! memory.
+//! The symbol table: definitions by key, scopes by name, and imports. Lookups don't allocate.
 
 mod defining;
+mod interning;
 mod symbols;
-mod words;
 
 ghost use Rattle.std.specs.Prelude.{◌≡◌, ◌++◌, ◌∷◌, [], IfOk, None, OnErr, OnOk, Some, length, map, position, ◌<◌, IfSome, slice_get, true, false, ℕ, suc, List};
 ghost use Rattle.std.specs.Option.{option_map};
 ghost use Rattle.std.specs.Str.{bytes_eq};
 ghost use Rattle.indexmap.specs.IndexMap.{keys, index_map_len};
 ghost use Rattle.semantics65.specs.Layout.{opened_twice};
-ghost use Rattle.semantics65.specs.Symbols.{with_new, enclosing, scope_in, parent_scope, definition_index, import_index, named};
-ghost use Rattle.symbols65.specs.Tables.{IsPrefixOf, HasNumber, IsOpening, first_number, same_opening, scope_by, word_opened, KeepsFinal, definition_seen, entry_of, key_of, same_entry};
+ghost use Rattle.semantics65.specs.Symbols.{with_new_names, enclosing, scope_in, parent_scope, definition_index, import_index, named};
+ghost use Rattle.symbols65.specs.Tables.{IsPrefixOf, HasNumber, IsScopeKey, first_number, same_scope_key, scope_by, scope_name_id, StoresFinalForm, definition_view, interned_key_of, key_of, same_interned_key};
 ghost use Rattle.symbols65.specs.Resolving.{IsUnknownName};
-ghost use Rattle.symbols65.specs.Views.{table_of, with_names, with_scope, words_of, key_at};
+ghost use Rattle.symbols65.specs.Views.{table_of, with_names, with_scope, interned_names_of, key_at};
 ghost use Rattle.semantics65.specs.Norms.{is_zero_page_name};
 
 use base65::{ListVec, Seed};
 pub use defining::define;
 use indexmap::{IndexMap, IndexSet};
+use interning::{InternedName, NameQuery};
 use smallvec::SmallVec;
 use std::alloc::{AllocError, Global};
 pub use symbols::{Definition, FormCache, InternedKey, Key, ScopeKey, SearchEntry, Symbols};
-use words::{InternedName, NameQuery};
 
-/// The number of a name, which is put in where it is new.
+/// Interns a name and returns its number.
 fn intern(
     alloc: Global,
-    words: &mut IndexSet<InternedName, Seed>,
+    interned_names: &mut IndexSet<InternedName, Seed>,
     name: &[u8],
 ) -> Result<usize, AllocError>
-    ensures more { IsPrefixOf (map (λ k. k.items) words.old.keys) (map (λ k. k.items) words.new.keys) }
-    ensures number { IfOk result (λ w. position (bytes_eq name.now) (map (λ k. k.items) words.new.keys) ≡ Some w) }
+    ensures more { IsPrefixOf (map (λ k. k.items) interned_names.old.keys) (map (λ k. k.items) interned_names.new.keys) }
+    ensures number { IfOk result (λ w. position (bytes_eq name.now) (map (λ k. k.items) interned_names.new.keys) ≡ Some w) }
 {
-    let (word, _) = words.insert_full(SmallVec::from_slice(alloc, name)?)?;
-    Ok(word)
+    let (name_id, _) = interned_names.insert_full(SmallVec::from_slice(alloc, name)?)?;
+    Ok(name_id)
 }
 
-/// Adds a scope, unless there is one by its opening.
+/// Adds a scope whose key isn't in the table.
 fn push_scope(
     scopes: &mut IndexMap<ScopeKey, bool, Seed>,
-    opening: ScopeKey,
+    scope_key: ScopeKey,
     is_proc: bool,
 ) -> Result<(), AllocError>
-    requires { position (same_opening opening) (keys scopes.old) ≡ None }
-    ensures pushed { OnOk result (scopes.new.entries ≡ scopes.old.entries ++ (opening, is_proc) ∷ []) }
+    requires { position (same_scope_key scope_key) (keys scopes.old) ≡ None }
+    ensures pushed { OnOk result (scopes.new.entries ≡ scopes.old.entries ++ (scope_key, is_proc) ∷ []) }
     ensures unchanged { OnErr result (scopes.new.entries ≡ scopes.old.entries) }
 {
-    match scopes.insert(opening, is_proc) {
+    match scopes.insert(scope_key, is_proc) {
         Ok(_) => Ok(()),
         Err(_) => Err(AllocError),
     }
 }
 
-/// Adds names, each once.
+/// Adds the names that aren't in the set yet.
 fn add_names(
     alloc: Global,
     known: &mut IndexSet<Vec<u8>, Seed>,
     names: &[ListVec<u8>],
 ) -> Result<(), AllocError>
-    ensures { OnOk result (map (λ k. k.items) known.new.keys ≡ with_new (map (λ k. k.items) known.old.keys) names.now) }
+    ensures { OnOk result (map (λ k. k.items) known.new.keys ≡ with_new_names (map (λ k. k.items) known.old.keys) names.now) }
 {
     for name in names {
         known.insert(Vec::from_slice(alloc, name.as_slice())?)?;
@@ -68,58 +67,58 @@ fn add_names(
 }
 
 impl Symbols {
-    /// The number of a name.
-    pub fn word(&self, name: &[u8]) -> Option<usize>
-        ensures { result ≡ position (bytes_eq name.now) (words_of self.now) }
+    /// Returns the number of a name, if it is interned.
+    pub fn name_id(&self, name: &[u8]) -> Option<usize>
+        ensures { result ≡ position (bytes_eq name.now) (interned_names_of self.now) }
     {
-        self.words.get_index_of(NameQuery(name))
+        self.interned_names.get_index_of(NameQuery(name))
     }
 
-    fn entry(&self, key: Key<'_>) -> Option<InternedKey>
-        ensures { result ≡ entry_of (words_of self.now) (key_of key.entry) }
+    fn interned_key(&self, key: Key<'_>) -> Option<InternedKey>
+        ensures { result ≡ interned_key_of (interned_names_of self.now) (key_of key.entry) }
     {
         match key {
             Key::Named { scope, name } => {
-                let word = self.word(name)?;
-                Some(InternedKey::Named { scope, word })
+                let name_id = self.name_id(name)?;
+                Some(InternedKey::Named { scope, name_id })
             }
             Key::Cheap { region, name } => {
-                let word = self.word(name)?;
-                Some(InternedKey::Cheap { region, word })
+                let name_id = self.name_id(name)?;
+                Some(InternedKey::Cheap { region, name_id })
             }
             Key::Unnamed(count) => Some(InternedKey::Unnamed(count)),
         }
     }
 
-    /// Returns whether a scope other than the global one may define a word.
-    pub fn is_inner(&self, word: usize) -> bool
-        ensures { result ≡ false → (scope : ℕ) (n : List ℕ) → position (bytes_eq n) (words_of self.now) ≡ Some word → definition_index (table_of self.now) (named (suc scope) n) ≡ None }
+    /// Returns whether a scope other than the global one may define an interned name.
+    pub fn is_inner(&self, name_id: usize) -> bool
+        ensures { result ≡ false → (scope : ℕ) (n : List ℕ) → position (bytes_eq n) (interned_names_of self.now) ≡ Some name_id → definition_index (table_of self.now) (named (suc scope) n) ≡ None }
     {
-        match self.inner.get(word) {
+        match self.inner.get(name_id) {
             Some(is_inner) => *is_inner,
             None => false,
         }
     }
 
-    /// The place of the definition of a word in a scope.
-    pub fn defined_in(&self, scope: usize, word: usize) -> Option<usize>
-        ensures { (n : List ℕ) → position (bytes_eq n) (words_of self.now) ≡ Some word → result ≡ definition_index (table_of self.now) (named scope n) }
+    /// Returns the index of the definition of an interned name in a scope, if it has one.
+    pub fn defined_in(&self, scope: usize, name_id: usize) -> Option<usize>
+        ensures { (n : List ℕ) → position (bytes_eq n) (interned_names_of self.now) ≡ Some name_id → result ≡ definition_index (table_of self.now) (named scope n) }
     {
-        self.place_of(InternedKey::Named { scope, word })
+        self.index_of_key(InternedKey::Named { scope, name_id })
     }
 
-    pub fn place_of(&self, entry: InternedKey) -> Option<usize>
-        ensures { result ≡ position (same_entry entry) (keys self.now.definitions) }
+    pub fn index_of_key(&self, entry: InternedKey) -> Option<usize>
+        ensures { result ≡ position (same_interned_key entry) (keys self.now.definitions) }
     {
         self.definitions.get_index_of(&entry)
     }
 
-    /// The place of the definition of a key.
+    /// Returns the index of the definition of a key, if it has one.
     pub fn defined(&self, key: Key<'_>) -> Option<usize>
         ensures { result ≡ definition_index (table_of self.now) (key_of key.entry) }
     {
-        match self.entry(key) {
-            Some(entry) => self.place_of(entry),
+        match self.interned_key(key) {
+            Some(entry) => self.index_of_key(entry),
             None => None,
         }
     }
@@ -128,29 +127,29 @@ impl Symbols {
     pub fn is_unknown(&self, name: &[u8]) -> bool
         ensures { result ≡ true → IsUnknownName (table_of self.now) name.now }
     {
-        self.word(name).is_none() && self.imported(name).is_none()
+        self.name_id(name).is_none() && self.imported(name).is_none()
     }
 
-    /// Returns how many definitions there are.
+    /// Returns the number of definitions.
     pub fn definition_count(&self) -> usize
         ensures { result ≡ length (table_of self.now).definitions }
     {
         self.definitions.len()
     }
 
-    pub fn place_opened(&self, opening: ScopeKey) -> Option<usize>
-        ensures index { result ≡ position (same_opening opening) (keys self.now.scopes) }
+    pub fn scope_index(&self, scope_key: ScopeKey) -> Option<usize>
+        ensures index { result ≡ position (same_scope_key scope_key) (keys self.now.scopes) }
         ensures within { IfSome result (λ i. i < index_map_len self.now.scopes) }
     {
-        self.scopes.get_index_of(&opening)
+        self.scopes.get_index_of(&scope_key)
     }
 
-    /// The scope of a name that was opened directly in a scope.
+    /// Returns the scope of this name that was opened directly in another scope, if there is one.
     pub fn scope_in(&self, within: usize, name: &[u8]) -> Option<usize>
         ensures { result ≡ scope_in (table_of self.now).scopes within name.now }
     {
-        match self.word(name) {
-            Some(word) => match self.place_opened(ScopeKey::Named { within, word }) {
+        match self.name_id(name) {
+            Some(name_id) => match self.scope_index(ScopeKey::Named { within, name_id }) {
                 Some(index) if index < self.scopes.len() => Some(index + 1),
                 _ => None,
             },
@@ -158,14 +157,14 @@ impl Symbols {
         }
     }
 
-    /// How many scopes were opened.
+    /// Returns the number of scopes that were opened.
     pub fn scope_count(&self) -> usize
         ensures { result ≡ length (table_of self.now).scopes }
     {
         self.scopes.len()
     }
 
-    /// Returns the scope in which a scope was opened; the global one has none.
+    /// Returns the scope in which a scope was opened; the global scope if there is none.
     pub fn enclosing(&self, scope: usize) -> usize
         ensures { result ≡ enclosing (table_of self.now).scopes scope }
     {
@@ -175,22 +174,23 @@ impl Symbols {
         }
     }
 
-    /// The scope in which the scope at an index was opened.
+    /// Returns the scope in which the scope at an index was opened, or the global scope if there is none at the
+    /// index.
     fn within(&self, index: usize) -> usize
         ensures { result ≡ parent_scope (slice_get (table_of self.now).scopes index) }
     {
         match self.scopes.get_index(index) {
-            Some((ScopeKey::Named { within, word: _ }, _)) => *within,
+            Some((ScopeKey::Named { within, name_id: _ }, _)) => *within,
             Some((ScopeKey::Nameless { within, number: _ }, _)) => *within,
             None => 0,
         }
     }
 
-    /// The definition at an index.
+    /// Returns the definition at an index, if there is one.
     pub fn definition(&self, index: usize) -> Option<&Definition>
-        ensures definition { slice_get (table_of self.now).definitions index ≡ option_map (λ d. definition_seen (key_at self.now index) d.now) result }
+        ensures definition { slice_get (table_of self.now).definitions index ≡ option_map (λ d. definition_view (key_at self.now index) d.now) result }
         ensures entry { option_map (λ d. d.now) result ≡ option_map (λ e. e.1) (slice_get self.now.definitions.entries index) }
-        ensures forms { IfSome result (λ d. KeepsFinal (table_of self.now) index (definition_seen (key_at self.now index) d.now) d.now) }
+        ensures forms { IfSome result (λ d. StoresFinalForm (table_of self.now) index (definition_view (key_at self.now index) d.now) d.now) }
     {
         match self.definitions.get_index(index) {
             Some((_, definition)) => Some(definition),
@@ -208,7 +208,7 @@ impl Symbols {
         }
     }
 
-    /// The place of a name among the imports.
+    /// Returns the index of a name among the imports, if it is imported.
     pub fn imported(&self, name: &[u8]) -> Option<usize>
         ensures { result ≡ import_index (table_of self.now) name.now }
     {
@@ -222,18 +222,18 @@ impl Symbols {
         self.zero_page.contains(name)
     }
 
-    /// The number of a name, which is put in where it is new.
-    pub fn number(&mut self, alloc: Global, name: &[u8]) -> Result<usize, AllocError>
+    /// Interns a name and returns its number.
+    pub fn intern_name(&mut self, alloc: Global, name: &[u8]) -> Result<usize, AllocError>
         ensures table { table_of self.new ≡ table_of self.old }
         ensures definitions { self.new.definitions ≡ self.old.definitions }
         ensures scopes { self.new.scopes ≡ self.old.scopes }
-        ensures number { IfOk result (λ w. position (bytes_eq name.now) (words_of self.new) ≡ Some w) }
+        ensures number { IfOk result (λ w. position (bytes_eq name.now) (interned_names_of self.new) ≡ Some w) }
     {
-        intern(alloc, &mut self.words, name)
+        intern(alloc, &mut self.interned_names, name)
     }
 
-    /// The opening of a scope: by its name, which is put in where it is new, or without one.
-    fn enter_opening(
+    /// Returns the key of a new scope. Interns its name, if it has one.
+    fn new_scope_key(
         &mut self,
         alloc: Global,
         within: usize,
@@ -241,12 +241,12 @@ impl Symbols {
     ) -> Result<ScopeKey, AllocError>
         ensures table { table_of self.new ≡ table_of self.old }
         ensures scopes { self.new.scopes ≡ self.old.scopes }
-        ensures opening { IfOk result (λ k. IsOpening (words_of self.new) (length self.new.scopes.entries) within (option_map (λ n. n.now) name.entry) k) }
+        ensures opening { IfOk result (λ k. IsScopeKey (interned_names_of self.new) (length self.new.scopes.entries) within (option_map (λ n. n.now) name.entry) k) }
     {
         match name {
             Some(name) => {
-                let word = self.number(alloc, name)?;
-                Ok(ScopeKey::Named { within, word })
+                let name_id = self.intern_name(alloc, name)?;
+                Ok(ScopeKey::Named { within, name_id })
             }
             None => {
                 let number = self.scopes.len();
@@ -255,22 +255,22 @@ impl Symbols {
         }
     }
 
-    /// Adds a scope, unless there is one by this opening.
-    fn put_scope(&mut self, opening: ScopeKey, is_proc: bool) -> Result<(), AllocError>
-        requires number { first_number (words_of self.old) (word_opened opening) ≡ word_opened opening }
-        requires distinct { HasNumber (length self.old.scopes.entries) opening }
-        ensures { OnOk result (position (same_opening opening) (keys self.old.scopes) ≡ None → table_of self.new ≡ with_scope (table_of self.old) (scope_by (words_of self.old) opening is_proc)) }
+    /// Adds a scope, unless its key is in the table.
+    fn add_scope(&mut self, scope_key: ScopeKey, is_proc: bool) -> Result<(), AllocError>
+        requires number { first_number (interned_names_of self.old) (scope_name_id scope_key) ≡ scope_name_id scope_key }
+        requires distinct { HasNumber (length self.old.scopes.entries) scope_key }
+        ensures { OnOk result (position (same_scope_key scope_key) (keys self.old.scopes) ≡ None → table_of self.new ≡ with_scope (table_of self.old) (scope_by (interned_names_of self.old) scope_key is_proc)) }
     {
-        match self.place_opened(opening) {
+        match self.scope_index(scope_key) {
             Some(_) => Ok(()),
             None => {
                 self.searched.clear();
-                push_scope(&mut self.scopes, opening, is_proc)
+                push_scope(&mut self.scopes, scope_key, is_proc)
             }
         }
     }
 
-    /// Opens a scope within another. Nothing is said where that has one of this name.
+    /// Opens a scope within another. The result is unspecified if the outer scope already has a scope of this name.
     pub fn open_scope(
         &mut self,
         alloc: Global,
@@ -280,11 +280,11 @@ impl Symbols {
     ) -> Result<(), AllocError>
         ensures { OnOk result (opened_twice (table_of self.old).scopes within (option_map (λ n. n.now) name.entry) ≡ None → table_of self.new ≡ with_scope (table_of self.old) (record { within = within; name = option_map (λ n. n.now) name.entry; is_proc = is_proc })) }
     {
-        let opening = self.enter_opening(alloc, within, name)?;
-        self.put_scope(opening, is_proc)
+        let scope_key = self.new_scope_key(alloc, within, name)?;
+        self.add_scope(scope_key, is_proc)
     }
 
-    /// Imports names, perhaps for the zero page.
+    /// Imports names, for the zero page if `is_zero_page`.
     pub fn import(
         &mut self,
         alloc: Global,

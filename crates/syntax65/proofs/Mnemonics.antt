@@ -12,9 +12,9 @@ use Rattle.std.specs.Cmp.Lexicographic.{pointwise, same_text, other_text}
 use Rattle.syntax65.specs.Mnemonics.{SpellsMnemonic, name_of, mnemonic_of}
 use Rattle.syntax65.specs.Forms.{IsFound}
 
--- ---- The list of all mnemonics leaves none out.
+-- ---- The list of all mnemonics is complete.
 
--- each mnemonic stands in the list of all
+-- each mnemonic is in the list of all
 pub place_of : (m : Mnemonic) → (i : ℕ) × (i < 56) × ((d : Mnemonic) → get_or ALL i d ≡ m)
 place_of Adc = (0, lit< tt, λ d. refl)
 place_of And = (1, lit< tt, λ d. refl)
@@ -73,7 +73,7 @@ place_of Txa = (53, lit< tt, λ d. refl)
 place_of Txs = (54, lit< tt, λ d. refl)
 place_of Tya = (55, lit< tt, λ d. refl)
 
--- ---- A mnemonic is found exactly where the bytes spell it.
+-- ---- A mnemonic is found exactly if the bytes spell it.
 
 -- names are in lower case
 lower_name : (m : Mnemonic) → map to_ascii_lowercase (name_of m) ≡ name_of m
@@ -96,7 +96,7 @@ first_step : (p : Mnemonic → Bool) (m : Mnemonic) (rest : Option Mnemonic) (b 
 first_step p m rest true e h = e
 first_step p m rest false e h = h
 
--- what is found passes
+-- an item that is found satisfies the predicate
 found_passes : (p : Mnemonic → Bool) (xs : List Mnemonic) → MatchOption (find p xs) (Unit {0}) (λ n. p n ≡ true)
 found_passes p [] = tt
 found_passes p (x ∷ xs) = first_step p x (find p xs) (p x) refl (found_passes p xs)
@@ -105,7 +105,7 @@ none_step : (p : Mnemonic → Bool) (x : Mnemonic) (xs : List Mnemonic) (b : Boo
 none_step p x xs true e h = absurd (cc)
 none_step p x xs false e h = (e, h)
 
--- where nothing is found, none passes
+-- if nothing is found, no item satisfies the predicate
 none_passes : (p : Mnemonic → Bool) (xs : List Mnemonic) (i : ℕ) (d : Mnemonic) → find p xs ≡ None → i < length xs → p (get_or xs i d) ≡ false
 none_passes p [] i d e lt = absurd (omega arith)
 none_passes p (x ∷ xs) zero d e lt = (none_step p x xs (p x) refl e).0
@@ -115,7 +115,7 @@ both : (r : Option Mnemonic) (bytes : List ℕ) → r ≡ find (is_spelled bytes
 both None bytes e = grind (arith, common_steps, place_of, none_passes, test_from_spells)
 both (Some m) bytes e = spells_from_test bytes m (subst (λ (r : Option Mnemonic). MatchOption r (Unit {0}) (λ n. is_spelled bytes n ≡ true)) (sym e) (found_passes (is_spelled bytes) ALL))
 
--- a mnemonic is found exactly where the bytes spell it
+-- a mnemonic is found exactly if the bytes spell it
 pub spelled_both_ways : (bytes : List ℕ) → IsFound (SpellsMnemonic bytes) (mnemonic_of bytes)
 unfolding mnemonic_of
 spelled_both_ways bytes = both (mnemonic_of bytes) bytes refl
@@ -123,7 +123,7 @@ spelled_both_ways bytes = both (mnemonic_of bytes) bytes refl
 one_spelled : (r q : Option Mnemonic) (bytes : List ℕ) → IsFound (SpellsMnemonic bytes) r → IsFound (SpellsMnemonic bytes) q → r ≡ q
 one_spelled x y bytes h k = grind (arith, common_steps)
 
--- what the bytes spell is found
+-- the mnemonic that the bytes spell is found
 pub is_found : (r : Option Mnemonic) (bytes : List ℕ) → IsFound (SpellsMnemonic bytes) r → r ≡ mnemonic_of bytes
 is_found r bytes h = one_spelled r (mnemonic_of bytes) bytes h (spelled_both_ways bytes)
 

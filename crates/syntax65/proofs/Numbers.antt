@@ -1,4 +1,4 @@
--- Digits, and numbers whose digits go on up to their end.
+-- Digits, and numbers whose digits continue up to their end.
 use Rattle.std.proofs.lemmas.Grind.{common_steps}
 use Rattle.std.proofs.Common.{◌≡◌, ℕ, ◌+◌, ◌*◌, ◌^◌, ◌<◌, ◌≤◌, Bool, true, false, List, [], ◌∷◌, length, drop, get_or, Option, Some, None, refl, sym, ap, ◌∙◌, arith, nat_lt, ◌≢◌, ◌-◌, take, one-add}
 use Rattle.std.specs.Prelude.{◌==◌, slice_get, slice_index, IfSome}
@@ -8,12 +8,12 @@ use Rattle.std.proofs.lemmas.Bool.Decides.{nat_tests}
 use Rattle.std.proofs.lemmas.List.{get_or-take}
 use Rattle.base65.specs.Digit.{digits}
 use Rattle.base65.proofs.Digit.{digits_from, next_digit}
-use Rattle.syntax65.specs.Forms.{number_of, plain_number_of, is_word}
+use Rattle.syntax65.specs.Forms.{number_of, plain_number_of, is_identifier_byte}
 use Rattle.std.proofs.lemmas.List.Folds.{length-prefix_len}
 use Rattle.std.proofs.lemmas.List.Sums.{prefix_len_passes, prefix_len_stops}
-use Rattle.syntax65.specs.Internal.Places.{AreDigitsAhead, IsPlainNumber}
+use Rattle.syntax65.specs.Internal.Positions.{AreDigitsAhead, IsPlainNumber}
 
--- ---- What the rest of some digits makes of the value so far.
+-- ---- The value of digits, from the value so far and the rest.
 
 test_true : (a b : ℕ) → a < b → nat_lt a b ≡ true
 test_true a b h = grind (arith, nat_tests)
@@ -23,39 +23,39 @@ one_digit radix v d ds h = let e : nat_lt (digit_value d) radix ≡ true = test_
 
 -- ---- Digits are bytes of words.
 
-digit_word : (b : ℕ) → b < 256 → digit_value b < 16 → is_word b ≡ true
+digit_word : (b : ℕ) → b < 256 → digit_value b < 16 → is_identifier_byte b ≡ true
 digit_word b h d = grind (arith, common_steps)
 
--- ---- How far they go.
+-- ---- The number of leading digits.
 
-more_word : (bs : List ℕ) (i : ℕ) → i < length bs → i ≤ prefix_len is_word bs → is_word (get_or bs i 0) ≡ true → i + 1 ≤ prefix_len is_word bs
-more_word bs i lt le w = go (nat_lt i (prefix_len is_word bs)) refl
+more_word : (bs : List ℕ) (i : ℕ) → i < length bs → i ≤ prefix_len is_identifier_byte bs → is_identifier_byte (get_or bs i 0) ≡ true → i + 1 ≤ prefix_len is_identifier_byte bs
+more_word bs i lt le w = go (nat_lt i (prefix_len is_identifier_byte bs)) refl
   where
-    go : (b : Bool) → nat_lt i (prefix_len is_word bs) ≡ b → i + 1 ≤ prefix_len is_word bs
+    go : (b : Bool) → nat_lt i (prefix_len is_identifier_byte bs) ≡ b → i + 1 ≤ prefix_len is_identifier_byte bs
     go true e = grind (arith, nat_tests)
     go false e =
-        let at : prefix_len is_word bs ≡ i = grind (arith, nat_tests) in
-        let stop : is_word (get_or bs (prefix_len is_word bs) 0) ≡ false = prefix_len_stops is_word bs 0 (omega (arith, at)) in
-        let same : is_word (get_or bs (prefix_len is_word bs) 0) ≡ true = ap (λ n. is_word (get_or bs n 0)) at ∙ w in
+        let at : prefix_len is_identifier_byte bs ≡ i = grind (arith, nat_tests) in
+        let stop : is_identifier_byte (get_or bs (prefix_len is_identifier_byte bs) 0) ≡ false = prefix_len_stops is_identifier_byte bs 0 (omega (arith, at)) in
+        let same : is_identifier_byte (get_or bs (prefix_len is_identifier_byte bs) 0) ≡ true = ap (λ n. is_identifier_byte (get_or bs n 0)) at ∙ w in
         absurd cc
 
-pub word_ends : (bs : List ℕ) (i : ℕ) → i ≤ prefix_len is_word bs → is_word (get_or bs i 0) ≡ false → i ≡ prefix_len is_word bs
+pub word_ends : (bs : List ℕ) (i : ℕ) → i ≤ prefix_len is_identifier_byte bs → is_identifier_byte (get_or bs i 0) ≡ false → i ≡ prefix_len is_identifier_byte bs
 word_ends bs i le w = grind (arith, common_steps, prefix_len_passes, nat_tests)
 
--- one digit more
-pub goes_on : (bs : List ℕ) (i v d radix : ℕ) → radix ≤ 16 → get_or bs i 0 < 256 → i < length bs → i ≤ prefix_len is_word bs → d ≡ digit_value (get_or bs i 0) → d < radix → digits_from radix v (drop i (take (prefix_len is_word bs) bs)) ≡ digits_from radix 0 (take (prefix_len is_word bs) bs) → (i + 1 ≤ prefix_len is_word bs) × (digits_from radix (v * radix + d) (drop (i + 1) (take (prefix_len is_word bs) bs)) ≡ digits_from radix 0 (take (prefix_len is_word bs) bs))
+-- one more digit
+pub goes_on : (bs : List ℕ) (i v d radix : ℕ) → radix ≤ 16 → get_or bs i 0 < 256 → i < length bs → i ≤ prefix_len is_identifier_byte bs → d ≡ digit_value (get_or bs i 0) → d < radix → digits_from radix v (drop i (take (prefix_len is_identifier_byte bs) bs)) ≡ digits_from radix 0 (take (prefix_len is_identifier_byte bs) bs) → (i + 1 ≤ prefix_len is_identifier_byte bs) × (digits_from radix (v * radix + d) (drop (i + 1) (take (prefix_len is_identifier_byte bs) bs)) ≡ digits_from radix 0 (take (prefix_len is_identifier_byte bs) bs))
 goes_on bs i v d radix r byte lt le e small same =
-    let n = prefix_len is_word bs in
+    let n = prefix_len is_identifier_byte bs in
     let text = take n bs in
     let more : i + 1 ≤ n = more_word bs i lt le (digit_word (get_or bs i 0) byte (omega (arith, e))) in
-    let len : length text ≡ n = length-prefix_len is_word bs in
+    let len : length text ≡ n = length-prefix_len is_identifier_byte bs in
     let here : get_or text i 0 ≡ get_or bs i 0 = get_or-take n bs i 0 (omega (arith, more)) in
     let digit : digit_value (get_or text i 0) ≡ d = ap digit_value here ∙ sym e in
     let next : digits_from radix v (drop i text) ≡ digits_from radix (v * radix + digit_value (get_or text i 0)) (drop (i + 1) text) = ap (digits_from radix v) (next_digit text i (omega (arith, len))) ∙ one_digit radix v (get_or text i 0) (drop (i + 1) text) (omega (arith, digit)) in
     (more, ap (λ k. digits_from radix (v * radix + k) (drop (i + 1) text)) (sym digit) ∙ sym next ∙ same)
 
 -- at the end of the digits
-pub are_ahead : (bs : List ℕ) (i v radix : ℕ) → i ≡ prefix_len is_word bs → 0 < i → v < 2 ^ 32 → digits_from radix v (drop i (take (prefix_len is_word bs) bs)) ≡ digits_from radix 0 (take (prefix_len is_word bs) bs) → AreDigitsAhead radix bs v i
+pub are_ahead : (bs : List ℕ) (i v radix : ℕ) → i ≡ prefix_len is_identifier_byte bs → 0 < i → v < 2 ^ 32 → digits_from radix v (drop i (take (prefix_len is_identifier_byte bs) bs)) ≡ digits_from radix 0 (take (prefix_len is_identifier_byte bs) bs) → AreDigitsAhead radix bs v i
 are_ahead bs i v radix at some small same = grind (arith, common_steps)
 
 -- ---- Whole numbers.
@@ -79,18 +79,18 @@ other a b h = grind (arith, nat_tests)
 -- a number that begins with no sign
 without_sign : (here : List ℕ) (b v n : ℕ) → Some b ≡ slice_get here 0 → b ≢ 36 → b ≢ 37 → AreDigitsAhead 10 here v n → IsPlainNumber here v n
 without_sign [] b v n h p q a = absurd cc
-without_sign (x ∷ bs) b v n h p q (e, f) = go (is_word x) refl
+without_sign (x ∷ bs) b v n h p q (e, f) = go (is_identifier_byte x) refl
   where
     same : b ≡ x
     same = cc
 
-    go : (t : Bool) → is_word x ≡ t → IsPlainNumber (x ∷ bs) v n
+    go : (t : Bool) → is_identifier_byte x ≡ t → IsPlainNumber (x ∷ bs) v n
     go false w =
         let n0 : n ≡ 0 = e ∙ rw w refl in
         absurd (not_none v (sym (ap (λ k. digits 10 (take k (x ∷ bs))) n0) ∙ f))
     go true w =
-        let n1 : n ≡ 1 + prefix_len is_word bs = e ∙ rw w refl in
-        let m = prefix_len is_word bs in
+        let n1 : n ≡ 1 + prefix_len is_identifier_byte bs = e ∙ rw w refl in
+        let m = prefix_len is_identifier_byte bs in
         let text : take n (x ∷ bs) ≡ x ∷ take m bs = ap (λ k. take k (x ∷ bs)) (n1 ∙ one-add m) in
         let value : plain_number_of (x ∷ take m bs) ≡ Some v = of_digits (x ∷ take m bs) v (ap (digits 10) (sym text) ∙ f) in
         let no36 : (x == 36) ≡ false = other x 36 (λ k. p (same ∙ k)) in

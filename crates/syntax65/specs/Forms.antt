@@ -1,8 +1,8 @@
 -- The classes of bytes, the values of numbers, the forms of tokens, and the longest token at a position.
 use Rattle.std.specs.Prelude.{ℕ, not, Bool, true, false, ◌==◌, if◌then◌else◌, ◌-◌, ◌≤◌, List, [], ◌∷◌, length, take, slice_index, Option, Some, None, ◌≡◌, ◌≢◌, ◌⊎◌, ◌<◌, IsTrue, drop, codes, ⊤}
 use Rattle.std.specs.Char.{is_ascii_alphabetic, is_ascii_digit}
-use Rattle.syntax65.specs.declared.lexing.places.Class.{Class}
-use Rattle.syntax65.specs.declared.lexing.places.Class.TheVariants.{Letter, Digit, Radix, At, Dot, Apostrophe, Quote, Colon, Semicolon, Blank, Other}
+use Rattle.syntax65.specs.declared.lexing.positions.Class.{Class}
+use Rattle.syntax65.specs.declared.lexing.positions.Class.TheVariants.{Letter, Digit, Radix, At, Dot, Apostrophe, Quote, Colon, Semicolon, Blank, Other}
 use Rattle.std.specs.List.{list_all}
 use Rattle.base65.specs.Digit.{digits}
 use Rattle.syntax65.specs.declared.lexing.tokens.AddressSize.{AddressSize}
@@ -33,18 +33,18 @@ class_of b =
     else (if b == 32 then Blank
     else (if b == 9 then Blank else Other))))))))))))
 
-abbrev pub is_word_class : Class → Bool
-is_word_class Letter = true
-is_word_class Digit = true
-is_word_class _ = false
+abbrev pub is_identifier_class : Class → Bool
+is_identifier_class Letter = true
+is_identifier_class Digit = true
+is_identifier_class _ = false
 
 abbrev pub is_blank_class : Class → Bool
 is_blank_class Blank = true
 is_blank_class _ = false
 
 -- a letter, a digit or `_`
-abbrev pub is_word : ℕ → Bool
-is_word b = is_word_class (class_of b)
+abbrev pub is_identifier_byte : ℕ → Bool
+is_identifier_byte b = is_identifier_class (class_of b)
 
 abbrev pub is_blank : ℕ → Bool
 is_blank b = is_blank_class (class_of b)
@@ -72,23 +72,23 @@ number_of (b ∷ bs) =
 -- ---- The forms of tokens, and the longest token at a position.
 
 -- only letters, digits and `_`
-abbrev pub AllWord : List ℕ → Type 0
-AllWord bs = IsTrue (list_all is_word bs)
+abbrev pub AreIdentifierBytes : List ℕ → Type 0
+AreIdentifierBytes bs = IsTrue (list_all is_identifier_byte bs)
 
 -- a letter or `_`, then letters, digits and `_`
 abbrev pub IsName : List ℕ → Type 0
 IsName [] = ⊥
-IsName (b ∷ bs) = (class_of b ≡ Letter) × AllWord bs
+IsName (b ∷ bs) = (class_of b ≡ Letter) × AreIdentifierBytes bs
 
 -- one or more of one byte
 abbrev pub IsRunOf : ℕ → List ℕ → Type 0
 IsRunOf c bs = (bs ≢ []) × IsTrue (list_all (λ b. b == c) bs)
 
 -- bytes other than `"`, and a `"`
-abbrev pub ClosesText : List ℕ → Type 0
-ClosesText [] = ⊥
-ClosesText (b ∷ []) = b ≡ 34
-ClosesText (b ∷ c ∷ bs) = (b ≢ 34) × ClosesText (c ∷ bs)
+abbrev pub ClosesString : List ℕ → Type 0
+ClosesString [] = ⊥
+ClosesString (b ∷ []) = b ≡ 34
+ClosesString (b ∷ c ∷ bs) = (b ≢ 34) × ClosesString (c ∷ bs)
 
 -- `$`, `%` or a decimal digit
 abbrev pub StartsNumber : Class → Type 0
@@ -139,40 +139,40 @@ IsFound Is (Some x) = Is x
 -- a text of this form, whatever the value of its number and the length of its name
 abbrev pub IsForm : TokenKind → List ℕ → Type 0
 IsForm k [] = ⊥
-IsForm Identifier (b ∷ bs) = (class_of b ≡ Letter) × AllWord bs
+IsForm Identifier (b ∷ bs) = (class_of b ≡ Letter) × AreIdentifierBytes bs
 IsForm CheapName (b ∷ bs) = (class_of b ≡ At) × IsName bs
 IsForm Directive (b ∷ bs) = (class_of b ≡ Dot) × IsName bs
-IsForm (Number v) (b ∷ bs) = StartsNumber (class_of b) × AllWord bs
+IsForm (Number v) (b ∷ bs) = StartsNumber (class_of b) × AreIdentifierBytes bs
 IsForm (Character c) (b ∷ bs) = (class_of b ≡ Apostrophe) × (bs ≡ c ∷ 39 ∷ [])
-IsForm StringLiteral (b ∷ bs) = (class_of b ≡ Quote) × ClosesText bs
+IsForm StringLiteral (b ∷ bs) = (class_of b ≡ Quote) × ClosesString bs
 IsForm Unnamed (b ∷ bs) = (class_of b ≡ Colon) × (IsRunOf 43 bs ⊎ IsRunOf 45 bs)
 IsForm (SizePrefix s) (b ∷ bs) = IsSizeLetter s b × (bs ≡ 58 ∷ [])
 IsForm (Symbol m) (b ∷ bs) = b ∷ bs ≡ spelling m
 
 -- no `:` and no `=`
-abbrev pub NotColonOrEqual : List ℕ → Type 0
-NotColonOrEqual [] = ⊤
-NotColonOrEqual (b ∷ bs) = (b ≢ 58) × (b ≢ 61)
+abbrev pub HasNoColonOrEqual : List ℕ → Type 0
+HasNoColonOrEqual [] = ⊤
+HasNoColonOrEqual (b ∷ bs) = (b ≢ 58) × (b ≢ 61)
 
 -- a size prefix isn't the first token of its line, and neither `:` nor `=` follows it
-abbrev pub MayStand : Bool → TokenKind → List ℕ → Type 0
-MayStand first (SizePrefix s) following = (first ≡ false) × NotColonOrEqual following
-MayStand first _ following = ⊤
+abbrev pub IsAllowedInContext : Bool → TokenKind → List ℕ → Type 0
+IsAllowedInContext first (SizePrefix s) following = (first ≡ false) × HasNoColonOrEqual following
+IsAllowedInContext first _ following = ⊤
 
 -- the first n bytes have this form, and it is allowed here
 pub record TokenMatchesAt (first : Bool) (k : TokenKind) (n : ℕ) (here : List ℕ) : Type 0 where
-  pub room : n ≤ length here
+  pub fits : n ≤ length here
   pub form : IsForm k (take n here)
-  pub allowed : MayStand first k (drop n here)
+  pub allowed : IsAllowedInContext first k (drop n here)
 
 -- and no longer text matches here
 pub record IsLongest (first : Bool) (k : TokenKind) (n : ℕ) (here : List ℕ) : Type 0 where
-  pub stands : TokenMatchesAt first k n here
+  pub form_matches : TokenMatchesAt first k n here
   pub longest : (j : TokenKind) (m : ℕ) → n < m → TokenMatchesAt first j m here → ⊥
 
 -- no form matches here
-abbrev pub NoForm : Bool → List ℕ → Type 0
-NoForm first here = (k : TokenKind) (n : ℕ) → TokenMatchesAt first k n here → ⊥
+abbrev pub HasNoMatch : Bool → List ℕ → Type 0
+HasNoMatch first here = (k : TokenKind) (n : ℕ) → TokenMatchesAt first k n here → ⊥
 
 -- the name in a text, without its `@` or `.`
 abbrev pub name_in : TokenKind → List ℕ → List ℕ
@@ -196,10 +196,10 @@ BeginsWithClass c [] = ⊥
 BeginsWithClass c (b ∷ bs) = class_of b ≡ c
 
 -- no token is here, for this reason
-abbrev pub FaultAt : Bool → List ℕ → LexFault → Type 0
-FaultAt first here OutOfMemory = ⊥
-FaultAt first here BadCharacter = NoForm first here × (BeginsWithClass Quote here → ⊥)
-FaultAt first here BadNumber = (v n : ℕ) × IsLongest first (Number v) n here × (number_of (take n here) ≡ None)
-FaultAt first here StringNotClosed = NoForm first here × BeginsWithClass Quote here
-FaultAt first here LineTooLong = ⊥
-FaultAt first here NameTooLong = (k : TokenKind) × (n : ℕ) × IsLongest first k n here × (200 < length (name_in k (take n here)))
+abbrev pub HasFaultAt : Bool → List ℕ → LexFault → Type 0
+HasFaultAt first here OutOfMemory = ⊥
+HasFaultAt first here BadCharacter = HasNoMatch first here × (BeginsWithClass Quote here → ⊥)
+HasFaultAt first here BadNumber = (v n : ℕ) × IsLongest first (Number v) n here × (number_of (take n here) ≡ None)
+HasFaultAt first here StringNotClosed = HasNoMatch first here × BeginsWithClass Quote here
+HasFaultAt first here LineTooLong = ⊥
+HasFaultAt first here NameTooLong = (k : TokenKind) × (n : ℕ) × IsLongest first k n here × (200 < length (name_in k (take n here)))

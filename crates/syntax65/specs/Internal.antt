@@ -1,2 +1,2 @@
 -- Definitions that only contracts within the crate cite, in the terms of its code.
-pub mod Places
+pub mod Positions

@@ -5,7 +5,7 @@ use Rattle.syntax65.specs.Expressions.{IsParsed}
 use Rattle.syntax65.specs.Faults.{is_expr_system_error, is_lex_system_error}
 use Rattle.syntax65.specs.Tokens.{IsNextToken, IsRead, Lexeme}
 use Rattle.syntax65.specs.Trees.{Tree}
-use Rattle.syntax65.specs.declared.expressions.words.ExprFault.{ExprFault}
+use Rattle.syntax65.specs.declared.expressions.operators.ExprFault.{ExprFault}
 use Rattle.syntax65.specs.declared.lexing.tokens.LexFault.{LexFault}
 use Rattle.syntax65.specs.declared.lexing.tokens.Token.{Token}
 

@@ -1,9 +1,9 @@
 //! Expressions as trees.
 
+mod operators;
 mod reading;
 mod trees;
-mod words;
 
+pub use operators::{ExprFault, is_reserved};
 pub use reading::{MAX_DEPTH, read_expr};
 pub use trees::{Expr, ExprKind, Identifier, Name, Operands};
-pub use words::{ExprFault, is_reserved};

@@ -45,14 +45,14 @@ pub enum ExpandFault {
 }
 
 impl ExpandFault {
-    ghost use Rattle.syntax65.specs.Faults.{expand_words};
+    ghost use Rattle.syntax65.specs.Faults.{expand_fault_message};
 
     /// Returns the text of the message; for `.error`, the bytes of its text.
-    pub fn words(&self) -> &[u8]
-        ensures { result.now ≡ expand_words self.now }
+    pub fn message_text(&self) -> &[u8]
+        ensures { result.now ≡ expand_fault_message self.now }
     {
         match self {
-            ExpandFault::Syntax(fault) => fault.words().as_bytes(),
+            ExpandFault::Syntax(fault) => fault.message_text().as_bytes(),
             ExpandFault::Error(text) => text.as_slice(),
             ExpandFault::FailedBefore => b"failed before",
             ExpandFault::OutOfMemory => b"out of memory",

@@ -1,9 +1,9 @@
 //! The tokens of a source line.
 
 mod lines;
-mod places;
+mod positions;
 mod tokens;
 
-pub use lines::{Lexer, LineFront, LineTokens, MAX_LINE, line_front, line_tokens};
-pub use places::MAX_NAME;
+pub use lines::{FirstTokens, Lexer, LineTokens, MAX_LINE, first_tokens, line_tokens};
+pub use positions::MAX_NAME;
 pub use tokens::{AddressSize, LexFault, Punctuation, Token, TokenKind};

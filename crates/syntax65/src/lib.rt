@@ -11,8 +11,8 @@ mod source_location;
 mod spelling;
 
 pub use base65::{
-    ListVec, MemStore, Op1, Op2, PathString, Store, StoreFault, apply1, apply2, read_front,
-    read_full,
+    ListVec, MemStore, Op1, Op2, PathString, Store, StoreFault, apply1, apply2, read_full,
+    read_prefix,
 };
 pub use expressions::{
     Expr, ExprFault, ExprKind, Identifier, MAX_DEPTH, Name, Operands, is_reserved, read_expr,
@@ -20,7 +20,7 @@ pub use expressions::{
 pub use fault::ExpandFault;
 pub use instructions::{Mnemonic, Mode, mnemonic, opcode};
 pub use lexing::{
-    AddressSize, LexFault, Lexer, LineFront, LineTokens, MAX_LINE, MAX_NAME, Punctuation, Token,
-    TokenKind, line_front, line_tokens,
+    AddressSize, FirstTokens, LexFault, Lexer, LineTokens, MAX_LINE, MAX_NAME, Punctuation, Token,
+    TokenKind, first_tokens, line_tokens,
 };
 pub use source_location::{MAX_FILE, SourceLocation};

@@ -19,7 +19,7 @@ pub struct SourceLocation {
 impl SourceLocation {
     /// Copies the location.
     pub fn copy(&self, alloc: Global) -> Result<SourceLocation, AllocError>
-        ensures { IfOk result (λ place. place ≡ self.now) }
+        ensures { IfOk result (λ location. location ≡ self.now) }
     {
         Ok(SourceLocation {
             file: PathString::copy_of(alloc, self.file.as_str())?,

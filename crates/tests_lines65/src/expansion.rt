@@ -113,7 +113,7 @@ fn refuse(
     let (file, line) = expander.place();
     let place = format!(in alloc; "{file}:{line}: ")?;
     out.extend_from_slice(place.as_str().as_bytes())?;
-    out.extend_from_slice(fault.words())
+    out.extend_from_slice(fault.message_text())
 }
 
 /// Appends at most `count` statements of an expander, and then its error, if any.
@@ -156,7 +156,7 @@ fn expanded<S: Store>(
 ) -> Result<Vec<u8>, AllocError> {
     match Expander::open(alloc, store, "b.s", options) {
         Ok(mut expander) => spell_all(alloc, store, &mut expander, all, many),
-        Err(fault) => Vec::from_slice(alloc, fault.words()),
+        Err(fault) => Vec::from_slice(alloc, fault.message_text()),
     }
 }
 

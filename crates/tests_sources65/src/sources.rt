@@ -266,7 +266,7 @@ fn texts(rt: HostRuntime) -> Result<(), Fail> {
 #[test]
 fn words_of_faults(rt: HostRuntime) {
     let fault = AsmFault::Expansion(ExpandFault::Syntax(LexFault::BadNumber));
-    assert!(rt; fault.words().is_empty() && fault.name() == b"bad number".as_slice());
+    assert!(rt; fault.message_text().is_empty() && fault.name() == b"bad number".as_slice());
     assert!(rt; !fault.is_memory());
     assert!(rt; AsmFault::Expansion(ExpandFault::OutOfMemory).is_memory());
 }

@@ -10,16 +10,16 @@ use Rattle.base65.specs.Store.{Files}
 use Rattle.object65.specs.declared.object.Export.{Export}
 use Rattle.object65.specs.declared.object.Object.{Object}
 use Rattle.object65.specs.Objects.{is_well_formed_object}
-use Rattle.object65.specs.Reading.{file_limit, in_file, bytes_before, object_at}
+use Rattle.object65.specs.Reading.{file_limit, in_file, bytes_between, object_at}
 use Rattle.object65.specs.Spelling.{IsObject, object_bytes}
 use Rattle.object65.specs.Versions.{IsEitherVersion}
-use Rattle.object65.proofs.Spellings.{no_prefix, object_is_read}
+use Rattle.object65.proofs.Encodings.{no_prefix, object_is_read}
 use Rattle.object65.proofs.Versions.{version_law}
 use Rattle.library65.specs.declared.index.Entry.{Entry}
 use Rattle.library65.specs.Libraries.{has_index_names, are_same, contents_from}
 use Rattle.library65.specs.Reading.{index_at, in_file as in_library}
 use Rattle.library65.specs.Spelling.{AreMembers as AreStored, IsLibrary, Member, index_bytes}
-use Rattle.library65.proofs.Again.{index_again}
+use Rattle.library65.proofs.IndexEncodings.{index_again}
 use Rattle.script65.specs.declared.script.Script.{Script}
 use Rattle.semantics65.specs.Contents.{Content}
 use Rattle.semantics65.specs.Layout.{Layout}
@@ -31,16 +31,16 @@ use Rattle.sources65.specs.Reading.{Job, IsOutcome}
 use Rattle.sources65.proofs.SoundContents.{sound_contents}
 use Rattle.sources65.proofs.SoundSources.{sound_layout}
 use Rattle.emit65.proofs.GoodObjects.{good_object}
-use Rattle.link65.specs.Names.{given_names, open_names}
+use Rattle.link65.specs.Names.{strong_names, open_names}
 use Rattle.link65.specs.Programs.{Module, program_of}
 use Rattle.link65.specs.Representation.{module_of}
 use Rattle.whole65.proofs.SameValues.{bind_ok}
-use Rattle.ld65.specs.Linkage.{ByKind, selected_entries, chosen_at, file_input, is_library, is_library_in, member_input, member_module, no_limit}
+use Rattle.ld65.specs.Linkage.{IfLibraryElse, selected_entries, entry_if_any, file_input, is_library, is_library_in, member_input, member_module, no_limit}
 use Rattle.tools65.specs.Inputs.{SourcesSelectedLaw, WrittenInputLaw, WrittenMemberLaw, WrittenObjectLaw}
 use Rattle.tools65.specs.OneProgram.{AreModulesOfInput, AreModulesOfEntries, AreObjectsOf, AreModulesOfInputs, AreModulesOfLibrary, IsModuleOf, IsObjectOf, Source}
-use Rattle.tools65.specs.Written.{IsOneOf, IsSourceInput, IsSourceObject, IsWrittenOf}
-use Rattle.tools65.proofs.Selected.{ok_err, ok_same}
-use Rattle.library65.proofs.SomeSelection.{some_selection}
+use Rattle.tools65.specs.ObjectFiles.{IsOneOf, IsSourceInput, IsSourceObject, IsObjectFileOf}
+use Rattle.tools65.proofs.SelectedModules.{ok_err, ok_same}
+use Rattle.library65.proofs.SelectionExistence.{some_selection}
 
 -- ---- The object of a source is one of the grammar.
 
@@ -64,7 +64,7 @@ either_good o p good (inr same) = subst (λ (k : Object). is_well_formed_object 
 
 pub written_object : WrittenObjectLaw
 written_object x bytes w = record {
-  good = either_good w.made w.object (good_source x.files x.job w.outcome w.made w.assembled w.result) w.version;
+  well_formed = either_good w.assembled_object w.object (good_source x.files x.job w.outcome w.assembled_object w.assembled w.result) w.version;
   numbers = w.numbers;
   spelled = w.spelled;
 }
@@ -72,18 +72,18 @@ written_object x bytes w = record {
 some_bytes : (o : Object) → 0 < length (object_bytes o)
 some_bytes o = omega arith
 
-source_module : (x : Source) (bytes name : List ℕ) (w : IsWrittenOf x bytes) → IsObjectOf x (module_of name w.object)
-source_module x bytes name w = (w.outcome, w.made, w.assembled, w.result, w.version)
+source_module : (x : Source) (bytes name : List ℕ) (w : IsObjectFileOf x bytes) → IsObjectOf x (module_of name w.object)
+source_module x bytes name w = (w.outcome, w.assembled_object, w.assembled, w.result, w.version)
 
 -- ---- A file.
 
-whole_room : (bytes : List ℕ) → length bytes ≤ file_limit → bytes_before bytes 0 no_limit ≡ bytes
+whole_room : (bytes : List ℕ) → length bytes ≤ file_limit → bytes_between bytes 0 no_limit ≡ bytes
 whole_room bytes short = take_all (no_limit - 0) bytes (omega arith)
 
 file_read : (bytes : List ℕ) (o : Object) → length bytes ≤ file_limit → IsObject bytes o → object_at 0 no_limit bytes ≡ Ok o
 file_read bytes o short is =
-    let all : bytes_before bytes 0 no_limit ≡ bytes = whole_room bytes short in
-    let fits : 0 + length (bytes_before bytes 0 no_limit) ≤ file_limit = omega (arith, short, ap (length {A = ℕ}) all) in
+    let all : bytes_between bytes 0 no_limit ≡ bytes = whole_room bytes short in
+    let fits : 0 + length (bytes_between bytes 0 no_limit) ≤ file_limit = omega (arith, short, ap (length {A = ℕ}) all) in
     object_is_read bytes 0 no_limit o fits (subst (λ (bs : List ℕ). IsObject bs o) (sym all) is)
 
 no_library : (o : Object) → is_library (object_bytes o) ≡ false
@@ -99,7 +99,7 @@ written_input s m before name bytes x there w =
     let read = ap (λ (f : Option (List ℕ)). in_file f (object_at 0 no_limit)) there ∙ file_read bytes w.object w.limit (written_object x bytes w) in
     let is : IsModuleOf m (file_input name) k = (w.object, read, refl, refl) in
     let own : (y : Module) × IsModuleOf m (file_input name) y × (k ∷ [] ≡ y ∷ []) = (k, is, refl) in
-    (k, source_module x bytes name w, subst (λ (b : Bool). ByKind b (AreModulesOfLibrary s m before name (k ∷ [])) ((y : Module) × IsModuleOf m (file_input name) y × (k ∷ [] ≡ y ∷ []))) (sym kind) own)
+    (k, source_module x bytes name w, subst (λ (b : Bool). IfLibraryElse b (AreModulesOfLibrary s m before name (k ∷ [])) ((y : Module) × IsModuleOf m (file_input name) y × (k ∷ [] ≡ y ∷ []))) (sym kind) own)
 
 -- ---- A member.
 
@@ -120,7 +120,7 @@ agreeing e o exports imports =
     (ap (λ (ns : List (List ℕ)). are_same ns (exported o)) exports ∙ same_names (exported o))
     (ap (λ (ns : List (List ℕ)). are_same ns o.imports) imports ∙ same_names o.imports)
 
-member_room : (bytes : List ℕ) (at size : ℕ) → bytes_before bytes at (at + size) ≡ take size (drop at bytes)
+member_room : (bytes : List ℕ) (at size : ℕ) → bytes_between bytes at (at + size) ≡ take size (drop at bytes)
 member_room bytes at size = let n : at + size - at ≡ size = omega arith in ap (λ k. take k (drop at bytes)) n
 
 piece_within : (bytes : List ℕ) (at size : ℕ) → 0 < length (take size (drop at bytes)) → at + length (take size (drop at bytes)) ≤ length bytes
@@ -128,10 +128,10 @@ piece_within bytes at size some = omega (arith, some, length-take size (drop at 
 
 member_read : (bytes piece : List ℕ) (at size : ℕ) (o : Object) → length bytes ≤ file_limit → piece ≡ take size (drop at bytes) → IsObject piece o → object_at at (at + size) bytes ≡ Ok o
 member_read bytes piece at size o short same is =
-    let all : piece ≡ bytes_before bytes at (at + size) = same ∙ sym (member_room bytes at size) in
+    let all : piece ≡ bytes_between bytes at (at + size) = same ∙ sym (member_room bytes at size) in
     let some : 0 < length (take size (drop at bytes)) = subst (λ (bs : List ℕ). 0 < length bs) (sym is.spelled ∙ same) (some_bytes o) in
     let within = piece_within bytes at size some in
-    let fits : at + length (bytes_before bytes at (at + size)) ≤ file_limit = omega (arith, within, short, ap (length {A = ℕ}) (member_room bytes at size)) in
+    let fits : at + length (bytes_between bytes at (at + size)) ≤ file_limit = omega (arith, within, short, ap (length {A = ℕ}) (member_room bytes at size)) in
     object_is_read bytes at (at + size) o fits (subst (λ (bs : List ℕ). IsObject bs o) all is)
 
 pub written_member : WrittenMemberLaw
@@ -154,14 +154,14 @@ append_all : {X : Type 0} (P : X → Type 0) (xs ys : List X) → AllByRecursion
 append_all P [] ys f g = g
 append_all P (x ∷ xs) ys f g = (f.0, append_all P xs ys f.1 g)
 
-one_chosen : (P : Entry → Type 0) (es : List Entry) (index : ℕ) → AllByRecursion P es → AllByRecursion P (chosen_at es index)
+one_chosen : (P : Entry → Type 0) (es : List Entry) (index : ℕ) → AllByRecursion P es → AllByRecursion P (entry_if_any es index)
 one_chosen P [] index all = tt
 one_chosen P (e ∷ es) zero all = (all.0, tt)
 one_chosen P (e ∷ es) (suc index) all = one_chosen P es index all.1
 
 all_chosen : (P : Entry → Type 0) (es : List Entry) (indices : List ℕ) → AllByRecursion P es → AllByRecursion P (selected_entries es indices)
 all_chosen P es [] all = tt
-all_chosen P es (index ∷ indices) all = append_all P (chosen_at es index) (selected_entries es indices) (one_chosen P es index all) (all_chosen P es indices all)
+all_chosen P es (index ∷ indices) all = append_all P (entry_if_any es index) (selected_entries es indices) (one_chosen P es index all) (all_chosen P es indices all)
 
 objects_append : (xs ys : List Source) (ms ns : List Module) → AreObjectsOf xs ms → AreObjectsOf ys ns → AreObjectsOf (xs ++ ys) (ms ++ ns)
 objects_append [] ys [] ns f g = g
@@ -205,7 +205,7 @@ module _ (sources : List Source) (m : Files) where
     library_given before library bytes ps there is all =
         let es : List Entry = is.index in
         let wanted : List (List ℕ) = open_names s (program_of before) in
-        let defined : List (List ℕ) = given_names s (program_of before) in
+        let defined : List (List ℕ) = strong_names s (program_of before) in
         let kind : is_library_in m library ≡ true = kind_in m library bytes true there (ap is_library is.is_index.spelled ∙ mark_bytes es is.is_index.members) in
         let index = ap (λ (f : Option (List ℕ)). in_library f index_at) there ∙ index_again bytes es is.is_index in
         let selected = some_selection es wanted defined in
@@ -214,7 +214,7 @@ module _ (sources : List Source) (m : Files) where
         let taken : AreModulesOfLibrary s m before library own.modules = (es, selected.0, index, selected.1, own.are) in
         record {
           modules = own.modules;
-          are = subst (λ (b : Bool). ByKind b (AreModulesOfLibrary s m before library own.modules) ((y : Module) × IsModuleOf m (file_input library) y × (own.modules ≡ y ∷ []))) (sym kind) taken;
+          are = subst (λ (b : Bool). IfLibraryElse b (AreModulesOfLibrary s m before library own.modules) ((y : Module) × IsModuleOf m (file_input library) y × (own.modules ≡ y ∷ []))) (sym kind) taken;
           xs = own.xs;
           given = own.given;
           objects = own.objects;

@@ -10,34 +10,34 @@ use Rattle.library65.specs.declared.index.Entry.{Entry}
 use Rattle.link65.specs.Programs.{Module}
 use Rattle.script65.specs.Scripts.{IsScript}
 use Rattle.script65.specs.declared.script.Script.{Script}
-use Rattle.cli65.specs.Line.{Linking}
+use Rattle.cli65.specs.Line.{LinkView}
 use Rattle.ld65.specs.Linkage.{member_input}
 use Rattle.tools65.specs.OneProgram.{AreModulesOfInput, IsModuleOf, IsObjectOf, SelectsSources, Source}
-use Rattle.tools65.specs.Written.{IsOneOf, IsSourceInput, IsWrittenOf}
+use Rattle.tools65.specs.ObjectFiles.{IsOneOf, IsSourceInput, IsObjectFileOf}
 
 -- the bytes that ca65 wrote from a source encode an object of the grammar
 abbrev pub WrittenObjectLaw : Type 0
-WrittenObjectLaw = (x : Source) (bytes : List ℕ) (w : IsWrittenOf x bytes) → IsObject bytes w.object
+WrittenObjectLaw = (x : Source) (bytes : List ℕ) (w : IsObjectFileOf x bytes) → IsObject bytes w.object
 
 -- a file that ca65 wrote from a source gives one module, an object of the source, whatever modules come
 -- before it
 abbrev pub WrittenInputLaw : Type 0
 WrittenInputLaw =
     (s : Script) (m : Files) (before : List Module) (name bytes : List ℕ) (x : Source) →
-    get m name ≡ Some bytes → IsWrittenOf x bytes →
+    get m name ≡ Some bytes → IsObjectFileOf x bytes →
     (k : Module) × IsObjectOf x k × AreModulesOfInput s m before name (k ∷ [])
 
--- a library's member that ca65 wrote of a source gives an object of the source (`p.1` is the bytes of the member `p`)
+-- a library's member that ca65 wrote from a source gives an object of the source (`p.1` is the bytes of the member `p`)
 abbrev pub WrittenMemberLaw : Type 0
 WrittenMemberLaw =
     (m : Files) (library bytes : List ℕ) (e : Entry) (p : Member) (x : Source) →
-    get m library ≡ Some bytes → length bytes ≤ file_limit → IsMember bytes e p → IsWrittenOf x p.1 →
+    get m library ≡ Some bytes → length bytes ≤ file_limit → IsMember bytes e p → IsObjectFileOf x p.1 →
     (k : Module) × IsObjectOf x k × IsModuleOf m (member_input library e) k
 
--- Where a line's script is there and is a script, and ca65 wrote each input, or each member of it, of one of these
--- sources, the line selects some of these sources.
+-- If a command line's script exists and is valid, and ca65 wrote each input, or each member of it, from one of these sources, the
+-- command line selects objects of some of these sources.
 abbrev pub SourcesSelectedLaw : Type 0
 SourcesSelectedLaw =
-    (sources : List Source) (l : Linking) (m : Files) (text : List ℕ) (s : Script) →
+    (sources : List Source) (l : LinkView) (m : Files) (text : List ℕ) (s : Script) →
     get m l.script ≡ Some text → IsScript text (Ok s) → AllByRecursion (IsSourceInput sources m) l.inputs →
     (xs : List Source) × AllByRecursion (IsOneOf sources) xs × SelectsSources l m s xs

@@ -1,2 +1,2 @@
 -- Definitions in terms of the code, for contracts within the crate alone.
-pub mod Computing
+pub mod ComputedOutcomes

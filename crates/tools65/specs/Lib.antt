@@ -2,11 +2,11 @@ pub mod Naming
 pub mod Assembling
 pub mod Archives
 pub mod Command
-pub mod Fitting
-pub mod OneOutcome
-pub mod Failing
+pub mod ObjectFits
+pub mod OutcomeLaws
+pub mod Failures
 pub mod OneProgram
-pub mod Written
+pub mod ObjectFiles
 pub mod Inputs
 pub mod Outputs
 pub mod Internal

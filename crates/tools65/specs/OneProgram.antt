@@ -11,34 +11,34 @@ use Rattle.object65.specs.declared.object.Object.{Object}
 use Rattle.object65.specs.Versions.{IsEitherVersion}
 use Rattle.library65.specs.Selection.{IsSelection}
 use Rattle.library65.specs.declared.index.Entry.{Entry}
-use Rattle.link65.specs.Names.{given_names, open_names}
+use Rattle.link65.specs.Names.{strong_names, open_names}
 use Rattle.link65.specs.Programs.{Module, program_of}
 use Rattle.link65.specs.Representation.{agrees_with, module_of}
 use Rattle.base65.specs.declared.output.OutputFile.{OutputFile}
 use Rattle.whole65.specs.Equality.{IsLinkedTo}
 use Rattle.whole65.specs.Whole.{IsWholeProgramImage}
-use Rattle.cli65.specs.Line.{Linking, CommandView, line_of, link}
-use Rattle.cli65.specs.Messages.{line_memory_message}
+use Rattle.cli65.specs.Line.{LinkView, CommandView, line_of, link}
+use Rattle.cli65.specs.Messages.{arguments_memory_message}
 use Rattle.cli65.specs.declared.fault.LineFault.{LineFault}
-use Rattle.ld65.specs.Linkage.{ByKind, Input, selected_entries, file_input, index_in, is_library_in, member_input, object_in, output_of}
-use Rattle.ld65.specs.Faults.{memory_message, error_message}
+use Rattle.ld65.specs.Linkage.{IfLibraryElse, Input, selected_entries, file_input, index_in, is_library_in, member_input, object_in, output_of}
+use Rattle.ld65.specs.Faults.{link_memory_message, error_message}
 use Rattle.ld65.specs.declared.fault.LinkCommandFault.{LinkCommandFault}
 use Rattle.output65.specs.declared.outcome.Outcome.{Outcome}
 use Rattle.output65.specs.declared.outcome.Status.{Status}
 use Rattle.output65.specs.declared.outcome.Status.TheVariants.{Failure, Success}
-use Rattle.tools65.specs.Command.{RunsCommand, IsLinkOutcome, IsOutcomeOfCommand, RunSatisfies, line_memory}
-use Rattle.output65.specs.RunEffects.{PerformsOutcome, apply, Streams}
-use Rattle.output65.specs.Outputs.{failing, with_map}
+use Rattle.tools65.specs.Command.{RunsCommand, IsOutcomeOfLink, IsOutcomeOfCommand, RunSatisfies, command_memory_message}
+use Rattle.output65.specs.RunEffects.{CommitsOutcome, with_outputs, Streams}
+use Rattle.output65.specs.Outputs.{error_outcome, with_map}
 
--- ---- Sources, what ca65 writes of them, and what they are as one program.
+-- ---- Sources, what ca65 writes from them, and what they are as one program.
 
 -- a source as ca65 is given it: files, and what is assembled of them
 pub record Source : Type 0 where
   pub files : Files
   pub job : Job
 
--- A module's object is one that ca65 wrote of a source: that which assembling gives, or that of version 1 of the same
--- statements.
+-- A module's object is one that ca65 wrote from a source: the result of assembling it, or version 1 of this object, which names
+-- no files: its locations have only lines.
 abbrev pub IsObjectOf : Source → Module → Type 0
 IsObjectOf x m = (o : asm.Outcome) × (p : Object) × IsOutcome x.files x.job o × (o.result ≡ Ok p) × IsEitherVersion p m.object
 
@@ -61,22 +61,22 @@ AreLayoutsOf [] (y ∷ ys) = ⊥
 AreLayoutsOf (x ∷ xs) [] = ⊥
 
 -- the sources, laid out and evaluated as one program, have this image
-abbrev pub WholeOf : List ℕ → Script → List Source → List OutputFile → Type 0
-WholeOf output s xs files = (ys : List Layout) × AreLayoutsOf xs ys × IsWholeProgramImage output s ys files
+abbrev pub HasImage : List ℕ → Script → List Source → List OutputFile → Type 0
+HasImage output s xs files = (ys : List Layout) × AreLayoutsOf xs ys × IsWholeProgramImage output s ys files
 
 -- Linking the objects that ca65 wrote from sources gives files if and only if the sources have an image as one program, and
 -- these files are the image.
 abbrev pub OneProgramLaw : Type 0
 OneProgramLaw =
     (output : List ℕ) (s : Script) (xs : List Source) (ms : List Module) (files : List OutputFile) →
-    AreObjectsOf xs ms → WholeOf output s xs files ↔ IsLinkedTo output s ms files
+    AreObjectsOf xs ms → HasImage output s xs files ↔ IsLinkedTo output s ms files
 
--- Sources either have an image or have none.
-abbrev pub ImageOrNoneLaw : Type 0
-ImageOrNoneLaw =
+-- It is decided whether sources have an image: they have one, or a proof that they have none.
+abbrev pub ImageIsDecidable : Type 0
+ImageIsDecidable =
     (output : List ℕ) (s : Script) (xs : List Source) (ms : List Module) → AreObjectsOf xs ms →
-    ((files : List OutputFile) × WholeOf output s xs files)
-    ⊎ ((files : List OutputFile) → WholeOf output s xs files → ⊥)
+    ((files : List OutputFile) × HasImage output s xs files)
+    ⊎ ((files : List OutputFile) → HasImage output s xs files → ⊥)
 
 -- ---- The modules that a line selects: the objects given, and of each library the members that are needed.
 
@@ -95,14 +95,14 @@ AreModulesOfEntries m library (e ∷ es) [] = ⊥
 abbrev pub AreModulesOfLibrary : Script → Files → List Module → List ℕ → List Module → Type 0
 AreModulesOfLibrary s m before library ms =
     (es : List Entry) × (indices : List ℕ) × (index_in m library ≡ Ok es)
-    × IsSelection es (open_names s (program_of before)) (given_names s (program_of before)) indices × AreModulesOfEntries m library (selected_entries es indices) ms
+    × IsSelection es (open_names s (program_of before)) (strong_names s (program_of before)) indices × AreModulesOfEntries m library (selected_entries es indices) ms
 
 -- the modules of an input, given the modules before it: of a library the members that are needed, of an object file its module
 abbrev pub AreModulesOfInput : Script → Files → List Module → List ℕ → List Module → Type 0
 AreModulesOfInput s m before name ms =
-    ByKind (is_library_in m name) (AreModulesOfLibrary s m before name ms) ((x : Module) × IsModuleOf m (file_input name) x × (ms ≡ x ∷ []))
+    IfLibraryElse (is_library_in m name) (AreModulesOfLibrary s m before name ms) ((x : Module) × IsModuleOf m (file_input name) x × (ms ≡ x ∷ []))
 
--- the modules of all inputs, given the modules before them; a name may be defined twice
+-- the modules of all inputs, given the modules before them; selection doesn't reject a name that is defined twice, the link does
 abbrev pub AreModulesOfInputs : Script → Files → List Module → List (List ℕ) → List Module → Type 0
 AreModulesOfInputs s m before [] ms = ms ≡ []
 AreModulesOfInputs s m before (name ∷ names) ms =
@@ -113,7 +113,7 @@ AreModulesOfInputs s m before (name ∷ names) ms =
 
 -- The script of a command line is this one, and the modules that the line selects are objects that ca65 wrote from these
 -- sources, in this order, each of either version.
-pub record SelectsSources (l : Linking) (m : Files) (s : Script) (xs : List Source) : Type 0 where
+pub record SelectsSources (l : LinkView) (m : Files) (s : Script) (xs : List Source) : Type 0 where
   pub text : List ℕ
   pub file : get m l.script ≡ Some text
   pub script : IsScript text (Ok s)
@@ -122,66 +122,68 @@ pub record SelectsSources (l : Linking) (m : Files) (s : Script) (xs : List Sour
   pub objects : AreObjectsOf xs modules
 
 -- a link's outcome has the files of an image, and then the map
-abbrev pub HasFiles : Linking → List OutputFile → Outcome → Type 0
+abbrev pub HasFiles : LinkView → List OutputFile → Outcome → Type 0
 HasFiles l files o =
     (warnings : List ℕ) × (map : List ℕ) × (o ≡ record { out = []; err = warnings; outputs = with_map l.map files map; status = Success })
 
--- these files were written, and then the map
-abbrev pub WroteFiles : Linking → List OutputFile → Files → Option Files → Type 0
-WroteFiles l files m new = (map : List ℕ) × (new ≡ Some (apply (with_map l.map files map) m))
+-- these files were written, and then the map; the files after the run are known
+abbrev pub HasWrittenFiles : LinkView → List OutputFile → Files → Option Files → Type 0
+HasWrittenFiles l files m new = (map : List ℕ) × (new ≡ Some (with_outputs (with_map l.map files map) m))
 
--- a link's outcome is a refusal: it says why, writes nothing and fails
-abbrev pub IsRefusal : Linking → Outcome → Type 0
-IsRefusal l o = (e : LinkCommandFault) × (o ≡ failing (error_message l e))
+-- a link's outcome is an error: it prints a message, has no files and fails
+abbrev pub IsLinkError : LinkView → Outcome → Type 0
+IsLinkError l o = (e : LinkCommandFault) × (o ≡ error_outcome (error_message l e))
 
 -- sources have no image as one program
-abbrev pub HaveNoImage : Linking → Script → List Source → Type 0
-HaveNoImage l s xs = (files : List OutputFile) → WholeOf (output_of l) s xs files → ⊥
+abbrev pub HasNoImage : LinkView → Script → List Source → Type 0
+HasNoImage l s xs = (files : List OutputFile) → HasImage (output_of l) s xs files → ⊥
 
--- The effect of a command line with these files, if its modules are objects of sources.
-pub record DoesWhole (l : Linking) (s : Script) (xs : List Source) (m : Files) (o : Outcome) : Type 0 where
-  pub does : IsLinkOutcome l m o
+-- An outcome of a link's command line with these files: it is determined by the image of the sources as one program. (That the
+-- modules are objects of these sources is a premise of `LinksWholeProgram`.)
+pub record IsWholeProgramOutcome (l : LinkView) (s : Script) (xs : List Source) (m : Files) (o : Outcome) : Type 0 where
+  pub is_link_outcome : IsOutcomeOfLink l m o
   -- if the sources have an image as one program, the outcome has its files, and then the map
-  pub has : (files : List OutputFile) → WholeOf (output_of l) s xs files → HasFiles l files o
+  pub image_files : (files : List OutputFile) → HasImage (output_of l) s xs files → HasFiles l files o
   -- the outcome has the files of an image, or there is no image and the outcome is an error
-  pub only :
-      ((files : List OutputFile) × WholeOf (output_of l) s xs files × HasFiles l files o)
-      ⊎ (HaveNoImage l s xs × IsRefusal l o)
+  pub exhaustive :
+      ((files : List OutputFile) × HasImage (output_of l) s xs files × HasFiles l files o)
+      ⊎ (HasNoImage l s xs × IsLinkError l o)
 
 -- A run of a link of sources' objects writes the image that the sources have as one program, or reports an error if they have
--- none.
-pub record WritesWhole (l : Linking) (s : Script) (xs : List Source) (m : Files) (new : Option Files) (io : Streams) (status : Status) : Type 0 where
-  -- the run performs an outcome that `DoesWhole` allows, or stops short in it; or it only reports that memory ran out
-  pub ran : RunSatisfies (DoesWhole l s xs) memory_message m new io status
-  -- a run that succeeds wrote such an image
-  pub wrote :
-      status ≡ Success → (files : List OutputFile) × WholeOf (output_of l) s xs files × WroteFiles l files m new
+-- none; or memory runs out, which it reports.
+pub record WritesWholeProgram (l : LinkView) (s : Script) (xs : List Source) (m : Files) (new : Option Files) (io : Streams) (status : Status) : Type 0 where
+  -- the run commits an outcome of the whole program, or memory ran out while it wrote the files; or it only reports that memory
+  -- ran out
+  pub run_effect : RunSatisfies (IsWholeProgramOutcome l s xs) link_memory_message m new io status
+  -- a run that succeeds wrote the image and the map
+  pub on_success :
+      status ≡ Success → (files : List OutputFile) × HasImage (output_of l) s xs files × HasWrittenFiles l files m new
   -- if the sources have no image, no file is written and the run fails
-  pub refused : HaveNoImage l s xs → (new ≡ Some m) × (status ≡ Failure)
+  pub on_no_image : HasNoImage l s xs → (new ≡ Some m) × (status ≡ Failure)
 
 -- the same for every script and list of sources that the command line selects
-abbrev pub LinksWhole : Linking → Files → Option Files → Streams → Status → Type 0
-LinksWhole l m new io status =
-    (s : Script) (xs : List Source) → SelectsSources l m s xs → WritesWhole l s xs m new io status
+abbrev pub LinksWholeProgram : LinkView → Files → Option Files → Streams → Status → Type 0
+LinksWholeProgram l m new io status =
+    (s : Script) (xs : List Source) → SelectsSources l m s xs → WritesWholeProgram l s xs m new io status
 
 -- the same for a command line, if it is a link
-unfoldable pub LineLinksWhole : CommandView → Files → Option Files → Streams → Status → Type 0
-LineLinksWhole line m new io status =
-    (l : Linking) → line ≡ link l → LinksWhole l m new io status
+unfoldable pub CommandLinksWholeProgram : CommandView → Files → Option Files → Streams → Status → Type 0
+CommandLinksWholeProgram line m new io status =
+    (l : LinkView) → line ≡ link l → LinksWholeProgram l m new io status
 
 -- The same for arguments that parse to a link, unless memory ran out while they were parsed.
-unfoldable pub WordsLinkWhole : Result CommandView LineFault → Files → Option Files → Streams → Status → Type 0
-WordsLinkWhole parsed m new io status =
-    (l : Linking) → parsed ≡ Ok (link l)
-    → LinksWhole l m new io status ⊎ PerformsOutcome (failing line_memory_message) m new io status
+unfoldable pub ArgsLinkWholeProgram : Result CommandView LineFault → Files → Option Files → Streams → Status → Type 0
+ArgsLinkWholeProgram parsed m new io status =
+    (l : LinkView) → parsed ≡ Ok (link l)
+    → LinksWholeProgram l m new io status ⊎ CommitsOutcome (error_outcome arguments_memory_message) m new io status
 
--- Clause `done` implies clause `one_program`: for words, and for a parsed command line.
-abbrev pub RunsLaw : Type 0
-RunsLaw =
+-- Clause `done` implies clause `one_program`: for arguments, and for a parsed command line.
+abbrev pub RunLinksOneProgram : Type 0
+RunLinksOneProgram =
     (args : List (List ℕ)) (m : Files) (new : Option Files) (io : Streams) (status : Status) →
-    RunsCommand args m new io status → WordsLinkWhole (line_of args) m new io status
+    RunsCommand args m new io status → ArgsLinkWholeProgram (line_of args) m new io status
 
-abbrev pub LineRunsLaw : Type 0
-LineRunsLaw =
+abbrev pub LineLinksOneProgram : Type 0
+LineLinksOneProgram =
     (line : CommandView) (m : Files) (new : Option Files) (io : Streams) (status : Status) →
-    RunSatisfies (IsOutcomeOfCommand line) (line_memory line) m new io status → LineLinksWhole line m new io status
+    RunSatisfies (IsOutcomeOfCommand line) (command_memory_message line) m new io status → CommandLinksWholeProgram line m new io status

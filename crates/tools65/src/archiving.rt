@@ -1,11 +1,11 @@
 //! The outcome of the librarian's command lines.
 
 ghost use Rattle.std.specs.Prelude.{◌≡◌, IfOk, IfSome, map};
-ghost use Rattle.cli65.specs.Line.{archive, archiving};
+ghost use Rattle.cli65.specs.Line.{archive, archive_view};
 ghost use Rattle.tools65.specs.Archives.{archive_outcome, archived_outcome, library_file, output_of};
-ghost use Rattle.tools65.specs.Internal.Computing.{ComputesOutcome, ComputeFrame};
+ghost use Rattle.tools65.specs.Internal.ComputedOutcomes.{ComputesOutcome, ComputeFrame};
 
-use ar65::{ArchiveFault, Archived, MemberFile, archive, error_message};
+use ar65::{ArchiveFault, ArchiveResult, MemberFile, archive, error_message};
 use base65::{ListVec, OutputFile, PathString, Store};
 use cli65::ArchiveArgs;
 use output65::{Outcome, Status};
@@ -45,16 +45,16 @@ fn member_outputs(
 fn archived_outcome(
     alloc: Global,
     line: &ArchiveArgs<'_>,
-    archived: Archived,
+    archived: ArchiveResult,
 ) -> Result<Outcome, AllocError>
-    ensures { IfOk result (λ outcome. outcome ≡ archived_outcome (archiving line.now) archived) }
+    ensures { IfOk result (λ outcome. outcome ≡ archived_outcome (archive_view line.now) archived) }
 {
     let mut out = ListVec::new(alloc);
     let mut outputs = ListVec::new(alloc);
     match archived {
-        Archived::Library(bytes) => outputs = library_file(alloc, line.library, bytes)?,
-        Archived::Names(text) => out = text,
-        Archived::Members(files) => outputs = member_outputs(alloc, files)?,
+        ArchiveResult::Library(bytes) => outputs = library_file(alloc, line.library, bytes)?,
+        ArchiveResult::Names(text) => out = text,
+        ArchiveResult::Members(files) => outputs = member_outputs(alloc, files)?,
     }
     Ok(Outcome {
         out,
@@ -68,28 +68,28 @@ fn archived_outcome(
 fn archive_outcome(
     alloc: Global,
     line: &ArchiveArgs<'_>,
-    archived: Result<Archived, ArchiveFault>,
+    archived: Result<ArchiveResult, ArchiveFault>,
 ) -> Result<Outcome, AllocError>
-    ensures { IfOk result (λ outcome. outcome ≡ archive_outcome (archiving line.now) archived) }
+    ensures { IfOk result (λ outcome. outcome ≡ archive_outcome (archive_view line.now) archived) }
 {
     match archived {
         Ok(archived) => archived_outcome(alloc, line, archived),
-        Err(refusal) => Ok(Outcome {
+        Err(fault) => Ok(Outcome {
             out: ListVec::new(alloc),
-            err: error_message(alloc, line, &refusal)?,
+            err: error_message(alloc, line, &fault)?,
             outputs: ListVec::new(alloc),
             status: Status::Failure,
         }),
     }
 }
 
-/// Runs a command line on a library, and returns its outcome.
+/// Returns the outcome of a command line of the librarian. Writes nothing.
 pub fn compute_archive<S: Store>(
     alloc: Global,
     line: &ArchiveArgs<'_>,
     store: &mut S,
 ) -> Result<Outcome, AllocError>
-    ensures computed { IfSome (S.files store.old) (λ m. IfOk result (ComputesOutcome (archive (archiving line.now)) m
+    ensures computed { IfSome (S.files store.old) (λ m. IfOk result (ComputesOutcome (archive (archive_view line.now)) m
         (S.last_failure store.new) (S.failures store.old) (S.failures store.new))) }
     ensures frame { ComputeFrame S.files S.failures store.old store.new result }
 {

@@ -2,8 +2,8 @@
 
 ghost use Rattle.tools65.specs.Inputs.{SourcesSelectedLaw, WrittenInputLaw, WrittenMemberLaw, WrittenObjectLaw};
 ghost use Rattle.tools65.specs.Outputs.{ArchivedSourcesLaw, AssembledFileLaw};
-ghost use Rattle.tools65.specs.OneOutcome.{OutcomeExists, FailureIsUnique, OutcomeIsUnique};
-ghost use Rattle.tools65.specs.OneProgram.{ImageOrNoneLaw, LineRunsLaw, OneProgramLaw, RunsLaw};
+ghost use Rattle.tools65.specs.OutcomeLaws.{OutcomeExists, FailureIsUnique, OutcomeIsUnique};
+ghost use Rattle.tools65.specs.OneProgram.{ImageIsDecidable, LineLinksOneProgram, OneProgramLaw, RunLinksOneProgram};
 
 /// Given the files, a command line has at most one outcome: its texts, files and status.
 pub fn outcome_is_unique()
@@ -28,20 +28,20 @@ pub fn one_program()
 {}
 
 /// Sources of such objects have an image as one program, or they have none.
-pub fn image_or_none()
-    ensures { ImageOrNoneLaw }
+pub fn image_is_decidable()
+    ensures { ImageIsDecidable }
 {}
 
 /// The effect of `run` on arguments that link objects of sources. It writes the image that the
 /// sources have as one program, unless memory runs out or a stream refuses its text. With status 0
 /// it wrote that image. If they have none, it writes nothing and fails.
-pub fn runs_of_one_program()
-    ensures { RunsLaw }
+pub fn run_links_one_program()
+    ensures { RunLinksOneProgram }
 {}
 
 /// The same for `run_line` and a command line.
-pub fn lines_of_one_program()
-    ensures { LineRunsLaw }
+pub fn line_links_one_program()
+    ensures { LineLinksOneProgram }
 {}
 
 /// The bytes that ca65 wrote from a source, in either version, encode an object of the grammar.

@@ -1,9 +1,9 @@
 //! The outcome of the linker's command lines.
 
 ghost use Rattle.std.specs.Prelude.{◌≡◌, IfOk, IfSome};
-ghost use Rattle.cli65.specs.Line.{link, linking};
+ghost use Rattle.cli65.specs.Line.{link, link_view};
 ghost use Rattle.tools65.specs.Command.{link_outcome};
-ghost use Rattle.tools65.specs.Internal.Computing.{ComputesOutcome, ComputeFrame};
+ghost use Rattle.tools65.specs.Internal.ComputedOutcomes.{ComputesOutcome, ComputeFrame};
 
 use base65::{ListVec, Store};
 use cli65::LinkArgs;
@@ -17,7 +17,7 @@ fn link_outcome(
     line: &LinkArgs<'_>,
     linked: Result<Linked, LinkCommandFault>,
 ) -> Result<Outcome, AllocError>
-    ensures { IfOk result (λ outcome. outcome ≡ link_outcome (linking line.now) linked) }
+    ensures { IfOk result (λ outcome. outcome ≡ link_outcome (link_view line.now) linked) }
 {
     match linked {
         Ok(linked) => Ok(Outcome {
@@ -26,9 +26,9 @@ fn link_outcome(
             outputs: with_map(alloc, line.map, linked.files, linked.map)?,
             status: Status::Success,
         }),
-        Err(refusal) => Ok(Outcome {
+        Err(fault) => Ok(Outcome {
             out: ListVec::new(alloc),
-            err: error_message(alloc, line, &refusal)?,
+            err: error_message(alloc, line, &fault)?,
             outputs: ListVec::new(alloc),
             status: Status::Failure,
         }),
@@ -41,7 +41,7 @@ pub fn compute_link<S: Store>(
     line: &LinkArgs<'_>,
     store: &mut S,
 ) -> Result<Outcome, AllocError>
-    ensures computed { IfSome (S.files store.old) (λ m. IfOk result (ComputesOutcome (link (linking line.now)) m
+    ensures computed { IfSome (S.files store.old) (λ m. IfOk result (ComputesOutcome (link (link_view line.now)) m
         (S.last_failure store.new) (S.failures store.old) (S.failures store.new))) }
     ensures frame { ComputeFrame S.files S.failures store.old store.new result }
 {

@@ -3,13 +3,13 @@
 ghost use Rattle.std.specs.Prelude.{◌≡◌, ◌≤◌, IfOk, IfSome, false, map};
 ghost use Rattle.base65.specs.Store.{HasFailed, NoneFailed};
 ghost use Rattle.cli65.specs.Line.{line_of, view};
-ghost use Rattle.cli65.specs.Messages.{memory_line};
-ghost use Rattle.output65.specs.RunEffects.{AreSame, OverWriters, between};
-ghost use Rattle.tools65.specs.Command.{RunsCommand, IsOutcomeOfCommand, RunSatisfies, line_memory};
-ghost use Rattle.tools65.specs.Failing.{FailsLine, FailsWords};
-ghost use Rattle.tools65.specs.Fitting.{RunObjectFits, WordsObjectFits};
-ghost use Rattle.tools65.specs.Internal.Computing.{ComputesOutcome, ComputeFrame};
-ghost use Rattle.tools65.specs.OneProgram.{LineLinksWhole, WordsLinkWhole};
+ghost use Rattle.cli65.specs.Messages.{file_memory_message};
+ghost use Rattle.output65.specs.RunEffects.{HaveSameWriters, ForStreamsOverWriters, stream_states};
+ghost use Rattle.tools65.specs.Command.{RunsCommand, IsOutcomeOfCommand, RunSatisfies, command_memory_message};
+ghost use Rattle.tools65.specs.Failures.{CommandRunFails, ArgsRunFails};
+ghost use Rattle.tools65.specs.ObjectFits.{RunObjectFits, ArgsObjectFits};
+ghost use Rattle.tools65.specs.Internal.ComputedOutcomes.{ComputesOutcome, ComputeFrame};
+ghost use Rattle.tools65.specs.OneProgram.{CommandLinksWholeProgram, ArgsLinkWholeProgram};
 
 use crate::archiving::compute_archive;
 use crate::assembling::outcome::compute_assembly;
@@ -23,7 +23,7 @@ use std::io::Write;
 
 /// Returns the name in the message *out of memory* while a command line runs.
 fn memory_name<'a>(line: &'a Line<'_>) -> &'a str
-    ensures { memory_line result.now ≡ line_memory (view line.now) }
+    ensures { file_memory_message result.now ≡ command_memory_message (view line.now) }
 {
     match line {
         Line::Assemble(line) => line.source,
@@ -45,8 +45,9 @@ fn compute<S: Store>(alloc: Global, line: &Line<'_>, store: &mut S) -> Result<Ou
     }
 }
 
-/// Runs a command line over two streams, and returns the status. Everything is computed first; then the texts are printed,
-/// and then the files are written. After an error no file is written, and after a stream has failed nothing is written to it.
+/// Runs the command line `line`, printing to `out` and `err`, and returns the status. Everything is computed first; then the
+/// texts are printed, and then the files are written. After an error no file is written, and after a stream has failed
+/// nothing is written to it.
 pub fn run_line_with_streams<S: Store, W: Write, E: Write>(
     alloc: Global,
     line: &Line<'_>,
@@ -56,21 +57,21 @@ pub fn run_line_with_streams<S: Store, W: Write, E: Write>(
 ) -> Status
     requires out { out.old.has_failed ≡ false }
     requires err { err.old.has_failed ≡ false }
-    ensures same { AreSame out.old out.new err.old err.new }
+    ensures same { HaveSameWriters out.old out.new err.old err.new }
     ensures done { IfSome (S.files store.old) (λ m. NoneFailed (S.failures store.old) (S.failures store.new) →
-        RunSatisfies (IsOutcomeOfCommand (view line.now)) (line_memory (view line.now)) m (S.files store.new)
-        (between W.contents E.contents out.old out.new err.old err.new) result) }
+        RunSatisfies (IsOutcomeOfCommand (view line.now)) (command_memory_message (view line.now)) m (S.files store.new)
+        (stream_states W.contents E.contents out.old out.new err.old err.new) result) }
     ensures fits { IfSome (S.files store.old) (λ m. NoneFailed (S.failures store.old) (S.failures store.new) →
         RunObjectFits (view line.now) m (S.files store.new)
-        (between W.contents E.contents out.old out.new err.old err.new) result) }
+        (stream_states W.contents E.contents out.old out.new err.old err.new) result) }
     ensures failed { IfSome (S.files store.old) (λ m. HasFailed (S.failures store.old) (S.failures store.new) →
-        FailsLine (view line.now) m (S.files store.new) (S.last_failure store.new)
-        (between W.contents E.contents out.old out.new err.old err.new) result) }
+        CommandRunFails (view line.now) m (S.files store.new) (S.last_failure store.new)
+        (stream_states W.contents E.contents out.old out.new err.old err.new) result) }
     ensures one_program { IfSome (S.files store.old) (λ m. NoneFailed (S.failures store.old) (S.failures store.new) →
-        LineLinksWhole (view line.now) m (S.files store.new)
-        (between W.contents E.contents out.old out.new err.old err.new) result) }
+        CommandLinksWholeProgram (view line.now) m (S.files store.new)
+        (stream_states W.contents E.contents out.old out.new err.old err.new) result) }
     ensures later { S.failures store.old ≤ S.failures store.new }
-    ensures rose { HasFailed (S.failures store.old) (S.failures store.new) → result ≡ Status.Failure }
+    ensures status { HasFailed (S.failures store.old) (S.failures store.new) → result ≡ Status.Failure }
 {
     match compute(alloc, line, store) {
         Ok(outcome) => commit_outcome(&outcome, store, out, err, memory_name(line)),
@@ -81,7 +82,7 @@ pub fn run_line_with_streams<S: Store, W: Write, E: Write>(
     }
 }
 
-/// Runs a command line over two writers, and returns the status.
+/// Runs the command line `line`, printing to `out` and `err`, and returns the status.
 pub fn run_line<S: Store, W: Write, E: Write>(
     alloc: Global,
     line: &Line<'_>,
@@ -90,19 +91,19 @@ pub fn run_line<S: Store, W: Write, E: Write>(
     err: &mut E,
 ) -> Status
     ensures done { IfSome (S.files store.old) (λ m. NoneFailed (S.failures store.old) (S.failures store.new) →
-        OverWriters (W.contents out.old) (W.contents out.new) (E.contents err.old) (E.contents err.new)
-        (λ io. RunSatisfies (IsOutcomeOfCommand (view line.now)) (line_memory (view line.now)) m (S.files store.new) io result)) }
+        ForStreamsOverWriters (W.contents out.old) (W.contents out.new) (E.contents err.old) (E.contents err.new)
+        (λ io. RunSatisfies (IsOutcomeOfCommand (view line.now)) (command_memory_message (view line.now)) m (S.files store.new) io result)) }
     ensures fits { IfSome (S.files store.old) (λ m. NoneFailed (S.failures store.old) (S.failures store.new) →
-        OverWriters (W.contents out.old) (W.contents out.new) (E.contents err.old) (E.contents err.new)
+        ForStreamsOverWriters (W.contents out.old) (W.contents out.new) (E.contents err.old) (E.contents err.new)
         (λ io. RunObjectFits (view line.now) m (S.files store.new) io result)) }
     ensures failed { IfSome (S.files store.old) (λ m. HasFailed (S.failures store.old) (S.failures store.new) →
-        OverWriters (W.contents out.old) (W.contents out.new) (E.contents err.old) (E.contents err.new)
-        (λ io. FailsLine (view line.now) m (S.files store.new) (S.last_failure store.new) io result)) }
+        ForStreamsOverWriters (W.contents out.old) (W.contents out.new) (E.contents err.old) (E.contents err.new)
+        (λ io. CommandRunFails (view line.now) m (S.files store.new) (S.last_failure store.new) io result)) }
     ensures one_program { IfSome (S.files store.old) (λ m. NoneFailed (S.failures store.old) (S.failures store.new) →
-        OverWriters (W.contents out.old) (W.contents out.new) (E.contents err.old) (E.contents err.new)
-        (λ io. LineLinksWhole (view line.now) m (S.files store.new) io result)) }
+        ForStreamsOverWriters (W.contents out.old) (W.contents out.new) (E.contents err.old) (E.contents err.new)
+        (λ io. CommandLinksWholeProgram (view line.now) m (S.files store.new) io result)) }
     ensures later { S.failures store.old ≤ S.failures store.new }
-    ensures rose { HasFailed (S.failures store.old) (S.failures store.new) → result ≡ Status.Failure }
+    ensures status { HasFailed (S.failures store.old) (S.failures store.new) → result ≡ Status.Failure }
 {
     run_line_with_streams(
         alloc,
@@ -113,7 +114,8 @@ pub fn run_line<S: Store, W: Write, E: Write>(
     )
 }
 
-/// Runs arguments over two streams, the first being the program's name, and returns the status.
+/// Runs the command line `args`, whose first argument is the program's name, printing to `out` and `err`, and returns the
+/// status.
 pub fn run_with_streams<A: AsStr, S: Store, W: Write, E: Write>(
     alloc: Global,
     args: &[A],
@@ -123,21 +125,21 @@ pub fn run_with_streams<A: AsStr, S: Store, W: Write, E: Write>(
 ) -> Status
     requires out { out.old.has_failed ≡ false }
     requires err { err.old.has_failed ≡ false }
-    ensures same { AreSame out.old out.new err.old err.new }
+    ensures same { HaveSameWriters out.old out.new err.old err.new }
     ensures done { IfSome (S.files store.old) (λ m. NoneFailed (S.failures store.old) (S.failures store.new) →
         RunsCommand (map A.text args.now) m (S.files store.new)
-        (between W.contents E.contents out.old out.new err.old err.new) result) }
+        (stream_states W.contents E.contents out.old out.new err.old err.new) result) }
     ensures fits { IfSome (S.files store.old) (λ m. NoneFailed (S.failures store.old) (S.failures store.new) →
-        WordsObjectFits (map A.text args.now) m (S.files store.new)
-        (between W.contents E.contents out.old out.new err.old err.new) result) }
+        ArgsObjectFits (map A.text args.now) m (S.files store.new)
+        (stream_states W.contents E.contents out.old out.new err.old err.new) result) }
     ensures failed { IfSome (S.files store.old) (λ m. HasFailed (S.failures store.old) (S.failures store.new) →
-        FailsWords (S.failures store.old) (map A.text args.now) m (S.files store.new) (S.last_failure store.new)
-        (between W.contents E.contents out.old out.new err.old err.new) result) }
+        ArgsRunFails (S.failures store.old) (map A.text args.now) m (S.files store.new) (S.last_failure store.new)
+        (stream_states W.contents E.contents out.old out.new err.old err.new) result) }
     ensures one_program { IfSome (S.files store.old) (λ m. NoneFailed (S.failures store.old) (S.failures store.new) →
-        WordsLinkWhole (line_of (map A.text args.now)) m (S.files store.new)
-        (between W.contents E.contents out.old out.new err.old err.new) result) }
+        ArgsLinkWholeProgram (line_of (map A.text args.now)) m (S.files store.new)
+        (stream_states W.contents E.contents out.old out.new err.old err.new) result) }
     ensures later { S.failures store.old ≤ S.failures store.new }
-    ensures rose { HasFailed (S.failures store.old) (S.failures store.new) → result ≡ Status.Failure }
+    ensures status { HasFailed (S.failures store.old) (S.failures store.new) → result ≡ Status.Failure }
 {
     match read_line(alloc, args) {
         Ok(line) => run_line_with_streams(alloc, &line, store, out, err),
@@ -148,7 +150,8 @@ pub fn run_with_streams<A: AsStr, S: Store, W: Write, E: Write>(
     }
 }
 
-/// Runs arguments over two writers, the first being the program's name, and returns the status.
+/// Runs the command line `args`, whose first argument is the program's name, printing to `out` and `err`, and returns the
+/// status.
 pub fn run<A: AsStr, S: Store, W: Write, E: Write>(
     alloc: Global,
     args: &[A],
@@ -157,19 +160,19 @@ pub fn run<A: AsStr, S: Store, W: Write, E: Write>(
     err: &mut E,
 ) -> Status
     ensures done { IfSome (S.files store.old) (λ m. NoneFailed (S.failures store.old) (S.failures store.new) →
-        OverWriters (W.contents out.old) (W.contents out.new) (E.contents err.old) (E.contents err.new)
+        ForStreamsOverWriters (W.contents out.old) (W.contents out.new) (E.contents err.old) (E.contents err.new)
         (λ io. RunsCommand (map A.text args.now) m (S.files store.new) io result)) }
     ensures fits { IfSome (S.files store.old) (λ m. NoneFailed (S.failures store.old) (S.failures store.new) →
-        OverWriters (W.contents out.old) (W.contents out.new) (E.contents err.old) (E.contents err.new)
-        (λ io. WordsObjectFits (map A.text args.now) m (S.files store.new) io result)) }
+        ForStreamsOverWriters (W.contents out.old) (W.contents out.new) (E.contents err.old) (E.contents err.new)
+        (λ io. ArgsObjectFits (map A.text args.now) m (S.files store.new) io result)) }
     ensures failed { IfSome (S.files store.old) (λ m. HasFailed (S.failures store.old) (S.failures store.new) →
-        OverWriters (W.contents out.old) (W.contents out.new) (E.contents err.old) (E.contents err.new)
-        (λ io. FailsWords (S.failures store.old) (map A.text args.now) m (S.files store.new) (S.last_failure store.new) io result)) }
+        ForStreamsOverWriters (W.contents out.old) (W.contents out.new) (E.contents err.old) (E.contents err.new)
+        (λ io. ArgsRunFails (S.failures store.old) (map A.text args.now) m (S.files store.new) (S.last_failure store.new) io result)) }
     ensures one_program { IfSome (S.files store.old) (λ m. NoneFailed (S.failures store.old) (S.failures store.new) →
-        OverWriters (W.contents out.old) (W.contents out.new) (E.contents err.old) (E.contents err.new)
-        (λ io. WordsLinkWhole (line_of (map A.text args.now)) m (S.files store.new) io result)) }
+        ForStreamsOverWriters (W.contents out.old) (W.contents out.new) (E.contents err.old) (E.contents err.new)
+        (λ io. ArgsLinkWholeProgram (line_of (map A.text args.now)) m (S.files store.new) io result)) }
     ensures later { S.failures store.old ≤ S.failures store.new }
-    ensures rose { HasFailed (S.failures store.old) (S.failures store.new) → result ≡ Status.Failure }
+    ensures status { HasFailed (S.failures store.old) (S.failures store.new) → result ≡ Status.Failure }
 {
     run_with_streams(
         alloc,

@@ -4,8 +4,8 @@ use Rattle.std.proofs.Common.{◌≡◌, ℕ, false, Option, Some, None, arith, 
 use Rattle.std.specs.Prelude.{ℤ, ⊤}
 use Rattle.syntax65.specs.Trees.{Tree, name}
 use Rattle.syntax65.specs.Trees as tree
-use Rattle.whole65.specs.Values.{Provider, by_module, by_script, by_nobody, Program, SymbolBinding, label_at, constant_at, import_of, meaning_in, Value, number, here, label, constant, exported, scripted, prefixed, joined, LocatedExpr, located_expr, NeedsNext, NeedsValueOf, next, following}
-use Rattle.whole65.specs.Laws.{CircularLaw}
+use Rattle.whole65.specs.Values.{Provider, by_module, by_script, by_nobody, Program, SymbolBinding, label_at, constant_at, import_of, operand_binding, Value, number, here, label, constant, exported, scripted, prefixed, joined, LocatedExpr, located_expr, NeedsNext, NeedsValueOf, next, following}
+use Rattle.whole65.specs.Laws.{CircularHasNoValue}
 
 -- what is needed ends
 data Ends (p : Program) : LocatedExpr → Type 0 where
@@ -13,7 +13,7 @@ data Ends (p : Program) : LocatedExpr → Type 0 where
 
 -- what is needed next ends, by what an expression is and means
 abbrev EndsBy : Program → Provider → List ℕ → Type 0
-EndsBy p (by_module provider) x = Ends p (located_expr provider (p.global provider) (name false (x ∷ [])))
+EndsBy p (by_module provider) x = Ends p (located_expr provider (p.global_index provider) (name false (x ∷ [])))
 EndsBy p (by_script v) x = ⊤
 EndsBy p by_nobody x = ⊤
 
@@ -28,12 +28,12 @@ EndsAfter p owner index (tree.number n) = ⊤
 EndsAfter p owner index tree.here = ⊤
 EndsAfter p owner index (tree.unary op e) = Ends p (located_expr owner index e)
 EndsAfter p owner index (tree.binary op e f) = Ends p (located_expr owner index e) × Ends p (located_expr owner index f)
-EndsAfter p owner index e = EndsAs p owner (p.means owner index e)
+EndsAfter p owner index e = EndsAs p owner (p.binding owner index e)
 
-of_meaning : (p : Program) (owner index : ℕ) (e : Tree) (m : SymbolBinding) → meaning_in p owner index e ≡ Some m → EndsAfter p owner index e → EndsAs p owner (Some m)
+of_meaning : (p : Program) (owner index : ℕ) (e : Tree) (m : SymbolBinding) → operand_binding p owner index e ≡ Some m → EndsAfter p owner index e → EndsAs p owner (Some m)
 of_meaning p owner index x m q h = grind (arith, common_steps)
 
-by_meaning : (p : Program) (owner index : ℕ) (e : Tree) (m : SymbolBinding) → meaning_in p owner index e ≡ Some m → EndsAs p owner (Some m) → EndsAfter p owner index e
+by_meaning : (p : Program) (owner index : ℕ) (e : Tree) (m : SymbolBinding) → operand_binding p owner index e ≡ Some m → EndsAs p owner (Some m) → EndsAfter p owner index e
 by_meaning p owner index x m q h = grind (arith, common_steps)
 
 step_ends : (p : Program) {x y : LocatedExpr} → NeedsNext p x y → EndsAfter p x.owner x.index x.tree → Ends p y
@@ -61,5 +61,5 @@ never_back : (p : Program) {x : LocatedExpr} → Ends p x → {y : LocatedExpr} 
 never_back p (ends {x = x} h) (next {y = y} s) q = never_back p (h y s) (next (subst (λ z. NeedsNext p z y) (sym q) s)) refl
 never_back p (ends {x = x} h) (following {y = y} {z = z} s n) q = never_back p (h y s) (and_then p n (subst (λ w. NeedsNext p w y) (sym q) s)) refl
 
-pub circular_law : CircularLaw
+pub circular_law : CircularHasNoValue
 circular_law p x v n d = never_back p (here_ends p x.owner x.index x.tree (value_ends p d)) n refl

@@ -8,39 +8,39 @@ use Rattle.script65.specs.declared.placement.Placement.{Placement}
 use Rattle.script65.specs.declared.script.Script.{Script}
 use Rattle.semantics65.specs.Layout.{Layout}
 use Rattle.link65.specs.Programs.{Module}
-use Rattle.link65.specs.Values.{linkage_of, ExportComesTo, Linkage, export_value, exports_through, value_by, AreExports}
+use Rattle.link65.specs.Values.{linkage_of, ExportEvaluatesTo, Linkage, export_value, exports_to_depth, value_of_form, AreExports}
 use Rattle.link65.specs.Programs as linked
-use Rattle.link65.specs.declared.parts.Exported.{Exported}
+use Rattle.link65.specs.declared.parts.ModuleExport.{ModuleExport}
 use Rattle.link65.specs.declared.parts.ValueFault.{ValueFault}
 use Rattle.link65.specs.declared.parts.ValueFault.TheVariants.{Unresolved}
 use Rattle.whole65.proofs.Files.{all_modules, exports_law, files_law}
 use Rattle.whole65.proofs.Providers.{IsExportOf, export_normal, exports_are, exports_known, sources_law}
-use Rattle.whole65.proofs.Keyed.{form_law}
+use Rattle.whole65.proofs.SectionBases.{form_law}
 use Rattle.whole65.proofs.Positions.{all_get}
 use Rattle.whole65.proofs.SameValues.{same_values_law}
 use Rattle.whole65.proofs.LinkedObjects.{linked_objects}
 use Rattle.whole65.specs.Modules.{table_of}
 use Rattle.whole65.specs.Programs as whole
-use Rattle.whole65.specs.Sources.{AreSources}
+use Rattle.whole65.specs.Sources.{AreObjectsOfLayouts}
 use Rattle.whole65.specs.Values.{Program}
-use Rattle.whole65.specs.Whole.{HasExport, PassAssertions, HaveExportValues, HaveForcedImports, SatisfiesAllDeclarations, HasRowsAndFiles, IsWholeProgramImage}
+use Rattle.whole65.specs.Whole.{HasExportValue, PassAssertions, HaveExportValues, HaveForcedImports, SatisfiesAllDeclarations, HasRowsAndFiles, IsWholeProgramImage}
 use Rattle.base65.specs.declared.output.OutputFile.{OutputFile}
-use Rattle.whole65.proofs.Asserted.{assertions_law}
+use Rattle.whole65.proofs.Assertions.{assertions_law}
 use Rattle.whole65.proofs.Links.{names_law, HasLink, link_by, link_has, linked_by}
 use Rattle.whole65.proofs.Rows.{placement_law}
 use Rattle.whole65.proofs.Unresolved.{given_law, resolved_law}
-use Rattle.whole65.specs.Equality.{EqualityLaw, IsLinkedTo}
-use Rattle.whole65.specs.Programs.{program_of}
+use Rattle.whole65.specs.Equality.{LinkEqualsWholeProgram, IsLinkedTo}
+use Rattle.whole65.specs.Programs.{placed_program}
 
 -- ---- What exports come to, where each has a value.
 
 -- a table in which each item has what it comes to
-record HasTable (R : ℕ → Result ℤ ValueFault → Type 0) (es : List Exported) : Type 0 where
+record HasTable (R : ℕ → Result ℤ ValueFault → Type 0) (es : List ModuleExport) : Type 0 where
   table : List (Result ℤ ValueFault)
   long : length table ≡ length es
   each : (x : ℕ) → x < length es → R x (get_or table x (Err Unresolved))
 
-build : (R : ℕ → Result ℤ ValueFault → Type 0) (es : List Exported) → ((i : ℕ) (e : Exported) → slice_get es i ≡ Some e → (v : ℤ) × R i (Ok v)) → HasTable R es
+build : (R : ℕ → Result ℤ ValueFault → Type 0) (es : List ModuleExport) → ((i : ℕ) (e : ModuleExport) → slice_get es i ≡ Some e → (v : ℤ) × R i (Ok v)) → HasTable R es
 build R [] f = record { table = []; long = refl; each = λ x lt. absurd (omega (arith, lt)) }
 build R (e ∷ es) f = go (f 0 e refl) (build (λ x. R (suc x)) es (λ i z at. f (suc i) z at))
   where
@@ -51,24 +51,24 @@ build R (e ∷ es) f = go (f 0 e refl) (build (λ x. R (suc x)) es (λ i z at. f
         at zero lt = first.1
         at (suc x) lt = rest.each x (omega (arith, lt))
 
-module _ (s : Script) (placement : Placement) (ys : List Layout) (ms : List Module) (h : AreSources ys ms) where
+module _ (s : Script) (placement : Placement) (ys : List Layout) (ms : List Module) (h : AreObjectsOfLayouts ys ms) where
   abbrev p : Program
-  p = whole.program_of s placement ys
+  p = whole.placed_program s placement ys
 
   abbrev l : Linkage
   l = linkage_of s (linked.program_of ms) placement
 
-  comes : (i : ℕ) (e : Exported) → slice_get (linked.program_of ms).exports i ≡ Some e → HasExport p e.owner e.name → (v : ℤ) × ExportComesTo l i (Ok v)
+  comes : (i : ℕ) (e : ModuleExport) → slice_get (linked.program_of ms).exports i ≡ Some e → HasExportValue p e.owner e.name → (v : ℤ) × ExportEvaluatesTo l i (Ok v)
   comes i e at has =
       let m : IsExportOf ys ms e = all_get (IsExportOf ys ms) (linked.program_of ms).exports i e (exports_known ys ms h) at in
-      let value = same_values_law ValueFault p (linked_objects s placement ys ms) (sources_law s placement ys ms h) (suc (suc (length (table_of m.layout).definitions))) e.owner (p.global e.owner) (tree.name false (e.name ∷ [])) m.form has.0 (export_normal s placement ys ms e m) in
+      let value = same_values_law ValueFault p (linked_objects s placement ys ms) (sources_law s placement ys ms h) (suc (suc (length (table_of m.layout).definitions))) e.owner (p.global_index e.owner) (tree.name false (e.name ∷ [])) m.form has.0 (export_normal s placement ys ms e m) in
       let q = value.0 has.1 in
       let export_depth : ℕ = q.0 in (
         has.0,
         (
           suc export_depth,
-          ap (export_value l (exports_through l export_depth)) at
-              ∙ ap (value_by l (exports_through l export_depth) e.owner) m.written
+          ap (export_value l (exports_to_depth l export_depth)) at
+              ∙ ap (value_of_form l (exports_to_depth l export_depth) e.owner) m.written
               ∙ sym (form_law s placement ys ms e.owner export_depth m.layout m.object m.contents m.form h m.at_y m.at_m m.found m.keyed)
               ∙ q.1,
         ),
@@ -76,13 +76,13 @@ module _ (s : Script) (placement : Placement) (ys : List Layout) (ms : List Modu
 
 -- Where all names that modules export have values in the whole program, a link has the table of exports that its
 -- definition wants.
-pub export_table_law : (s : Script) (placement : Placement) (ys : List Layout) (ms : List Module) → AreSources ys ms → HaveExportValues (program_of s placement ys) 0 ys → (table : List (Result ℤ ValueFault)) × AreExports (linkage_of s (linked.program_of ms) placement) table
+pub export_table_law : (s : Script) (placement : Placement) (ys : List Layout) (ms : List Module) → AreObjectsOfLayouts ys ms → HaveExportValues (placed_program s placement ys) 0 ys → (table : List (Result ℤ ValueFault)) × AreExports (linkage_of s (linked.program_of ms) placement) table
 export_table_law s placement ys ms h exported =
-    let p : Program = whole.program_of s placement ys in
-    let es : List Exported = (linked.program_of ms).exports in
+    let p : Program = whole.placed_program s placement ys in
+    let es : List ModuleExport = (linked.program_of ms).exports in
     let l : Linkage = linkage_of s (linked.program_of ms) placement in
-    let have : AllByRecursion (λ (e : Exported). HasExport p e.owner e.name) es = subst (AllByRecursion (λ (e : Exported). HasExport p e.owner e.name)) (sym (exports_are ms)) ((all_modules p 0 ys ms h).1 exported) in
-    let t = build (ExportComesTo l) es (λ i e at. comes s placement ys ms h i e at (all_get (λ (e : Exported). HasExport p e.owner e.name) es i e have at)) in
+    let have : AllByRecursion (λ (e : ModuleExport). HasExportValue p e.owner e.name) es = subst (AllByRecursion (λ (e : ModuleExport). HasExportValue p e.owner e.name)) (sym (exports_are ms)) ((all_modules p 0 ys ms h).1 exported) in
+    let t = build (ExportEvaluatesTo l) es (λ i e at. comes s placement ys ms h i e at (all_get (λ (e : ModuleExport). HasExportValue p e.owner e.name) es i e have at)) in
     (t.table, record { long = t.long; each = t.each })
 
 -- ---- A link of the objects of sources gives the image of their whole program, and none where that has none.
@@ -92,16 +92,16 @@ said_parts : (p : Program) (owner : ℕ) (ys : List Layout) → SatisfiesAllDecl
 said_parts p owner [] = (λ k. (tt, tt, tt), λ k. tt)
 said_parts p owner (y ∷ ys) = grind (arith, common_steps, (said_parts p (suc owner) ys))
 
-module _ (output : List ℕ) (s : Script) (ys : List Layout) (ms : List Module) (files : List OutputFile) (h : AreSources ys ms) where
-  has_link : IsWholeProgramImage output s ys files → HasLink output s (linked.program_of ms) files
+module _ (output_name : List ℕ) (s : Script) (ys : List Layout) (ms : List Module) (files : List OutputFile) (h : AreObjectsOfLayouts ys ms) where
+  has_link : IsWholeProgramImage output_name s ys files → HasLink output_name s (linked.program_of ms) files
   has_link w =
-      let p : Program = program_of s w.placement ys in
+      let p : Program = placed_program s w.placement ys in
       let said = (said_parts p 0 ys).0 w.image.declarations in
       let found = export_table_law s w.placement ys ms h said.1 in
-      let made = (files_law output s w.placement ys ms found.0 files h found.1).0 (record { bytes = w.image.bytes; rows = w.image.rows; image = w.image.image }) in
+      let made = (files_law output_name s w.placement ys ms found.0 files h found.1).0 (record { bytes = w.image.bytes; rows = w.image.rows; image = w.image.image }) in
       let warned = (assertions_law s w.placement ys ms found.0 h found.1).1 said.2 in
       record {
-        once = (names_law s ys ms h).1 w.once;
+        no_repetition = (names_law s ys ms h).1 w.no_repetition;
         none = resolved_law s w.placement ys ms w.image.bytes h w.placed w.image.imports said.0 said.1 said.2 w.image.rows;
         placement = w.placement;
         placed = placement_law s ys ms h ∙ w.placed;
@@ -114,21 +114,21 @@ module _ (output : List ℕ) (s : Script) (ys : List Layout) (ms : List Module) 
         made = made.1;
       }
 
-  is_whole : HasLink output s (linked.program_of ms) files → IsWholeProgramImage output s ys files
+  is_whole : HasLink output_name s (linked.program_of ms) files → IsWholeProgramImage output_name s ys files
   is_whole k =
-      let p : Program = program_of s k.placement ys in
+      let p : Program = placed_program s k.placement ys in
       let placed = sym (placement_law s ys ms h) ∙ k.placed in
       let names = given_law s k.placement ys ms h placed k.none in
       let exported = (exports_law s k.placement ys ms k.table h k.exports).0 k.exported in
       let asserted = (assertions_law s k.placement ys ms k.table h k.exports).0 (k.warnings, k.asserted) in
-      let image : HasRowsAndFiles output s ys k.placement p files = (files_law output s k.placement ys ms k.table files h k.exports).1 (k.values, k.made) in
+      let image : HasRowsAndFiles output_name s ys k.placement p files = (files_law output_name s k.placement ys ms k.table files h k.exports).1 (k.values, k.made) in
       grind (arith, common_steps, names_law, said_parts)
 
-  either : IsWholeProgramImage output s ys files ↔ IsLinkedTo output s ms files
+  either : IsWholeProgramImage output_name s ys files ↔ IsLinkedTo output_name s ms files
   either = (
-    λ w. (let k = has_link w in record { linked = linked_by output s (linked.program_of ms) files k; link = link_by output s (linked.program_of ms) files k; same = refl }),
-    λ k. is_whole (link_has output s (linked.program_of ms) files k.linked k.link k.same),
+    λ w. (let k = has_link w in record { linked = linked_by output_name s (linked.program_of ms) files k; link = link_by output_name s (linked.program_of ms) files k; same = refl }),
+    λ k. is_whole (link_has output_name s (linked.program_of ms) files k.linked k.link k.same),
   )
 
-pub equality_law : EqualityLaw
-equality_law output s ys ms files h = either output s ys ms files h
+pub equality_law : LinkEqualsWholeProgram
+equality_law output_name s ys ms files h = either output_name s ys ms files h

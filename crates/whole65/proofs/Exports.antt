@@ -10,25 +10,25 @@ use Rattle.base65.specs.declared.action.Action.{Action}
 use Rattle.object65.specs.declared.object.Export.{Export}
 use Rattle.object65.specs.declared.object.Object.{Object}
 use Rattle.syntax65.specs.declared.source_location.SourceLocation.{SourceLocation}
-use Rattle.semantics65.specs.Contents.{Content, Declaration, Exported, ForcedImport, Asserted, decided_assertion, exported_names}
-use Rattle.semantics65.specs.Symbols.{LaidOutStatement, Symbols, definition_index, named, with_new}
+use Rattle.semantics65.specs.Contents.{Content, Declaration, ExportedSymbol, ForcedImport, LinkAssertion, decided_assertion, exported_names}
+use Rattle.semantics65.specs.Symbols.{LaidOutStatement, Symbols, definition_index, named, with_new_names}
 use Rattle.ast65.specs.declared.language.Statement.{Statement}
 use Rattle.ast65.specs.declared.language.Statement.TheVariants as statement
 use Rattle.semantics65.specs.Layout.{Layout}
 use Rattle.semantics65.specs.Norms.{defined_form, norm_of}
-use Rattle.semantics65.specs.Numbering.{all_said, import_keys, section_keys}
+use Rattle.semantics65.specs.Numbering.{all_declarations, import_keys, section_keys}
 use Rattle.link65.specs.Names.{export_names}
 use Rattle.link65.specs.Programs.{Module, Program, no_program, program_of, with_module, with_modules}
 use Rattle.link65.specs.Programs as linked
-use Rattle.link65.specs.declared.parts.Exported as parts
+use Rattle.link65.specs.declared.parts.ModuleExport as parts
 use Rattle.sources65.proofs.SoundForms.{all_append}
 use Rattle.semantics65.proofs.Found.{names_append, exports_named}
 use Rattle.sources65.proofs.Resolving.{new_append}
 use Rattle.semantics65.specs.Module.{module_resolution}
 use Rattle.whole65.proofs.Statements.{AreStated, IsSaidBy, SaidOnce, a_line, are_stated, left_out, no_line, no_name, said_append, said_first, stated}
 use Rattle.whole65.proofs.Sources.{contents_of}
-use Rattle.whole65.specs.Modules.{exported_by, exports_of, table_of, forced_by}
-use Rattle.whole65.specs.Sources.{AreSources, IsSource}
+use Rattle.whole65.specs.Modules.{exported_by, exports_of, table_of, forced_imports_by}
+use Rattle.whole65.specs.Sources.{AreObjectsOfLayouts, IsObjectOfLayout}
 use Rattle.syntax65.specs.Trees.{Tree}
 use Rattle.ast65.specs.declared.language.Statement.TheVariants.{Export as ExportNames, Global, ForceImport, Assert}
 
@@ -36,16 +36,16 @@ use Rattle.ast65.specs.declared.language.Statement.TheVariants.{Export as Export
 
 -- an export has the form of the definition of its name
 abbrev pub IsDefined : Symbols → Declaration → Type 0
-IsDefined z (Exported n place f) = (j : ℕ) × (definition_index z (named 0 n) ≡ Some j) × (defined_form z j ≡ Ok f)
+IsDefined z (ExportedSymbol n place f) = (j : ℕ) × (definition_index z (named 0 n) ≡ Some j) × (defined_form z j ≡ Ok f)
 IsDefined z (ForcedImport n) = ⊤
-IsDefined z (Asserted act place words f) = ⊤
+IsDefined z (LinkAssertion act place words f) = ⊤
 
 abbrev pub has_definition : Symbols → List ℕ → Bool
 has_definition z n = is_some (definition_index z (named 0 n))
 
 -- Statements that export names, behind exports of other names, say those that are defined: each once, where it is first exported.
 pub record Says (z : Symbols) (before names : List (List ℕ)) (ss : List Declaration) : Type 0 where
-  pub exported : with_new before (filter (has_definition z) names) ≡ before ++ exported_names ss
+  pub exported : with_new_names before (filter (has_definition z) names) ≡ before ++ exported_names ss
   pub are_defined : AllByRecursion (IsDefined z) ss
 
 says_nothing : (z : Symbols) (before : List (List ℕ)) (ss : List Declaration) → exported_names ss ≡ [] → AllByRecursion (IsDefined z) ss → Says z before [] ss
@@ -66,7 +66,7 @@ forced_says z before (n ∷ ns) = grind (arith, common_steps, (forced_says z bef
 -- what an assertion says: nothing, or that it waits
 data IsDecided (act : Action) (place : SourceLocation) (words : List ℕ) (f : Form) (ss : List Declaration) : Type 0 where
   settled : [] ≡ ss → IsDecided act place words f ss
-  waiting : Asserted act place words f ∷ [] ≡ ss → IsDecided act place words f ss
+  waiting : LinkAssertion act place words f ∷ [] ≡ ss → IsDecided act place words f ss
 
 is_decided : (act : Action) (place : SourceLocation) (words : List ℕ) (f : Form) (ss : List Declaration) → decided_assertion act place words f ≡ Ok ss → IsDecided act place words f ss
 is_decided x place words y ss h = grind (arith, common_steps)
@@ -84,80 +84,80 @@ one_says z before l ss h = go l.stated h
         by x1 = grind (arith, common_steps)
     go x h = subst (Says z before []) (sym h) (says_nothing z before [] refl tt)
 
-lines_say : (z : Symbols) (before : List (List ℕ)) (ls : List LaidOutStatement) (cs : List Content) → AreStated z before ls cs → Says z before (flat_map (λ l. exported_by l.stated) ls) (all_said cs)
+lines_say : (z : Symbols) (before : List (List ℕ)) (ls : List LaidOutStatement) (cs : List Content) → AreStated z before ls cs → Says z before (flat_map (λ l. exported_by l.stated) ls) (all_declarations cs)
 lines_say z before [] _ no_line = says_nothing z before [] refl tt
 lines_say z before (l ∷ ls) _ (a_line ds cs found more) =
     subst (Says z before (flat_map (λ l. exported_by l.stated) (l ∷ ls))) (sym (said_append ds cs))
-    (says_both z before (exported_by l.stated) (flat_map (λ l. exported_by l.stated) ls) (all_said ds) (all_said cs)
-    (one_says z before l (all_said ds) (stated z before l ds found).said) (lines_say z (before ++ exported_names (all_said ds)) ls cs more))
+    (says_both z before (exported_by l.stated) (flat_map (λ l. exported_by l.stated) ls) (all_declarations ds) (all_declarations cs)
+    (one_says z before l (all_declarations ds) (stated z before l ds found).said) (lines_say z (before ++ exported_names (all_declarations ds)) ls cs more))
 
-pub said_all : (y : Layout) (cs : List Content) → (module_resolution y.laid).found ≡ Ok cs → Says (table_of y) [] (flat_map (λ l. exported_by l.stated) y.laid) (all_said cs)
+pub said_all : (y : Layout) (cs : List Content) → (module_resolution y.laid).found ≡ Ok cs → Says (table_of y) [] (flat_map (λ l. exported_by l.stated) y.laid) (all_declarations cs)
 said_all y cs e = lines_say (table_of y) [] y.laid cs (are_stated y cs e)
 
 -- ---- Exports of objects.
 
-pub source_exports : (y : Layout) (m : Module) → IsSource y m → map (λ (e : Export). e.name) m.object.exports ≡ exports_of y
+pub source_exports : (y : Layout) (m : Module) → IsObjectOfLayout y m → map (λ (e : Export). e.name) m.object.exports ≡ exports_of y
 source_exports y m h =
     let c = contents_of y m h in
     let cs : List Content = c.contents in
     ap (λ (o : Object). map (λ (e : Export). e.name) o.exports) c.object
-    ∙ exports_named c.origins (section_keys cs) (import_keys (table_of y).imports cs) (all_said cs)
+    ∙ exports_named c.origins (section_keys cs) (import_keys (table_of y).imports cs) (all_declarations cs)
     ∙ sym (said_all y cs c.found).exported
 
 -- ---- Module by module.
 
-names_exported : (owner : ℕ) (es : List Export) → map (λ (e : parts.Exported). e.name) (map (linked.linked_export owner) es) ≡ map (λ (e : Export). e.name) es
+names_exported : (owner : ℕ) (es : List Export) → map (λ (e : parts.ModuleExport). e.name) (map (linked.linked_export owner) es) ≡ map (λ (e : Export). e.name) es
 names_exported owner [] = refl
 names_exported owner (e ∷ es) = ap (λ z. e.name ∷ z) (names_exported owner es)
 
-all_exports : (p : Program) (ys : List Layout) (ms : List Module) → AreSources ys ms → export_names (with_modules p ms) ≡ export_names p ++ flat_map exports_of ys
+all_exports : (p : Program) (ys : List Layout) (ms : List Module) → AreObjectsOfLayouts ys ms → export_names (with_modules p ms) ≡ export_names p ++ flat_map exports_of ys
 all_exports p [] [] h = sym (append-nil (export_names p))
 all_exports p [] (m ∷ ms) h = absurd h
 all_exports p (y ∷ ys) [] h = absurd h
 all_exports p (y ∷ ys) (m ∷ ms) h = grind (arith, common_steps, names_exported, source_exports, (all_exports (with_module p m) ys ms h.1))
 
 -- The objects of sources export the names that the sources do, in the same order.
-pub export_names_law : (ys : List Layout) (ms : List Module) → AreSources ys ms → export_names (linked.program_of ms) ≡ flat_map exports_of ys
+pub export_names_law : (ys : List Layout) (ms : List Module) → AreObjectsOfLayouts ys ms → export_names (linked.program_of ms) ≡ flat_map exports_of ys
 export_names_law ys ms h = all_exports no_program ys ms h
 
 -- ---- What statements say of the names that they demand and of what they assert.
 
 abbrev pub demanded_name : Declaration → List (List ℕ)
-demanded_name (Exported n place f) = []
+demanded_name (ExportedSymbol n place f) = []
 demanded_name (ForcedImport n) = n ∷ []
-demanded_name (Asserted act place words f) = []
+demanded_name (LinkAssertion act place words f) = []
 
 abbrev pub demanded_names : List Declaration → List (List ℕ)
 demanded_names ss = flat_map demanded_name ss
 
 -- what waits for the linker has the form of the statement's assertion
 abbrev pub IsAsserted : Symbols → LaidOutStatement → Declaration → Type 0
-IsAsserted z l (Exported n place f) = ⊤
+IsAsserted z l (ExportedSymbol n place f) = ⊤
 IsAsserted z l (ForcedImport n) = ⊤
-IsAsserted z l (Asserted act place words f) = (e : Tree) × (l.stated ≡ Assert e act words) × (norm_of z l.context e ≡ Ok f)
+IsAsserted z l (LinkAssertion act place words f) = (e : Tree) × (l.stated ≡ Assert e act words) × (norm_of z l.context e ≡ Ok f)
 
 pub record Tells (z : Symbols) (l : LaidOutStatement) (ss : List Declaration) : Type 0 where
-  pub demanded : demanded_names ss ≡ forced_by l.stated
+  pub demanded : demanded_names ss ≡ forced_imports_by l.stated
   pub asserted : AllByRecursion (IsAsserted z l) ss
 
 -- ---- Exports alone.
 
 abbrev IsExport : Declaration → Type 0
-IsExport (Exported n place f) = ⊤
+IsExport (ExportedSymbol n place f) = ⊤
 IsExport (ForcedImport n) = ⊥
-IsExport (Asserted act place words f) = ⊥
+IsExport (LinkAssertion act place words f) = ⊥
 
 none_demanded : (ss : List Declaration) → AllByRecursion IsExport ss → demanded_names ss ≡ []
 none_demanded [] h = refl
-none_demanded (Exported n place f ∷ ss) h = none_demanded ss h.1
+none_demanded (ExportedSymbol n place f ∷ ss) h = none_demanded ss h.1
 none_demanded (ForcedImport n ∷ ss) h = absurd h.0
-none_demanded (Asserted act place words f ∷ ss) h = absurd h.0
+none_demanded (LinkAssertion act place words f ∷ ss) h = absurd h.0
 
 none_asserted : (z : Symbols) (l : LaidOutStatement) (ss : List Declaration) → AllByRecursion IsExport ss → AllByRecursion (IsAsserted z l) ss
 none_asserted z l [] h = tt
-none_asserted z l (Exported n place f ∷ ss) h = (tt, none_asserted z l ss h.1)
+none_asserted z l (ExportedSymbol n place f ∷ ss) h = (tt, none_asserted z l ss h.1)
 none_asserted z l (ForcedImport n ∷ ss) h = absurd h.0
-none_asserted z l (Asserted act place words f ∷ ss) h = absurd h.0
+none_asserted z l (LinkAssertion act place words f ∷ ss) h = absurd h.0
 
 exports_alone : {z : Symbols} {place : SourceLocation} {names ns : List (List ℕ)} {ss : List Declaration} → SaidOnce z place names ns ss → AllByRecursion IsExport ss
 exports_alone no_name = tt
@@ -173,7 +173,7 @@ of_forced z l (n ∷ ns) = let more = of_forced z l ns in (ap (λ k. n ∷ k) mo
 pub one_tells : (z : Symbols) (names : List (List ℕ)) (l : LaidOutStatement) (ss : List Declaration) → IsSaidBy z names l l.stated ss → Tells z l ss
 one_tells z names l ss h = go l.stated h
   where
-    exporting : (x : Statement) → forced_by x ≡ [] → AllByRecursion IsExport ss → Tells z (record l { stated = x }) ss
+    exporting : (x : Statement) → forced_imports_by x ≡ [] → AllByRecursion IsExport ss → Tells z (record l { stated = x }) ss
     exporting x none all = record { demanded = none_demanded ss all ∙ sym none; asserted = none_asserted z (record l { stated = x }) ss all }
 
     go : (x : Statement) → IsSaidBy z names l x ss → Tells z (record l { stated = x }) ss
@@ -190,13 +190,13 @@ one_tells z names l ss h = go l.stated h
 
 -- ---- All of a module.
 
-lines_demand : (z : Symbols) (names : List (List ℕ)) (ls : List LaidOutStatement) (cs : List Content) → AreStated z names ls cs → demanded_names (all_said cs) ≡ flat_map (λ l. forced_by l.stated) ls
+lines_demand : (z : Symbols) (names : List (List ℕ)) (ls : List LaidOutStatement) (cs : List Content) → AreStated z names ls cs → demanded_names (all_declarations cs) ≡ flat_map (λ l. forced_imports_by l.stated) ls
 lines_demand z names [] _ no_line = refl
 lines_demand z names (l ∷ ls) _ (a_line ds cs found more) =
     ap demanded_names (said_append ds cs)
-    ∙ flat_map-append demanded_name (all_said ds) (all_said cs)
-    ∙ ap (λ ns. ns ++ demanded_names (all_said cs)) (one_tells z names l (all_said ds) (stated z names l ds found).said).demanded
-    ∙ ap (λ ns. forced_by l.stated ++ ns) (lines_demand z (names ++ exported_names (all_said ds)) ls cs more)
+    ∙ flat_map-append demanded_name (all_declarations ds) (all_declarations cs)
+    ∙ ap (λ ns. ns ++ demanded_names (all_declarations cs)) (one_tells z names l (all_declarations ds) (stated z names l ds found).said).demanded
+    ∙ ap (λ ns. forced_imports_by l.stated ++ ns) (lines_demand z (names ++ exported_names (all_declarations ds)) ls cs more)
 
-pub all_demanded : (y : Layout) (cs : List Content) → (module_resolution y.laid).found ≡ Ok cs → demanded_names (all_said cs) ≡ flat_map (λ l. forced_by l.stated) y.laid
+pub all_demanded : (y : Layout) (cs : List Content) → (module_resolution y.laid).found ≡ Ok cs → demanded_names (all_declarations cs) ≡ flat_map (λ l. forced_imports_by l.stated) y.laid
 all_demanded y cs e = lines_demand (table_of y) [] y.laid cs (are_stated y cs e)

@@ -6,7 +6,7 @@ use Rattle.std.specs.Str.{bytes_eq}
 use Rattle.std.proofs.lemmas.List.{append-nil, append_assoc, map-append}
 use Rattle.std.proofs.lemmas.List.Folds.{list_any-append}
 use Rattle.std.proofs.lemmas.Grind.{common_steps, flat_map-append}
-use Rattle.script65.proofs.Apart.{all_placed}
+use Rattle.script65.proofs.DisjointRows.{all_placed}
 use Rattle.script65.specs.Placing.{place_of}
 use Rattle.script65.specs.declared.placement.AreaPlacement.{AreaPlacement}
 use Rattle.script65.specs.declared.placement.Placement.{Placement}
@@ -17,11 +17,11 @@ use Rattle.script65.specs.declared.script.SegmentRow.{SegmentRow}
 use Rattle.script65.specs.declared.script.Script.{Script}
 use Rattle.ast65.proofs.Lists.{same_bytes, bytes_swap}
 use Rattle.semantics65.specs.Layout.{Layout}
-use Rattle.link65.specs.Names.{by_definition, by_export, defined_at, each_once, export_names, exported_at, given_names, is_among, is_given, references, unresolved_names, area_definitions, area_names, areas_definitions, row_definitions, row_names, rows_definitions, script_definitions, script_names, symbol_exports, symbol_imports, weak_symbols}
+use Rattle.link65.specs.Names.{script_provider_or, module_provider_or, index_of_definition, distinct_names, export_names, index_of_export, strong_names, is_among, is_defined_name, references, unresolved_names, area_definitions, area_names, areas_definitions, row_definitions, row_names, rows_definitions, script_definitions, script_names, symbol_exports, symbol_imports, weak_symbols}
 use Rattle.link65.specs.Names as linked
 use Rattle.link65.specs.Programs.{flat_zip, Module, Program, member, no_program, program_of, with_module, with_modules}
 use Rattle.link65.specs.declared.parts.ScriptSymbol.{ScriptSymbol}
-use Rattle.link65.specs.declared.parts.Exported as parts
+use Rattle.link65.specs.declared.parts.ModuleExport as parts
 use Rattle.link65.specs.declared.parts.Provider.{Provider}
 use Rattle.link65.specs.declared.parts.Provider.TheVariants.{Nobody}
 use Rattle.link65.specs.declared.parts.LinkedModule.{LinkedModule}
@@ -30,23 +30,23 @@ use Rattle.semantics65.proofs.Segments.{all_more, all_same}
 use Rattle.whole65.proofs.Providers.{Agree, providers_agree}
 use Rattle.whole65.specs.Programs as whole
 use Rattle.whole65.specs.Segments.{needs_of}
-use Rattle.whole65.specs.Sources.{AreSources, IsSource}
+use Rattle.whole65.specs.Sources.{AreObjectsOfLayouts, IsObjectOfLayout}
 use Rattle.whole65.specs.Values as values
 use Rattle.whole65.specs.Values.{by_nobody}
 use Rattle.whole65.specs.Whole.{IsProvided}
 use Rattle.std.specs.Option.{option_map}
 use Rattle.object65.specs.declared.object.Object.{Object}
-use Rattle.semantics65.specs.Contents.{Content, Part, Declaration, Exported, ForcedImport, Asserted}
+use Rattle.semantics65.specs.Contents.{Content, Part, Declaration, ExportedSymbol, ForcedImport, LinkAssertion}
 use Rattle.semantics65.specs.Symbols.{LaidOutStatement, imports_of}
-use Rattle.semantics65.specs.Numbering.{all_said, content_imports, import_keys, key_of, name_of, distinct_keys, part_imports, said_imports}
+use Rattle.semantics65.specs.Numbering.{all_declarations, content_imports, import_keys, key_of, name_of, distinct_keys, part_imports, declaration_imports}
 use Rattle.link65.proofs.SegmentLemmas.{at_front, after_front}
-use Rattle.whole65.proofs.Keyed.{one_of, each_among, or_right}
+use Rattle.whole65.proofs.SectionBases.{one_of, each_among, or_right}
 use Rattle.whole65.proofs.Exports.{all_demanded, demanded_names}
 use Rattle.whole65.proofs.Sections.{all_once, any_once}
 use Rattle.whole65.proofs.Rows.{any_new}
 use Rattle.whole65.proofs.Positions.{itself, all_parts}
 use Rattle.whole65.proofs.Sources.{contents_of}
-use Rattle.whole65.specs.Modules.{forced_by, forced_of, table_of}
+use Rattle.whole65.specs.Modules.{forced_imports_by, forced_imports_of, table_of}
 
 -- ---- A script's names are those of what it defines.
 
@@ -83,42 +83,42 @@ some_among p i (x ∷ xs) = some_step (p x) i (position_from p (i + 1) xs) (list
 knows_nobody : Knows false Nobody
 knows_nobody = (λ k. absurd (k refl), λ k. absurd cc)
 
-knows_definition : (ds : List ScriptSymbol) (name : List ℕ) (b : Bool) (g : Provider) → Knows b g → Knows (is_among (names_of ds) name || b) (by_definition ds (defined_at ds name) g)
-knows_definition ds name b g h = subst (λ a. Knows (a || b) (by_definition ds (defined_at ds name) g)) (some_among (λ n. bytes_eq n name) 0 (names_of ds)) (go (defined_at ds name))
+knows_definition : (ds : List ScriptSymbol) (name : List ℕ) (b : Bool) (g : Provider) → Knows b g → Knows (is_among (names_of ds) name || b) (script_provider_or ds (index_of_definition ds name) g)
+knows_definition ds name b g h = subst (λ a. Knows (a || b) (script_provider_or ds (index_of_definition ds name) g)) (some_among (λ n. bytes_eq n name) 0 (names_of ds)) (go (index_of_definition ds name))
   where
-    go : (o : Option ℕ) → Knows (is_some o || b) (by_definition ds o g)
+    go : (o : Option ℕ) → Knows (is_some o || b) (script_provider_or ds o g)
     go (Some i) = (λ k. refl, λ k e. absurd cc)
     go None = h
 
-knows_export : (es : List parts.Exported) (name : List ℕ) (b : Bool) (g : Provider) → Knows b g → Knows (is_among (map (λ (e : parts.Exported). e.name) es) name || b) (by_export (exported_at es name) g)
-knows_export es name b g h = subst (λ a. Knows (a || b) (by_export (exported_at es name) g)) (some_among (λ n. bytes_eq n name) 0 (map (λ (e : parts.Exported). e.name) es)) (go (exported_at es name))
+knows_export : (es : List parts.ModuleExport) (name : List ℕ) (b : Bool) (g : Provider) → Knows b g → Knows (is_among (map (λ (e : parts.ModuleExport). e.name) es) name || b) (module_provider_or (index_of_export es name) g)
+knows_export es name b g h = subst (λ a. Knows (a || b) (module_provider_or (index_of_export es name) g)) (some_among (λ n. bytes_eq n name) 0 (map (λ (e : parts.ModuleExport). e.name) es)) (go (index_of_export es name))
   where
-    go : (o : Option ℕ) → Knows (is_some o || b) (by_export o g)
+    go : (o : Option ℕ) → Knows (is_some o || b) (module_provider_or o g)
     go (Some i) = (λ k. refl, λ k e. absurd cc)
     go None = h
 
 in_either : (a b c : Bool) → (a || (b || (c || false))) ≡ ((a || b) || c)
 in_either x1 x2 x3 = grind (arith, common_steps)
 
-agree_known : (es : List parts.Exported) (name : List ℕ) (w : values.Provider) (g : Provider) → Agree es name w g → (w ≢ by_nobody) ↔ (g ≢ Nobody)
+agree_known : (es : List parts.ModuleExport) (name : List ℕ) (w : values.Provider) (g : Provider) → Agree es name w g → (w ≢ by_nobody) ↔ (g ≢ Nobody)
 agree_known es name x y z = grind (arith, common_steps)
 
-module _ (s : Script) (placement : Placement) (ys : List Layout) (ms : List Module) (h : AreSources ys ms) (placed : place_of s (needs_of ys) ≡ Ok placement) where
+module _ (s : Script) (placement : Placement) (ys : List Layout) (ms : List Module) (h : AreObjectsOfLayouts ys ms) (placed : place_of s (needs_of ys) ≡ Ok placement) where
   abbrev p : values.Program
-  p = whole.program_of s placement ys
+  p = whole.placed_program s placement ys
 
   abbrev q : Program
   q = program_of ms
 
-  known : (name : List ℕ) → IsProvided p name ↔ (is_given s q name ≡ true)
+  known : (name : List ℕ) → IsProvided p name ↔ (is_defined_name s q name ≡ true)
   known name =
       let own : List ScriptSymbol = script_definitions s placement in
       let weak : List ScriptSymbol = weak_symbols s.symbols in
       let agree = agree_known q.exports name (whole.provider_of s placement ys name) (linked.provider_of own q.exports weak name) (providers_agree s placement ys ms name h) in
-      let inner : Knows (is_among (export_names q) name || (is_among (names_of weak) name || false)) (by_export (exported_at q.exports name) (by_definition weak (defined_at weak name) Nobody)) =
-      knows_export q.exports name (is_among (names_of weak) name || false) (by_definition weak (defined_at weak name) Nobody) (knows_definition weak name false Nobody knows_nobody) in
-      let knows = knows_definition own name (is_among (export_names q) name || (is_among (names_of weak) name || false)) (by_export (exported_at q.exports name) (by_definition weak (defined_at weak name) Nobody)) inner in
-      let test : (is_among (names_of own) name || (is_among (export_names q) name || (is_among (names_of weak) name || false))) ≡ is_given s q name =
+      let inner : Knows (is_among (export_names q) name || (is_among (names_of weak) name || false)) (module_provider_or (index_of_export q.exports name) (script_provider_or weak (index_of_definition weak name) Nobody)) =
+      knows_export q.exports name (is_among (names_of weak) name || false) (script_provider_or weak (index_of_definition weak name) Nobody) (knows_definition weak name false Nobody knows_nobody) in
+      let knows = knows_definition own name (is_among (export_names q) name || (is_among (names_of weak) name || false)) (module_provider_or (index_of_export q.exports name) (script_provider_or weak (index_of_definition weak name) Nobody)) inner in
+      let test : (is_among (names_of own) name || (is_among (export_names q) name || (is_among (names_of weak) name || false))) ≡ is_defined_name s q name =
       ap (λ ns. is_among ns name || (is_among (export_names q) name || (is_among (names_of weak) name || false))) (script_named s (needs_of ys) placement placed)
       ∙ in_either (is_among (script_names s) name) (is_among (export_names q) name) (is_among (names_of weak) name)
       ∙ ap (λ b. b || is_among (names_of weak) name) (sym (list_any-append (λ n. bytes_eq n name) (script_names s) (export_names q))) in
@@ -132,11 +132,11 @@ of_among P [] n h e = cc
 of_among P (k ∷ names) n h e = grind (arith, common_steps, same_bytes, bytes_swap, (of_among P names n h.1))
 
 module _ (P : List ℕ → Type 0) where
-  once_all : (names before : List (List ℕ)) → AllByRecursion P before → AllByRecursion P names → AllByRecursion P (each_once before names)
+  once_all : (names before : List (List ℕ)) → AllByRecursion P before → AllByRecursion P names → AllByRecursion P (distinct_names before names)
   once_all [] before h k = h
   once_all (n ∷ names) before h k = grind (arith, common_steps, (once_all names (cond (is_among before n) before (before ++ n ∷ []))))
 
-  once_parts : (names before : List (List ℕ)) → AllByRecursion P (each_once before names) → AllByRecursion P before × AllByRecursion P names
+  once_parts : (names before : List (List ℕ)) → AllByRecursion P (distinct_names before names) → AllByRecursion P before × AllByRecursion P names
   once_parts [] before h = (h, tt)
   once_parts (n ∷ names) before h = let more = once_parts names (cond (is_among before n) before (before ++ n ∷ [])) h in grind (arith, common_steps, (of_among P before n), (all_parts P before (n ∷ [])))
 
@@ -153,16 +153,16 @@ imports_after q (m ∷ ms) =
     ∙ append_assoc (flat_map (λ (m : LinkedModule). m.imports) q.members) m.object.imports (flat_map (λ (m : Module). m.object.imports) ms)
 
 -- A link leaves no name open where the imports of the script and of all objects are given in the whole program.
-pub none_open : (s : Script) (placement : Placement) (ys : List Layout) (ms : List Module) → AreSources ys ms → place_of s (needs_of ys) ≡ Ok placement → (unresolved_names s (program_of ms) ≡ []) ↔ (AllByRecursion (IsProvided (whole.program_of s placement ys)) (symbol_imports s.symbols) × AllByRecursion (IsProvided (whole.program_of s placement ys)) (flat_map (λ (m : Module). m.object.imports) ms))
+pub none_open : (s : Script) (placement : Placement) (ys : List Layout) (ms : List Module) → AreObjectsOfLayouts ys ms → place_of s (needs_of ys) ≡ Ok placement → (unresolved_names s (program_of ms) ≡ []) ↔ (AllByRecursion (IsProvided (whole.placed_program s placement ys)) (symbol_imports s.symbols) × AllByRecursion (IsProvided (whole.placed_program s placement ys)) (flat_map (λ (m : Module). m.object.imports) ms))
 none_open s placement ys ms h placed =
     let q : Program = program_of ms in
-    let Given : List ℕ → Type 0 = λ n. is_given s q n ≡ true in
-    let Known : List ℕ → Type 0 = IsProvided (whole.program_of s placement ys) in
+    let Given : List ℕ → Type 0 = λ n. is_defined_name s q n ≡ true in
+    let Known : List ℕ → Type 0 = IsProvided (whole.placed_program s placement ys) in
     let own : List (List ℕ) = symbol_imports s.symbols in
     let members : List (List ℕ) = flat_map (λ (m : LinkedModule). m.imports) q.members in
     let objects : List (List ℕ) = flat_map (λ (m : Module). m.object.imports) ms in
     let same : members ≡ objects = imports_after no_program ms in
-    let either = none_left (is_given s q) (references s q) in (
+    let either = none_left (is_defined_name s q) (references s q) in (
       λ k. (
           let both = all_parts Given own members (once_parts Given (own ++ members) [] (either.0 k)).1 in (
             all_same Given Known (λ n e. (known s placement ys ms h placed n).1 e) own both.0,
@@ -189,7 +189,7 @@ key_for (m ∷ names) n = go (bytes_eq m n) refl (key_for names n)
 
 -- ---- A module imports the names that it forces.
 
-any_forced : (n : List ℕ) (ls : List LaidOutStatement) → list_any (λ k. bytes_eq n k) (flat_map (λ l. forced_by l.stated) ls) ≡ true → list_any (λ k. bytes_eq n k) (flat_map (λ l. imports_of l.stated) ls) ≡ true
+any_forced : (n : List ℕ) (ls : List LaidOutStatement) → list_any (λ k. bytes_eq n k) (flat_map (λ l. forced_imports_by l.stated) ls) ≡ true → list_any (λ k. bytes_eq n k) (flat_map (λ l. imports_of l.stated) ls) ≡ true
 any_forced n [] e = e
 any_forced n (l ∷ ls) e = grind (arith, common_steps, (any_forced n ls), list_any-append, or_right)
 
@@ -201,7 +201,7 @@ pub among_swapped : (n : List ℕ) (names : List (List ℕ)) → is_among names 
 among_swapped n [] = refl
 among_swapped n (m ∷ names) = ap (λ b. b || is_among names n) (bytes_swap m n) ∙ ap (λ b. bytes_eq n m || b) (among_swapped n names)
 
-forced_among : (y : Layout) → AllByRecursion (λ n. is_among (table_of y).imports n ≡ true) (forced_of y)
+forced_among : (y : Layout) → AllByRecursion (λ n. is_among (table_of y).imports n ≡ true) (forced_imports_of y)
 forced_among y = grind (arith, common_steps, each_name, among_swapped, any_new, any_forced)
 
 -- ---- What holds of the names of keys.
@@ -214,7 +214,7 @@ module _ (P : List ℕ → Type 0) (names : List (List ℕ)) where
   OfPart x = AllByRecursion OfKey (part_imports x)
 
   abbrev pub OfSaid : Declaration → Type 0
-  OfSaid x = AllByRecursion OfKey (said_imports names x)
+  OfSaid x = AllByRecursion OfKey (declaration_imports names x)
 
   all_flat : {A : Type 0} (f : A → List ℕ) (xs : List A) → AllByRecursion (λ x. AllByRecursion OfKey (f x)) xs → AllByRecursion OfKey (flat_map f xs)
   all_flat f [] h = tt
@@ -232,13 +232,13 @@ module _ (P : List ℕ → Type 0) (names : List (List ℕ)) where
   named_keys [] h = tt
   named_keys (k ∷ ks) h = (h.0, named_keys ks h.1)
 
-  in_contents : (cs : List Content) → AllByRecursion (λ (c : Content). AllByRecursion OfPart c.parts) cs → AllByRecursion OfSaid (all_said cs) → AllByRecursion OfKey (flat_map (content_imports names) cs)
+  in_contents : (cs : List Content) → AllByRecursion (λ (c : Content). AllByRecursion OfPart c.parts) cs → AllByRecursion OfSaid (all_declarations cs) → AllByRecursion OfKey (flat_map (content_imports names) cs)
   in_contents [] h k = tt
-  in_contents (c ∷ cs) h k = grind (arith, common_steps, (all_parts OfSaid c.said (all_said cs) k), (all_flat part_imports c.parts), (all_flat (said_imports names) c.said), (in_contents cs h.1))
+  in_contents (c ∷ cs) h k = grind (arith, common_steps, (all_parts OfSaid c.said (all_declarations cs) k), (all_flat part_imports c.parts), (all_flat (declaration_imports names) c.said), (in_contents cs h.1))
 
-  in_said : (cs : List Content) → AllByRecursion OfKey (flat_map (content_imports names) cs) → AllByRecursion OfSaid (all_said cs)
+  in_said : (cs : List Content) → AllByRecursion OfKey (flat_map (content_imports names) cs) → AllByRecursion OfSaid (all_declarations cs)
   in_said [] h = tt
-  in_said (c ∷ cs) h = grind (arith, common_steps, (all_parts OfKey (content_imports names c) (flat_map (content_imports names) cs) h), (all_parts OfKey (flat_map part_imports c.parts) (flat_map (said_imports names) c.said)), (all_apart (said_imports names) c.said), (in_said cs))
+  in_said (c ∷ cs) h = grind (arith, common_steps, (all_parts OfKey (content_imports names c) (flat_map (content_imports names) cs) h), (all_parts OfKey (flat_map part_imports c.parts) (flat_map (declaration_imports names) c.said)), (all_apart (declaration_imports names) c.said), (in_said cs))
 
   -- keys that come once, and all of them
   all_keys : (ks : List ℕ) → AllByRecursion OfKey (distinct_keys [] ks) → AllByRecursion OfKey ks
@@ -246,25 +246,25 @@ module _ (P : List ℕ → Type 0) (names : List (List ℕ)) where
 
   demands : (ss : List Declaration) → AllByRecursion OfSaid ss → AllByRecursion (λ n. is_among names n ≡ true) (demanded_names ss) → AllByRecursion P (demanded_names ss)
   demands [] h a = tt
-  demands (Exported n place f ∷ ss) h a = demands ss h.1 a
+  demands (ExportedSymbol n place f ∷ ss) h a = demands ss h.1 a
   demands (ForcedImport n ∷ ss) h a = grind (arith, common_steps, key_for, (demands ss h.1 a.1))
-  demands (Asserted act place words f ∷ ss) h a = demands ss h.1 a
+  demands (LinkAssertion act place words f ∷ ss) h a = demands ss h.1 a
 
 -- ---- Objects.
 
 -- what holds of all imports of an object holds of the names that the module forces
-pub forced_hold : (P : List ℕ → Type 0) (y : Layout) (m : Module) → IsSource y m → AllByRecursion P m.object.imports → AllByRecursion P (forced_of y)
+pub forced_hold : (P : List ℕ → Type 0) (y : Layout) (m : Module) → IsObjectOfLayout y m → AllByRecursion P m.object.imports → AllByRecursion P (forced_imports_of y)
 forced_hold P y m h all =
     let c = contents_of y m h in
     let names : List (List ℕ) = (table_of y).imports in
     let keys : AllByRecursion (OfKey P names) (import_keys names c.contents) = keys_named P names (import_keys names c.contents) (subst (λ (o : Object). AllByRecursion P o.imports) c.object all) in
-    let same : demanded_names (all_said c.contents) ≡ forced_of y = all_demanded y c.contents c.found in
+    let same : demanded_names (all_declarations c.contents) ≡ forced_imports_of y = all_demanded y c.contents c.found in
     let told = in_said P names c.contents (all_keys P names (flat_map (content_imports names) c.contents) keys) in
     subst (AllByRecursion P) same
-    (demands P names (all_said c.contents) told (subst (AllByRecursion (λ n. is_among names n ≡ true)) (sym same) (forced_among y)))
+    (demands P names (all_declarations c.contents) told (subst (AllByRecursion (λ n. is_among names n ≡ true)) (sym same) (forced_among y)))
 
 -- what holds of the imports of all contents holds of those of the object
-pub imports_hold : (P : List ℕ → Type 0) (y : Layout) (m : Module) → (h : IsSource y m) → AllByRecursion (λ (c : Content). AllByRecursion (OfPart P (table_of y).imports) c.parts) (contents_of y m h).contents → AllByRecursion (OfSaid P (table_of y).imports) (all_said (contents_of y m h).contents) → AllByRecursion P m.object.imports
+pub imports_hold : (P : List ℕ → Type 0) (y : Layout) (m : Module) → (h : IsObjectOfLayout y m) → AllByRecursion (λ (c : Content). AllByRecursion (OfPart P (table_of y).imports) c.parts) (contents_of y m h).contents → AllByRecursion (OfSaid P (table_of y).imports) (all_declarations (contents_of y m h).contents) → AllByRecursion P m.object.imports
 imports_hold P y m h parts told =
     let c = contents_of y m h in
     let names : List (List ℕ) = (table_of y).imports in

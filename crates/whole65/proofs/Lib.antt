@@ -1,11 +1,11 @@
-pub mod Asserted
+pub mod Assertions
 pub mod Circular
 pub mod Equality
 pub mod Exports
 pub mod Files
 pub mod Imports
-pub mod Keyed
-pub mod Linked
+pub mod SectionBases
+pub mod LinkedProgram
 pub mod Links
 pub mod ModuleBytes
 pub mod Multiples

@@ -4,22 +4,22 @@ use Rattle.std.specs.Prelude.{◌≡◌, ℕ, ℤ, List, [], ◌∷◌, ◌++◌
 use Rattle.object65.specs.Form.{Form}
 use Rattle.object65.specs.FormValue.{value_in}
 use Rattle.object65.specs.declared.object.Fragment.{Fragment}
-use Rattle.semantics65.specs.Contents.{Part, Known, Filled, Waiting, Content, Declaration, Exported, ForcedImport, Asserted}
-use Rattle.whole65.specs.Contents.{AreStored}
+use Rattle.semantics65.specs.Contents.{Part, Known, ReservedBytes, LinkTimeValue, Content, Declaration, ExportedSymbol, ForcedImport, LinkAssertion}
+use Rattle.whole65.specs.Contents.{EncodesValue}
 use Rattle.std.specs.Str.{bytes_eq}
 use Rattle.object65.specs.declared.object.Section.{Section}
-use Rattle.link65.specs.Programs.{Module, Segment, empty_segment, segment_with_section, Program, program_of, Cell, known, filled, waits}
+use Rattle.link65.specs.Programs.{Module, Segment, empty_segment, segment_with_section, Program, program_of, Cell, known, filled, deferred}
 use Rattle.base65.specs.Values.{wrap_signed}
 use Rattle.script65.specs.declared.placement.Placement.{Placement}
 use Rattle.script65.specs.declared.script.Script.{Script}
-use Rattle.link65.specs.Values.{run_of, linkage_of, exports_through, import_value, Linkage, base_of, provider_at}
-use Rattle.semantics65.specs.declared.laid.Context.{Context}
+use Rattle.link65.specs.Values.{run_of, linkage_of, exports_to_depth, import_value, Linkage, base_of, provider_at}
+use Rattle.semantics65.specs.declared.contexts.Context.{Context}
 use Rattle.semantics65.specs.Layout.{Layout}
 use Rattle.semantics65.specs.Symbols.{Symbols}
 use Rattle.whole65.specs.Modules.{definers_from, context_at, table_of}
-use Rattle.whole65.specs.Objects.{Objects, HasValue}
-use Rattle.whole65.specs.Offsets.{begin_of}
-use Rattle.whole65.specs.Segments.{end_of, has_section, items_of, segment_name}
+use Rattle.whole65.specs.Objects.{LinkerView, HasValue}
+use Rattle.whole65.specs.Offsets.{section_start}
+use Rattle.whole65.specs.Segments.{end_of, has_section, segment_items, segment_name_at}
 use Rattle.std.specs.List.{AllByRecursion, list_any}
 use Rattle.semantics65.specs.Numbering.{imports_in, renumbered_form, sections_in}
 use Rattle.link65.specs.Names.{provider_of, script_definitions, weak_symbols}
@@ -41,8 +41,8 @@ valued_by none bases values f v = (export_depth : ℕ) × (value_in none bases (
 -- the bytes of a part of a module's section, by the fill value of its row
 abbrev pub ArePart : Valuing → ℕ → Part → List ℕ → Type 0
 ArePart Has fill (Known own) bytes = bytes ≡ own
-ArePart Has fill (Filled n) bytes = bytes ≡ replicate n fill
-ArePart Has fill (Waiting width place f) bytes = (v : ℤ) × Has f v × AreStored width v bytes
+ArePart Has fill (ReservedBytes n) bytes = bytes ≡ replicate n fill
+ArePart Has fill (LinkTimeValue width place f) bytes = (v : ℤ) × Has f v × EncodesValue width v bytes
 
 -- of parts one behind the other
 abbrev pub AreParts : Valuing → ℕ → List Part → List ℕ → Type 0
@@ -54,7 +54,7 @@ AreParts Has fill (p ∷ ps) bytes =
 abbrev pub IsFragment : Valuing → ℕ → Fragment → List ℕ → Type 0
 IsFragment Has fill (fragment.Literal own) bytes = bytes ≡ own
 IsFragment Has fill (fragment.Fill n) bytes = bytes ≡ replicate n fill
-IsFragment Has fill (fragment.Value width origin f) bytes = (v : ℤ) × Has f v × AreStored width v bytes
+IsFragment Has fill (fragment.Value width origin f) bytes = (v : ℤ) × Has f v × EncodesValue width v bytes
 
 abbrev pub AreFragments : Valuing → ℕ → List Fragment → List ℕ → Type 0
 AreFragments Has fill [] bytes = bytes ≡ []
@@ -105,19 +105,19 @@ definer_in (Some y) definition = or_first (slice_get (definers_from 0 y.laid) de
 
 -- where a module's section begins; a segment of which it has none is at its end there
 abbrev pub begin_in : List Layout → ℕ → Layout → List ℕ → ℕ
-begin_in ys owner y name = if has_section y name then begin_of ys name owner else end_of 0 (items_of ys name)
+begin_in ys owner y name = if has_section y name then section_start ys name owner else end_of 0 (segment_items ys name)
 
 abbrev pub base_in : Script → Placement → List Layout → ℕ → ℕ → Option Layout → ℤ
 base_in s p ys owner g None = pos 0
 base_in s p ys owner g (Some y) =
     if nat_lt g (length y.cursor.segments)
-    then wrap_signed (pos (run_of s.rows p.rows (segment_name y g) + begin_in ys owner y (segment_name y g)))
+    then wrap_signed (pos (run_of s.rows p.rows (segment_name_at y g) + begin_in ys owner y (segment_name_at y g)))
     else pos 0
 
 -- by what imports come to
-abbrev pub objects_of : {E : Type 0} → E → (ℕ → ℕ → ℕ → Result ℤ E) → Script → Placement → List Layout → Objects E
+abbrev pub objects_of : {E : Type 0} → E → (ℕ → ℕ → ℕ → Result ℤ E) → Script → Placement → List Layout → LinkerView E
 objects_of none imports s p ys = record {
-  none = none;
+  no_value_error = none;
   symbols = λ owner. symbols_at (slice_get ys owner);
   contexts = λ owner index. context_in (slice_get ys owner) index;
   definers = λ owner definition. definer_in (slice_get ys owner) definition;
@@ -136,10 +136,10 @@ provider_named s placement q (Some name) = provider_of (script_definitions s pla
 -- an import of a module has the value of the export of its name, through so many exports
 abbrev pub imports_linked : Script → Placement → List Layout → List Module → ℕ → ℕ → ℕ → Result ℤ ValueFault
 imports_linked s placement ys ms export_depth owner k =
-    import_value (exports_through (linkage_of s (program_of ms) placement) export_depth) (provider_named s placement (program_of ms) (slice_get (symbols_at (slice_get ys owner)).imports k))
+    import_value (exports_to_depth (linkage_of s (program_of ms) placement) export_depth) (provider_named s placement (program_of ms) (slice_get (symbols_at (slice_get ys owner)).imports k))
 
 -- what linking knows of the modules of sources
-abbrev pub linked_objects : Script → Placement → List Layout → List Module → Objects ValueFault
+abbrev pub linked_objects : Script → Placement → List Layout → List Module → LinkerView ValueFault
 linked_objects s placement ys ms = objects_of NoValue (imports_linked s placement ys ms) s placement ys
 
 -- ---- Keys of forms.
@@ -151,13 +151,13 @@ pub record IsKeyed (sections imports : List ℕ) (count : ℕ) (f : Form) : Type
 
 abbrev pub IsKeyedPart : (sections imports : List ℕ) → ℕ → Part → Type 0
 IsKeyedPart sections imports count (Known own) = ⊤
-IsKeyedPart sections imports count (Filled n) = ⊤
-IsKeyedPart sections imports count (Waiting width place f) = IsKeyed sections imports count f
+IsKeyedPart sections imports count (ReservedBytes n) = ⊤
+IsKeyedPart sections imports count (LinkTimeValue width place f) = IsKeyed sections imports count f
 
 abbrev pub IsKeyedSaid : (sections imports : List ℕ) → ℕ → Declaration → Type 0
-IsKeyedSaid sections imports count (Exported name place f) = IsKeyed sections imports count f
+IsKeyedSaid sections imports count (ExportedSymbol name place f) = IsKeyed sections imports count f
 IsKeyedSaid sections imports count (ForcedImport name) = ⊤
-IsKeyedSaid sections imports count (Asserted act place words f) = IsKeyed sections imports count f
+IsKeyedSaid sections imports count (LinkAssertion act place words f) = IsKeyed sections imports count f
 
 pub record IsKeyedContent (sections imports : List ℕ) (count : ℕ) (c : Content) : Type 0 where
   pub parts : AllByRecursion (IsKeyedPart sections imports count) c.parts
@@ -168,12 +168,12 @@ pub record IsKeyedContent (sections imports : List ℕ) (count : ℕ) (c : Conte
 -- the value of a form of a linked module, through some number of exports
 abbrev pub linked_value : Linkage → ℕ → Valuing
 linked_value l owner =
-    valued_by NoValue (base_of (slice_get l.modules owner)) (λ export_depth j. import_value (exports_through l export_depth) (provider_at (slice_get l.modules owner) j))
+    valued_by NoValue (base_of (slice_get l.modules owner)) (λ export_depth j. import_value (exports_to_depth l export_depth) (provider_at (slice_get l.modules owner) j))
 
 abbrev pub IsCell : Linkage → ℕ → Cell → List ℕ → Type 0
 IsCell l fill (known b) bytes = bytes ≡ b ∷ []
 IsCell l fill filled bytes = bytes ≡ fill ∷ []
-IsCell l fill (waits w) bytes = (v : ℤ) × linked_value l w.owner w.form v × AreStored w.width v bytes
+IsCell l fill (deferred w) bytes = (v : ℤ) × linked_value l w.owner w.form v × EncodesValue w.width v bytes
 
 abbrev pub AreCells : Linkage → ℕ → List Cell → List ℕ → Type 0
 AreCells l fill [] bytes = bytes ≡ []
@@ -181,10 +181,10 @@ AreCells l fill (c ∷ cs) bytes =
     (own : List ℕ) × (rest : List ℕ) × IsCell l fill c own × AreCells l fill cs rest × (bytes ≡ own ++ rest)
 
 -- a form in a part of a module has the value that the object's form has in a link
-abbrev pub IsValuedIn : {E : Type 0} → Objects E → Linkage → ℕ → (sections imports : List ℕ) → Part → Type 0
+abbrev pub IsValuedIn : {E : Type 0} → LinkerView E → Linkage → ℕ → (sections imports : List ℕ) → Part → Type 0
 IsValuedIn o l owner sections imports (Known own) = ⊤
-IsValuedIn o l owner sections imports (Filled n) = ⊤
-IsValuedIn o l owner sections imports (Waiting width place f) =
+IsValuedIn o l owner sections imports (ReservedBytes n) = ⊤
+IsValuedIn o l owner sections imports (LinkTimeValue width place f) =
     (v : ℤ) → HasValue o owner f v ↔ linked_value l owner (renumbered_form sections imports f) v
 
 -- what lies in a segment, if there is one

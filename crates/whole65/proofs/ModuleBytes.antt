@@ -15,17 +15,17 @@ use Rattle.object65.specs.Form.{Form, lit, sec, imp, prefix, binary}
 use Rattle.object65.specs.FormValue.{value_in}
 use Rattle.object65.specs.declared.object.Origin.{Origin}
 use Rattle.syntax65.specs.declared.source_location.SourceLocation.{SourceLocation}
-use Rattle.semantics65.specs.Contents.{Part, Known, Filled, Waiting, Content}
-use Rattle.semantics65.specs.Numbering.{all_joined, fragment_of, fragments_of, is_empty, merged_fragments, number_of, renumbered_form, parts_in, section_of}
+use Rattle.semantics65.specs.Contents.{Part, Known, ReservedBytes, LinkTimeValue, Content}
+use Rattle.semantics65.specs.Numbering.{merged_neighbours, fragment_of, fragments_of, is_empty, merged_fragments, number_of, renumbered_form, parts_in, section_of}
 use Rattle.whole65.proofs.SectionBytes.{section_law}
-use Rattle.whole65.specs.Objects.{HasValue, Objects, AreObjects}
+use Rattle.whole65.specs.Objects.{HasValue, LinkerView, IsLinkerView}
 use Rattle.semantics65.specs.Module.{module_resolution}
 use Rattle.semantics65.specs.Layout.{Layout}
 use Rattle.whole65.specs.Modules.{table_of}
-use Rattle.whole65.specs.Offsets.{lines_at, IsMultiple, HasNoLineErrors}
+use Rattle.whole65.specs.Offsets.{statements_with_segment, IsMultiple, HasNoLineErrors}
 use Rattle.semantics65.specs.Symbols.{LaidOutStatement}
-use Rattle.whole65.specs.Segments.{largest_multiple, lines_after, line}
-use Rattle.whole65.specs.Contents.{AreBytes}
+use Rattle.whole65.specs.Segments.{largest_multiple, segment_statements_after, statement_item}
+use Rattle.whole65.specs.Contents.{EncodesSegmentItems}
 use Rattle.whole65.specs.Values.{Program}
 
 -- ---- What lies in a segment, and the fragments that were put there.
@@ -127,16 +127,16 @@ module _ (Has : Valuing) (fill : ℕ) where
   all_in_one (Fill m) (Fill n ∷ fs) bytes = grind (arith, common_steps, more_fill, (all_in_one (Fill (m + n)) fs bytes))
   all_in_one f (g ∷ fs) bytes = one_more f (g ∷ fs) (merged_fragments g fs) bytes (all_in_one g fs)
 
-  pub all_joined_are : (fs : List Fragment) (bytes : List ℕ) → AreFragments Has fill fs bytes ↔ AreFragments Has fill (all_joined fs) bytes
+  pub all_joined_are : (fs : List Fragment) (bytes : List ℕ) → AreFragments Has fill fs bytes ↔ AreFragments Has fill (merged_neighbours fs) bytes
   all_joined_are x bytes = grind (arith, common_steps, all_in_one)
 
 -- ---- A module's lines in a segment, and what its object's section puts there.
 
-module _ {E : Type 0} (o : Objects E) (l : Linkage) (owner fill : ℕ) (sections imports : List ℕ) where
+module _ {E : Type 0} (o : LinkerView E) (l : Linkage) (owner fill : ℕ) (sections imports : List ℕ) where
   of_part : (q : Part) (bytes : List ℕ) → IsValuedIn o l owner sections imports q → ArePart (HasValue o owner) fill q bytes ↔ ArePart (λ f v. linked_value l owner (renumbered_form sections imports f) v) fill q bytes
   of_part (Known own) bytes h = (λ k. k, λ k. k)
-  of_part (Filled n) bytes h = (λ k. k, λ k. k)
-  of_part (Waiting width place f) bytes h = (λ k. (k.0, (h k.0).0 k.1, k.2), λ k. (k.0, (h k.0).1 k.1, k.2))
+  of_part (ReservedBytes n) bytes h = (λ k. k, λ k. k)
+  of_part (LinkTimeValue width place f) bytes h = (λ k. (k.0, (h k.0).0 k.1, k.2), λ k. (k.0, (h k.0).1 k.1, k.2))
 
   of_parts : (qs : List Part) (bytes : List ℕ) → AllByRecursion (IsValuedIn o l owner sections imports) qs → AreParts (HasValue o owner) fill qs bytes ↔ AreParts (λ f v. linked_value l owner (renumbered_form sections imports f) v) fill qs bytes
   of_parts [] bytes h = (λ k. k, λ k. k)
@@ -144,13 +144,13 @@ module _ {E : Type 0} (o : Objects E) (l : Linkage) (owner fill : ℕ) (sections
 
 -- A module's lines in a segment have the bytes of what its object's section puts there, where the forms in its parts have the
 -- values of those in the object.
-pub module_law : (E : Type 0) → (p : Program) (o : Objects E) (l : Linkage) (fill begin owner g : ℕ) (y : Layout) (cs : List Content) (origins : SourceLocation → Origin) (sections imports bytes : List ℕ) → AreObjects p o → o.symbols owner ≡ table_of y → ((index : ℕ) (x : LaidOutStatement) → slice_get y.laid index ≡ Some x → o.contexts owner index ≡ x.context) → HasNoLineErrors y → IsMultiple begin (largest_multiple (lines_at g (lines_after owner [] y.laid))) → (module_resolution y.laid).found ≡ Ok cs → AllByRecursion (IsValuedIn o l owner sections imports) (parts_in cs g) → AreBytes p fill begin (map line (lines_at g (lines_after owner [] y.laid))) bytes ↔ AreCells l fill (flat_map (fragment_cells owner) (section_of origins y.cursor.segments sections imports cs g).fragments) bytes
+pub module_law : (E : Type 0) → (p : Program) (o : LinkerView E) (l : Linkage) (fill begin owner g : ℕ) (y : Layout) (cs : List Content) (origins : SourceLocation → Origin) (sections imports bytes : List ℕ) → IsLinkerView p o → o.symbols owner ≡ table_of y → ((index : ℕ) (x : LaidOutStatement) → slice_get y.laid index ≡ Some x → o.contexts owner index ≡ x.context) → HasNoLineErrors y → IsMultiple begin (largest_multiple (statements_with_segment g (segment_statements_after owner [] y.laid))) → (module_resolution y.laid).found ≡ Ok cs → AllByRecursion (IsValuedIn o l owner sections imports) (parts_in cs g) → EncodesSegmentItems p fill begin (map statement_item (statements_with_segment g (segment_statements_after owner [] y.laid))) bytes ↔ AreCells l fill (flat_map (fragment_cells owner) (section_of origins y.cursor.segments sections imports cs g).fragments) bytes
 module_law E p o l fill begin owner g y cs origins sections imports bytes h table contexts d m e valued =
     let Has : Valuing = linked_value l owner in
     let lines = section_law E p o fill begin owner g y cs bytes h table contexts d m e in
     let parts = of_parts o l owner fill sections imports (parts_in cs g) bytes valued in
     let fragments = same_parts Has fill origins sections imports (parts_in cs g) bytes in
     let kept = all_kept Has fill (map (fragment_of origins sections imports) (parts_in cs g)) bytes in
-    let all_joined = all_joined_are Has fill (fragments_of origins sections imports (parts_in cs g)) bytes in
+    let merged_neighbours = all_joined_are Has fill (fragments_of origins sections imports (parts_in cs g)) bytes in
     let cells = cells_law l fill owner _ bytes in
-    (λ k. cells.0 (all_joined.0 (kept.0 (fragments.0 (parts.0 (lines.0 k))))), λ k. lines.1 (parts.1 (fragments.1 (kept.1 (all_joined.1 (cells.1 k))))))
+    (λ k. cells.0 (merged_neighbours.0 (kept.0 (fragments.0 (parts.0 (lines.0 k))))), λ k. lines.1 (parts.1 (fragments.1 (kept.1 (merged_neighbours.1 (cells.1 k))))))

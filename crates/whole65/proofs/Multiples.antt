@@ -9,13 +9,13 @@ use Rattle.whole65.specs.Offsets.{IsMultiple, IsPower, ArePowers}
 use Rattle.semantics65.specs.Symbols.{LaidOutStatement, Symbols}
 use Rattle.ast65.specs.declared.language.Statement.{Statement}
 use Rattle.ast65.specs.declared.language.Statement.TheVariants.{Align}
-use Rattle.whole65.specs.Segments.{Item, SegmentLine, end_after, end_of, largest_multiple, line, line_end}
+use Rattle.whole65.specs.Segments.{SegmentItem, SegmentStatement, end_after, end_of, largest_multiple, statement_item, statement_end}
 use Rattle.std.specs.Prelude.{ℤ, pos, negsuc, not, ◌==◌}
 use Rattle.std.specs.List.{AllByRecursion, list_any}
 use Rattle.ast65.specs.declared.fault.AsmFault.{AsmFault}
 use Rattle.ast65.specs.declared.fault.AsmFault.TheVariants.{BadAlignment}
-use Rattle.semantics65.specs.Layout.{Cursor, laid_out_statement, multiple_of, powers, context_of, alignment_fault, line_fault, multiple_fault, when}
-use Rattle.semantics65.specs.Norms.{constant_in, byte_count}
+use Rattle.semantics65.specs.Layout.{Cursor, laid_out_statement, statement_alignment, powers, context_of, alignment_fault, line_fault, alignment_value_fault, fault_if}
+use Rattle.semantics65.specs.Norms.{constant_in, nat_or_zero}
 use Rattle.syntax65.specs.declared.source_location.SourceLocation.{SourceLocation}
 use Rattle.script65.specs.Placing.{rounded_up}
 
@@ -93,30 +93,30 @@ power_positive n p = subst (λ z. 0 < z) (sym p.power) (pow_pos p.exponent)
 
 -- ---- Lines behind a multiple of their alignment.
 
-pub end_of-append : (position : ℕ) (xs ys : List Item) → end_of position (xs ++ ys) ≡ end_of (end_of position xs) ys
+pub end_of-append : (position : ℕ) (xs ys : List SegmentItem) → end_of position (xs ++ ys) ≡ end_of (end_of position xs) ys
 end_of-append position [] ys = refl
 end_of-append position (x ∷ xs) ys = end_of-append (end_after position x) xs ys
 
-pub largest_power : (xs : List SegmentLine) → ArePowers xs → IsPower (largest_multiple xs)
+pub largest_power : (xs : List SegmentStatement) → ArePowers xs → IsPower (largest_multiple xs)
 largest_power [] h = record { exponent = 0; below = omega arith; power = refl }
 largest_power (x ∷ xs) h = (larger x.alignment (largest_multiple xs) h.0 (largest_power xs h.1)).is_power
 
-pub line_shift : (b o alignment : ℕ) (l : LaidOutStatement) → IsMultiple b alignment → line_end (b + o) alignment l ≡ b + line_end o alignment l
+pub line_shift : (b o alignment : ℕ) (l : LaidOutStatement) → IsMultiple b alignment → statement_end (b + o) alignment l ≡ b + statement_end o alignment l
 line_shift b o alignment l h = grind (arith, common_steps, round_shift, add_assoc)
 
-pub end_shift : (xs : List SegmentLine) (b o : ℕ) → ArePowers xs → IsMultiple b (largest_multiple xs) → end_of (b + o) (map line xs) ≡ b + end_of o (map line xs)
+pub end_shift : (xs : List SegmentStatement) (b o : ℕ) → ArePowers xs → IsMultiple b (largest_multiple xs) → end_of (b + o) (map statement_item xs) ≡ b + end_of o (map statement_item xs)
 end_shift [] b o p h = refl
 end_shift (x ∷ xs) b o p h =
     let both : Larger x.alignment (largest_multiple xs) = larger x.alignment (largest_multiple xs) p.0 (largest_power xs p.1) in
     let first = multiple_of_multiple b x.alignment (max x.alignment (largest_multiple xs)) h both.first in
     let others = multiple_of_multiple b (largest_multiple xs) (max x.alignment (largest_multiple xs)) h both.second in
-    ap (λ n. end_of n (map line xs)) (line_shift b o x.alignment x.laid first)
-    ∙ end_shift xs b (line_end o x.alignment x.laid) p.1 others
+    ap (λ n. end_of n (map statement_item xs)) (line_shift b o x.alignment x.laid first)
+    ∙ end_shift xs b (statement_end o x.alignment x.laid) p.1 others
 
 -- Lines that begin at a multiple of the largest of their own multiples end where they end from 0 on, moved to there: so
 -- `.align` rounds a position in the whole list as it rounds an offset in the section.
-pub shift_law : (xs : List SegmentLine) (begin : ℕ) → ArePowers xs → IsMultiple begin (largest_multiple xs) → end_of begin (map line xs) ≡ begin + end_of 0 (map line xs)
-shift_law xs b p h = let same : b ≡ b + 0 = omega arith in ap (λ n. end_of n (map line xs)) same ∙ end_shift xs b 0 p h
+pub shift_law : (xs : List SegmentStatement) (begin : ℕ) → ArePowers xs → IsMultiple begin (largest_multiple xs) → end_of begin (map statement_item xs) ≡ begin + end_of 0 (map statement_item xs)
+shift_law xs b p h = let same : b ≡ b + 0 = omega arith in ap (λ n. end_of n (map statement_item xs)) same ∙ end_shift xs b 0 p h
 
 -- ---- A line ends its length behind its offset, and aligns to a power of two.
 
@@ -135,7 +135,7 @@ power k n lt e = record { exponent = k; below = lt; power = e }
 all_powers : AllByRecursion IsPower powers
 all_powers = (power 0 1 (omega arith) refl, (power 1 2 (omega arith) refl, (power 2 4 (omega arith) refl, (power 3 8 (omega arith) refl, (power 4 16 (omega arith) refl, (power 5 32 (omega arith) refl, (power 6 64 (omega arith) refl, (power 7 128 (omega arith) refl, (power 8 256 (omega arith) refl, (power 9 512 (omega arith) refl, (power 10 1024 (omega arith) refl, (power 11 2048 (omega arith) refl, (power 12 4096 (omega arith) refl, (power 13 8192 (omega arith) refl, (power 14 16384 (omega arith) refl, (power 15 32768 (omega arith) refl, tt))))))))))))))))
 
-not_when : (b : Bool) (e : AsmFault) → when (not b) e ≡ None → b ≡ true
+not_when : (b : Bool) (e : AsmFault) → fault_if (not b) e ≡ None → b ≡ true
 not_when x1 e h = grind (arith, common_steps)
 
 -- a constant that is one of the multiples
@@ -144,23 +144,23 @@ pub record IsAligned (r : Option ℤ) : Type 0 where
   pub value : r ≡ Some (pos alignment)
   pub is_power : IsPower alignment
 
-aligned : (r : Option ℤ) → multiple_fault r ≡ None → IsAligned r
+aligned : (r : Option ℤ) → alignment_value_fault r ≡ None → IsAligned r
 aligned (Some (pos n)) h = record { alignment = n; value = refl; is_power = power_among n powers all_powers (not_when (list_any (λ m. m == n) powers) BadAlignment h) }
 aligned (Some (negsuc n)) h = absurd cc
 aligned None h = absurd cc
 
-pub multiple_power : (y : Symbols) (w : Cursor) (x : Statement) → line_fault y w x ≡ None → IsPower (multiple_of y (context_of w) x)
+pub multiple_power : (y : Symbols) (w : Cursor) (x : Statement) → line_fault y w x ≡ None → IsPower (statement_alignment y (context_of w) x)
 multiple_power y w x h = go x (no_alignment_fault y w x h)
   where
-    go : (x : Statement) → alignment_fault y (context_of w) x ≡ None → IsPower (multiple_of y (context_of w) x)
+    go : (x : Statement) → alignment_fault y (context_of w) x ≡ None → IsPower (statement_alignment y (context_of w) x)
     go (Align n v) h =
         let a = aligned (constant_in y (context_of w) n) h in
-        subst (λ r. IsPower (byte_count r)) (sym a.value) a.is_power
+        subst (λ r. IsPower (nat_or_zero r)) (sym a.value) a.is_power
     go x h = record { exponent = 0; below = omega arith; power = refl }
 
 -- ---- Ends.
 
-pub line_ends : (y : Symbols) (w : Cursor) (place : SourceLocation) (x : Statement) → line_fault y w x ≡ None → line_end (context_of w).offset (multiple_of y (context_of w) x) (laid_out_statement y w place x) ≡ (context_of w).offset + (laid_out_statement y w place x).length
+pub line_ends : (y : Symbols) (w : Cursor) (place : SourceLocation) (x : Statement) → line_fault y w x ≡ None → statement_end (context_of w).offset (statement_alignment y (context_of w) x) (laid_out_statement y w place x) ≡ (context_of w).offset + (laid_out_statement y w place x).length
 line_ends y w place x h = grind (arith, common_steps)
 
 -- ---- Rounding up by quotients and by remainders.

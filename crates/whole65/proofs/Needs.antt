@@ -15,22 +15,22 @@ use Rattle.whole65.proofs.Positions.{alignment_law}
 use Rattle.whole65.proofs.Sections.{segment_law}
 use Rattle.whole65.proofs.Sources.{Following, after_source, contents_of, grows, no_part, size_law, unchanged, whole_part}
 use Rattle.whole65.specs.Modules.{table_of}
-use Rattle.whole65.specs.Laws.{NeedsLaw, SourceLaw}
-use Rattle.whole65.specs.Offsets.{lines_at}
-use Rattle.whole65.specs.Segments.{Item, SegmentLine, alignment_of, items_from, items_of, largest_multiple, line, lines_after, need_of, part_of}
-use Rattle.whole65.specs.Sources.{AreSources, IsSource}
+use Rattle.whole65.specs.Laws.{LinkPreservesNeeds, LayoutIsSourceOfObject}
+use Rattle.whole65.specs.Offsets.{statements_with_segment}
+use Rattle.whole65.specs.Segments.{SegmentItem, SegmentStatement, alignment_of, segment_items_from, segment_items, largest_multiple, statement_item, segment_statements_after, need_of, module_items}
+use Rattle.whole65.specs.Sources.{AreObjectsOfLayouts, IsObjectOfLayout}
 
 -- ---- The alignment of a list.
 
-some_alignment : (xs : List Item) → 0 < alignment_of xs
+some_alignment : (xs : List SegmentItem) → 0 < alignment_of xs
 some_alignment [] = omega arith
 some_alignment (x ∷ xs) = omega (arith, some_alignment xs)
 
-alignment_of-append : (xs zs : List Item) → alignment_of (xs ++ zs) ≡ max (alignment_of xs) (alignment_of zs)
+alignment_of-append : (xs zs : List SegmentItem) → alignment_of (xs ++ zs) ≡ max (alignment_of xs) (alignment_of zs)
 alignment_of-append [] zs = omega (arith, some_alignment zs)
 alignment_of-append (x ∷ xs) zs = omega (arith, alignment_of-append xs zs)
 
-lines_alignment : (ls : List SegmentLine) → alignment_of (map line ls) ≡ largest_multiple ls
+lines_alignment : (ls : List SegmentStatement) → alignment_of (map statement_item ls) ≡ largest_multiple ls
 lines_alignment [] = refl
 lines_alignment (x ∷ ls) = ap (max x.alignment) (lines_alignment ls)
 
@@ -43,31 +43,31 @@ align_or_empty : (name : List ℕ) (g : Option Segment) → (or_empty name g).al
 align_or_empty name None = refl
 align_or_empty name (Some g) = refl
 
-part_alignment : (y : Layout) (m : Module) (owner : ℕ) (name : List ℕ) (g : Option Segment) → IsSource y m → 0 < align_or g → align_or (after_sections owner name g m.object.sections) ≡ max (align_or g) (alignment_of (part_of owner y name))
+part_alignment : (y : Layout) (m : Module) (owner : ℕ) (name : List ℕ) (g : Option Segment) → IsObjectOfLayout y m → 0 < align_or g → align_or (after_sections owner name g m.object.sections) ≡ max (align_or g) (alignment_of (module_items owner y name))
 part_alignment y m owner name g h some = go (after_source y m h owner name g)
   where
-    go : Following y m (contents_of y m h).origins (contents_of y m h).contents owner name g → align_or (after_sections owner name g m.object.sections) ≡ max (align_or g) (alignment_of (part_of owner y name))
+    go : Following y m (contents_of y m h).origins (contents_of y m h).contents owner name g → align_or (after_sections owner name g m.object.sections) ≡ max (align_or g) (alignment_of (module_items owner y name))
     go (unchanged has e) =
-        let none : alignment_of (part_of owner y name) ≡ 1 = ap alignment_of (no_part y owner name has) in
+        let none : alignment_of (module_items owner y name) ≡ 1 = ap alignment_of (no_part y owner name has) in
         ap align_or e ∙ omega (arith, none, some)
     go (grows key has among lt called e) =
-        let lines : List SegmentLine = lines_at key (lines_after owner [] y.laid) in
-        let part : alignment_of (part_of owner y name) ≡ max (largest_multiple lines) (alignment_of (map line lines)) = ap alignment_of (whole_part y owner key name h.laid_out lt called has) in
-        let own = alignment_law y owner key h.laid_out in
+        let lines : List SegmentStatement = statements_with_segment key (segment_statements_after owner [] y.laid) in
+        let part : alignment_of (module_items owner y name) ≡ max (largest_multiple lines) (alignment_of (map statement_item lines)) = ap alignment_of (whole_part y owner key name h.no_line_errors lt called has) in
+        let own = alignment_law y owner key h.no_line_errors in
         ap align_or e ∙ ap (λ n. max n (linked.align_of (section_of (contents_of y m h).origins y.cursor.segments (section_keys (contents_of y m h).contents) (import_keys (table_of y).imports (contents_of y m h).contents) (contents_of y m h).contents key))) (align_or_empty name g)
         ∙ omega (arith, own, part, lines_alignment lines)
 
-modules_alignment : (ys : List Layout) (ms : List Module) (owner : ℕ) (name : List ℕ) (g : Option Segment) → AreSources ys ms → 0 < align_or g → align_or (after_modules owner name g ms) ≡ max (align_or g) (alignment_of (items_from owner ys name))
+modules_alignment : (ys : List Layout) (ms : List Module) (owner : ℕ) (name : List ℕ) (g : Option Segment) → AreObjectsOfLayouts ys ms → 0 < align_or g → align_or (after_modules owner name g ms) ≡ max (align_or g) (alignment_of (segment_items_from owner ys name))
 modules_alignment [] [] owner name g h some = omega (arith, some)
 modules_alignment [] (m ∷ ms) owner name g h some = absurd h
 modules_alignment (y ∷ ys) [] owner name g h some = absurd h
 modules_alignment (y ∷ ys) (m ∷ ms) owner name g h some =
     let first = part_alignment y m owner name g h.0 some in
     let rest = modules_alignment ys ms (suc owner) name (after_sections owner name g m.object.sections) h.1 (omega (arith, first, some)) in
-    omega (arith, first, rest, alignment_of-append (part_of owner y name) (items_from (suc owner) ys name))
+    omega (arith, first, rest, alignment_of-append (module_items owner y name) (segment_items_from (suc owner) ys name))
 
-same_alignment : (ys : List Layout) (ms : List Module) (name : List ℕ) → AreSources ys ms → align_or (segment_of (linked.program_of ms).segments name) ≡ alignment_of (items_of ys name)
-same_alignment ys ms name h = ap align_or (segment_law ms name) ∙ modules_alignment ys ms 0 name None h (omega arith) ∙ omega (arith, some_alignment (items_of ys name))
+same_alignment : (ys : List Layout) (ms : List Module) (name : List ℕ) → AreObjectsOfLayouts ys ms → align_or (segment_of (linked.program_of ms).segments name) ≡ alignment_of (segment_items ys name)
+same_alignment ys ms name h = ap align_or (segment_law ms name) ∙ modules_alignment ys ms 0 name None h (omega arith) ∙ omega (arith, some_alignment (segment_items ys name))
 
 -- ---- Needs.
 
@@ -82,7 +82,7 @@ found_named (x ∷ gs) name g e = go (bytes_eq x.name name) refl e (found_named 
 need_is : (a b : ℕ) (n : List ℕ) (m : SegmentNeed) → n ≡ m.name → a ≡ m.size → b ≡ m.align → ◌≡◌ {A = SegmentNeed} (record { name = n; size = a; align = b }) m
 need_is a b n m e f g = rw (e, f, g) refl
 
-pub same_needs : NeedsLaw
+pub same_needs : LinkPreservesNeeds
 same_needs ys ms name h = go (segment_of (linked.program_of ms).segments name) refl
   where
     go : (o : Option Segment) → segment_of (linked.program_of ms).segments name ≡ o → IfSome o (λ g. places.need_of g ≡ need_of ys name)
@@ -93,8 +93,8 @@ same_needs ys ms name h = go (segment_of (linked.program_of ms).segments name) r
         let align : g.align ≡ (need_of ys name).align = sym (ap align_or is) ∙ same_alignment ys ms name h in
         need_is g.size g.align g.name (need_of ys name) called size align
 
-pub laid_is_a_source : SourceLaw
+pub laid_is_a_source : LayoutIsSourceOfObject
 laid_is_a_source y name o out sound made = (
-  record { laid_out = out; sound = sound; written = o; object = made; version = inl refl },
-  record { laid_out = out; sound = sound; written = o; object = made; version = inr refl },
+  record { no_line_errors = out; well_formed_layout = sound; written = o; object = made; version = inl refl },
+  record { no_line_errors = out; well_formed_layout = sound; written = o; object = made; version = inr refl },
 )

@@ -8,15 +8,15 @@ use Rattle.std.proofs.lemmas.List.{map-append, append-nil, append_assoc}
 use Rattle.std.proofs.lemmas.List.Folds.{list_any-append}
 use Rattle.object65.specs.declared.object.Origin.{Origin}
 use Rattle.object65.specs.declared.object.Section.{Section}
-use Rattle.script65.proofs.Apart.{same_needs}
+use Rattle.script65.proofs.DisjointRows.{same_needs}
 use Rattle.script65.specs.Placing.{size_of}
 use Rattle.script65.specs.declared.placement.SegmentNeed.{SegmentNeed}
 use Rattle.ast65.proofs.Lists.{bytes_swap, same_bytes}
 use Rattle.syntax65.specs.declared.source_location.SourceLocation.{SourceLocation}
-use Rattle.semantics65.specs.Contents.{Content, Part, Known, Filled, Waiting}
-use Rattle.semantics65.specs.Symbols.{LaidOutStatement, with_new}
+use Rattle.semantics65.specs.Contents.{Content, Part, Known, ReservedBytes, LinkTimeValue}
+use Rattle.semantics65.specs.Symbols.{LaidOutStatement, with_new_names}
 use Rattle.semantics65.specs.Layout.{Layout}
-use Rattle.semantics65.specs.Numbering.{import_keys, distinct_keys, section_keys, section_of, segments_asked, parts_in}
+use Rattle.semantics65.specs.Numbering.{import_keys, distinct_keys, section_keys, section_of, segment_requests, parts_in}
 use Rattle.link65.specs.Programs.{Module, Program as LinkedProgram, no_program, program_of, with_module, with_modules, Segment, segment_with_section, segment_of, with_section, with_sections, Cell, begin_after, filled, fragment_cells}
 use Rattle.link65.specs.Values as places
 use Rattle.link65.specs.Programs as linked
@@ -24,10 +24,10 @@ use Rattle.sources65.proofs.Resolving.{new_append}
 use Rattle.whole65.proofs.Sections.{asked_are, held, keys_of, or_false, or_true, with_key, name_at, segment_law}
 use Rattle.whole65.proofs.Positions.{itself}
 use Rattle.whole65.proofs.Sources.{contents_of, size_law, Following, begin_is_multiple, after_source, grows, no_part, part_end, section_begin, size_or, size_or_empty, unchanged, whole_part}
-use Rattle.whole65.specs.Laws.{PlacementLaw}
+use Rattle.whole65.specs.Laws.{LinkPreservesPlacement}
 use Rattle.whole65.specs.Modules.{table_of, global_context, context_or}
-use Rattle.whole65.specs.Segments.{requested_segments, end_of, items_of, need_of, segment_name, segments_of, Item, end_after, items_from, largest_multiple, line, lines_after, part_of, rounding}
-use Rattle.whole65.specs.Sources.{AreSources, IsSource}
+use Rattle.whole65.specs.Segments.{requested_segments, end_of, segment_items, need_of, segment_name_at, segments_of, SegmentItem, end_after, segment_items_from, largest_multiple, statement_item, segment_statements_after, module_items, rounding}
+use Rattle.whole65.specs.Sources.{AreObjectsOfLayouts, IsObjectOfLayout}
 use Rattle.std.specs.Int.{next_multiple_of}
 use Rattle.script65.specs.declared.placement.Placement.{Placement}
 use Rattle.script65.specs.declared.script.Script.{Script}
@@ -35,12 +35,12 @@ use Rattle.link65.specs.Values.{linkage_of, Linkage}
 use Rattle.link65.specs.declared.parts.ValueFault.{ValueFault}
 use Rattle.semantics65.specs.Module.{module_resolution}
 use Rattle.sources65.proofs.SoundForms.{all_append}
-use Rattle.whole65.proofs.Keyed.{source_at, form_law, keyed_law}
+use Rattle.whole65.proofs.SectionBases.{source_at, form_law, keyed_law}
 use Rattle.whole65.proofs.ModuleBytes.{cells_joined, cells_split, of_filled, module_law}
 use Rattle.whole65.proofs.LinkedObjects.{AreCells, IsValuedIn, cells_or, after_modules, after_sections, or_empty, IsKeyedContent, IsKeyedPart, linked_objects, context_in, symbols_at}
-use Rattle.whole65.specs.Contents.{AreBytes}
-use Rattle.whole65.specs.Objects.{AreObjects, Objects}
-use Rattle.whole65.specs.Offsets.{IsMultiple, lines_at}
+use Rattle.whole65.specs.Contents.{EncodesSegmentItems}
+use Rattle.whole65.specs.Objects.{IsLinkerView, LinkerView}
+use Rattle.whole65.specs.Offsets.{IsMultiple, statements_with_segment}
 use Rattle.whole65.specs.Programs as whole
 use Rattle.whole65.specs.Values.{Program}
 
@@ -55,7 +55,7 @@ there_too n m known h e = let same : n ≡ m = same_bytes n m e in ap (λ z. lis
 any_name : (n m : List ℕ) (known : List (List ℕ)) → list_any (λ k. bytes_eq n k) (with_name known m) ≡ (list_any (λ k. bytes_eq n k) known || bytes_eq n m)
 any_name n m known = grind (arith, common_steps, there_too, or_true, or_false, list_any-append)
 
-pub any_new : (n : List ℕ) (xs known : List (List ℕ)) → list_any (λ k. bytes_eq n k) (with_new known xs) ≡ (list_any (λ k. bytes_eq n k) known || list_any (λ k. bytes_eq n k) xs)
+pub any_new : (n : List ℕ) (xs known : List (List ℕ)) → list_any (λ k. bytes_eq n k) (with_new_names known xs) ≡ (list_any (λ k. bytes_eq n k) known || list_any (λ k. bytes_eq n k) xs)
 any_new n [] known = sym (or_false (list_any (λ k. bytes_eq n k) known))
 any_new n (x ∷ xs) known = grind (arith, common_steps, any_name, (any_new n xs (with_name known x)))
 
@@ -64,10 +64,10 @@ any_map N n [] = refl
 any_map N n (k ∷ ks) = ap (λ b. bytes_eq n (N k) || b) (any_map N n ks)
 
 -- names of keys that come once are found as those of all are
-one_key : (N : ℕ → List ℕ) (known : List (List ℕ)) (found : List ℕ) (k : ℕ) → with_new known (map N (with_key found k)) ≡ with_name (with_new known (map N found)) (N k)
+one_key : (N : ℕ → List ℕ) (known : List (List ℕ)) (found : List ℕ) (k : ℕ) → with_new_names known (map N (with_key found k)) ≡ with_name (with_new_names known (map N found)) (N k)
 one_key x known found k = grind (arith, common_steps, map-append, new_append, held, itself, any_new, any_map, or_true)
 
-names_once : (N : ℕ → List ℕ) (known : List (List ℕ)) (found ks : List ℕ) → with_new known (map N (distinct_keys found ks)) ≡ with_new (with_new known (map N found)) (map N ks)
+names_once : (N : ℕ → List ℕ) (known : List (List ℕ)) (found ks : List ℕ) → with_new_names known (map N (distinct_keys found ks)) ≡ with_new_names (with_new_names known (map N found)) (map N ks)
 names_once N known found [] = refl
 names_once N known found (k ∷ ks) = grind (arith, common_steps, one_key, (names_once N known (with_key found k) ks))
 
@@ -80,27 +80,27 @@ one_section : (owner : ℕ) (gs : List Segment) (s : Section) → names_of (with
 one_section owner [] s = refl
 one_section owner (g ∷ gs) s = grind (arith, common_steps, (one_section owner gs s), bytes_swap)
 
-all_sections : (owner : ℕ) (ss : List Section) (gs : List Segment) → names_of (with_sections owner gs ss) ≡ with_new (names_of gs) (map (λ s. s.name) ss)
+all_sections : (owner : ℕ) (ss : List Section) (gs : List Segment) → names_of (with_sections owner gs ss) ≡ with_new_names (names_of gs) (map (λ s. s.name) ss)
 all_sections owner [] gs = refl
-all_sections owner (s ∷ ss) gs = all_sections owner ss (with_section owner gs s) ∙ ap (λ z. with_new z (map (λ s. s.name) ss)) (one_section owner gs s)
+all_sections owner (s ∷ ss) gs = all_sections owner ss (with_section owner gs s) ∙ ap (λ z. with_new_names z (map (λ s. s.name) ss)) (one_section owner gs s)
 
-section_names : (y : Layout) (origins : SourceLocation → Origin) (sections imports : List ℕ) (cs : List Content) (ks : List ℕ) → AllByRecursion (λ g. g < length y.cursor.segments) ks → map (λ (s : Section). s.name) (map (section_of origins y.cursor.segments sections imports cs) ks) ≡ map (segment_name y) ks
+section_names : (y : Layout) (origins : SourceLocation → Origin) (sections imports : List ℕ) (cs : List Content) (ks : List ℕ) → AllByRecursion (λ g. g < length y.cursor.segments) ks → map (λ (s : Section). s.name) (map (section_of origins y.cursor.segments sections imports cs) ks) ≡ map (segment_name_at y) ks
 section_names y origins sections imports cs [] h = refl
 section_names y origins sections imports cs (k ∷ ks) h = grind (arith, common_steps, (section_names y origins sections imports cs ks h.1), name_at)
 
-pub names_asked : (y : Layout) (ls : List LaidOutStatement) → map (segment_name y) (map (λ (l : LaidOutStatement). l.context.segment) ls) ≡ map (λ (l : LaidOutStatement). segment_name y l.context.segment) ls
+pub names_asked : (y : Layout) (ls : List LaidOutStatement) → map (segment_name_at y) (map (λ (l : LaidOutStatement). l.context.segment) ls) ≡ map (λ (l : LaidOutStatement). segment_name_at y l.context.segment) ls
 names_asked y [] = refl
-names_asked y (l ∷ ls) = ap (λ z. segment_name y l.context.segment ∷ z) (names_asked y ls)
+names_asked y (l ∷ ls) = ap (λ z. segment_name_at y l.context.segment ∷ z) (names_asked y ls)
 
-one_source : (y : Layout) (m : Module) (known : List (List ℕ)) → IsSource y m → with_new known (map (λ (s : Section). s.name) m.object.sections) ≡ with_new known (requested_segments y)
+one_source : (y : Layout) (m : Module) (known : List (List ℕ)) → IsObjectOfLayout y m → with_new_names known (map (λ (s : Section). s.name) m.object.sections) ≡ with_new_names known (requested_segments y)
 one_source y m known h =
     let c = contents_of y m h in
     let cs : List Content = c.contents in
-    let keys = keys_of y cs h.laid_out c.found in
+    let keys = keys_of y cs h.no_line_errors c.found in
     let imports : List ℕ = import_keys (table_of y).imports cs in
-    grind (arith, common_steps, (section_names y c.origins (section_keys cs) imports cs (section_keys cs) keys.standing), (names_once (segment_name y) known [] (segments_asked cs)), (asked_are y cs c.found), names_asked)
+    grind (arith, common_steps, (section_names y c.origins (section_keys cs) imports cs (section_keys cs) keys.standing), (names_once (segment_name_at y) known [] (segment_requests cs)), (asked_are y cs c.found), names_asked)
 
-all_modules : (p : LinkedProgram) (ys : List Layout) (ms : List Module) → AreSources ys ms → names_of (with_modules p ms).segments ≡ with_new (names_of p.segments) (flat_map requested_segments ys)
+all_modules : (p : LinkedProgram) (ys : List Layout) (ms : List Module) → AreObjectsOfLayouts ys ms → names_of (with_modules p ms).segments ≡ with_new_names (names_of p.segments) (flat_map requested_segments ys)
 all_modules p [] [] h = refl
 all_modules p [] (m ∷ ms) h = absurd h
 all_modules p (y ∷ ys) [] h = absurd h
@@ -124,12 +124,12 @@ unfolding size_of
 linked_size [] name = refl
 linked_size (g ∷ gs) name = grind (arith, common_steps, (linked_size gs name))
 
-whole_size : (ys : List Layout) (ns : List (List ℕ)) (name : List ℕ) → size_of (map (need_of ys) ns) name ≡ size_if (list_any (λ n. bytes_eq n name) ns) (end_of 0 (items_of ys name))
+whole_size : (ys : List Layout) (ns : List (List ℕ)) (name : List ℕ) → size_of (map (need_of ys) ns) name ≡ size_if (list_any (λ n. bytes_eq n name) ns) (end_of 0 (segment_items ys name))
 unfolding size_of
 whole_size ys [] name = refl
 whole_size ys (n ∷ ns) name = grind (arith, common_steps, (whole_size ys ns name), same_bytes)
 
-pub placement_law : PlacementLaw
+pub placement_law : LinkPreservesPlacement
 placement_law s ys ms h =
     let gs : List Segment = (program_of ms).segments in
     let names : names_of gs ≡ segments_of ys = all_modules no_program ys ms h in
@@ -140,14 +140,14 @@ placement_law s ys ms h =
 -- ---- Lists behind lists.
 
 module _ (p : Program) (fill : ℕ) where
-  abbrev BothBytes : ℕ → List Item → List Item → List ℕ → Type 0
-  BothBytes position xs zs bytes = (own : List ℕ) × (rest : List ℕ) × AreBytes p fill position xs own × AreBytes p fill (end_of position xs) zs rest × (bytes ≡ own ++ rest)
+  abbrev BothBytes : ℕ → List SegmentItem → List SegmentItem → List ℕ → Type 0
+  BothBytes position xs zs bytes = (own : List ℕ) × (rest : List ℕ) × EncodesSegmentItems p fill position xs own × EncodesSegmentItems p fill (end_of position xs) zs rest × (bytes ≡ own ++ rest)
 
-  bytes_joined : (position : ℕ) (xs zs : List Item) (bytes : List ℕ) → BothBytes position xs zs bytes → AreBytes p fill position (xs ++ zs) bytes
-  bytes_joined position [] zs bytes (own, rest, none, h, e) = subst (AreBytes p fill position zs) (sym (e ∙ ap (λ z. z ++ rest) none)) h
+  bytes_joined : (position : ℕ) (xs zs : List SegmentItem) (bytes : List ℕ) → BothBytes position xs zs bytes → EncodesSegmentItems p fill position (xs ++ zs) bytes
+  bytes_joined position [] zs bytes (own, rest, none, h, e) = subst (EncodesSegmentItems p fill position zs) (sym (e ∙ ap (λ z. z ++ rest) none)) h
   bytes_joined position (x ∷ xs) zs bytes (own, rest, (a, b, k, more, e'), h, e) = grind (arith, common_steps, (bytes_joined (end_after position x) xs zs (b ++ rest) (b, rest, more, h, refl)))
 
-  pub bytes_split : (position : ℕ) (xs zs : List Item) (bytes : List ℕ) → AreBytes p fill position (xs ++ zs) bytes → BothBytes position xs zs bytes
+  pub bytes_split : (position : ℕ) (xs zs : List SegmentItem) (bytes : List ℕ) → EncodesSegmentItems p fill position (xs ++ zs) bytes → BothBytes position xs zs bytes
   bytes_split position [] zs bytes h = ([], bytes, refl, h, refl)
   bytes_split position (x ∷ xs) zs bytes (a, b, k, more, e) =
       let (own, rest, h, g, e') = bytes_split (end_after position x) xs zs b more in
@@ -162,29 +162,29 @@ keyed_in sections imports count g (c ∷ cs) h = grind (arith, common_steps, (ke
 or_empty_cells : (name : List ℕ) (g : Option Segment) → (or_empty name g).cells ≡ cells_or g
 or_empty_cells name x = grind (arith, common_steps)
 
-module _ (s : Script) (placement : Placement) (ys : List Layout) (ms : List Module) (fill : ℕ) (name : List ℕ) (sources : AreSources ys ms) (objects : AreObjects (whole.program_of s placement ys) (linked_objects s placement ys ms)) where
+module _ (s : Script) (placement : Placement) (ys : List Layout) (ms : List Module) (fill : ℕ) (name : List ℕ) (sources : AreObjectsOfLayouts ys ms) (objects : IsLinkerView (whole.placed_program s placement ys) (linked_objects s placement ys ms)) where
   abbrev p : Program
-  p = whole.program_of s placement ys
+  p = whole.placed_program s placement ys
 
-  abbrev o : Objects ValueFault
+  abbrev o : LinkerView ValueFault
   o = linked_objects s placement ys ms
 
   abbrev l : Linkage
   l = linkage_of s (linked.program_of ms) placement
 
   -- what lies there, and behind it the bytes of items
-  abbrev Split : List Cell → ℕ → List Item → List ℕ → Type 0
-  Split cells position items bytes = (own : List ℕ) × (rest : List ℕ) × AreCells l fill cells own × AreBytes p fill position items rest × (bytes ≡ own ++ rest)
+  abbrev Split : List Cell → ℕ → List SegmentItem → List ℕ → Type 0
+  Split cells position items bytes = (own : List ℕ) × (rest : List ℕ) × AreCells l fill cells own × EncodesSegmentItems p fill position items rest × (bytes ≡ own ++ rest)
 
   module _ (owner : ℕ) (y : Layout) (m : Module) (at_y : slice_get ys owner ≡ Some y) (at_m : slice_get ms owner ≡ Some m) where
-    source : IsSource y m
+    source : IsObjectOfLayout y m
     source = source_at ys ms owner y m sources at_y at_m
 
     valued : (cs : List Content) → (module_resolution y.laid).found ≡ Ok cs → (qs : List Part) → AllByRecursion (IsKeyedPart (section_keys cs) (import_keys (table_of y).imports cs) (length (table_of y).imports)) qs → AllByRecursion (IsValuedIn o l owner (section_keys cs) (import_keys (table_of y).imports cs)) qs
     valued cs e [] h = tt
     valued cs e (Known own ∷ qs) h = (tt, valued cs e qs h.1)
-    valued cs e (Filled n ∷ qs) h = (tt, valued cs e qs h.1)
-    valued cs e (Waiting width place f ∷ qs) h = (
+    valued cs e (ReservedBytes n ∷ qs) h = (tt, valued cs e qs h.1)
+    valued cs e (LinkTimeValue width place f ∷ qs) h = (
       λ v. (
         λ k. (k.0, sym (form_law s placement ys ms owner k.0 y m cs f sources at_y at_m e h.0) ∙ k.1),
         λ k. (k.0, form_law s placement ys ms owner k.0 y m cs f sources at_y at_m e h.0 ∙ k.1),
@@ -195,21 +195,21 @@ module _ (s : Script) (placement : Placement) (ys : List Layout) (ms : List Modu
     context_is : (index : ℕ) (x : LaidOutStatement) → slice_get y.laid index ≡ Some x → o.contexts owner index ≡ x.context
     context_is index x e = ap (λ r. context_in r index) at_y ∙ ap (context_or (global_context y)) e
 
-    lines_have : (begin key : ℕ) (origins : SourceLocation → Origin) (cs : List Content) (bytes : List ℕ) → (module_resolution y.laid).found ≡ Ok cs → IsMultiple begin (largest_multiple (lines_at key (lines_after owner [] y.laid))) → AreBytes p fill begin (map line (lines_at key (lines_after owner [] y.laid))) bytes ↔ AreCells l fill (flat_map (fragment_cells owner) (section_of origins y.cursor.segments (section_keys cs) (import_keys (table_of y).imports cs) cs key).fragments) bytes
+    lines_have : (begin key : ℕ) (origins : SourceLocation → Origin) (cs : List Content) (bytes : List ℕ) → (module_resolution y.laid).found ≡ Ok cs → IsMultiple begin (largest_multiple (statements_with_segment key (segment_statements_after owner [] y.laid))) → EncodesSegmentItems p fill begin (map statement_item (statements_with_segment key (segment_statements_after owner [] y.laid))) bytes ↔ AreCells l fill (flat_map (fragment_cells owner) (section_of origins y.cursor.segments (section_keys cs) (import_keys (table_of y).imports cs) cs key).fragments) bytes
     lines_have begin key origins cs bytes e alignment =
         let sections : List ℕ = section_keys cs in
         let imports : List ℕ = import_keys (table_of y).imports cs in
-        module_law ValueFault p o l fill begin owner key y cs origins sections imports bytes objects (ap symbols_at at_y) context_is source.laid_out alignment e
-        (valued cs e (parts_in cs key) (keyed_in sections imports (length (table_of y).imports) key cs (keyed_law y cs source.sound e)))
+        module_law ValueFault p o l fill begin owner key y cs origins sections imports bytes objects (ap symbols_at at_y) context_is source.no_line_errors alignment e
+        (valued cs e (parts_in cs key) (keyed_in sections imports (length (table_of y).imports) key cs (keyed_law y cs source.well_formed_layout e)))
 
-    one_part : (g : Option Segment) (bytes : List ℕ) → AreCells l fill (cells_or (after_sections owner name g m.object.sections)) bytes ↔ Split (cells_or g) (size_or g) (part_of owner y name) bytes
+    one_part : (g : Option Segment) (bytes : List ℕ) → AreCells l fill (cells_or (after_sections owner name g m.object.sections)) bytes ↔ Split (cells_or g) (size_or g) (module_items owner y name) bytes
     one_part g bytes = go (after_source y m source owner name g)
       where
-        go : Following y m (contents_of y m source).origins (contents_of y m source).contents owner name g → AreCells l fill (cells_or (after_sections owner name g m.object.sections)) bytes ↔ Split (cells_or g) (size_or g) (part_of owner y name) bytes
+        go : Following y m (contents_of y m source).origins (contents_of y m source).contents owner name g → AreCells l fill (cells_or (after_sections owner name g m.object.sections)) bytes ↔ Split (cells_or g) (size_or g) (module_items owner y name) bytes
         go (unchanged has e) =
-            let none : part_of owner y name ≡ [] = no_part y owner name has in (
-              λ h. (bytes, [], subst (λ z. AreCells l fill (cells_or z) bytes) e h, subst (λ z. AreBytes p fill (size_or g) z []) (sym none) refl, sym (append-nil bytes)),
-              λ h. (let empty : h.1 ≡ [] = subst (λ z. AreBytes p fill (size_or g) z h.1) none h.3 in let same : h.0 ≡ bytes = sym (h.4 ∙ ap (λ z. h.0 ++ z) empty ∙ append-nil h.0) in subst (λ z. AreCells l fill (cells_or z) bytes) (sym e) (subst (AreCells l fill (cells_or g)) same h.2)),
+            let none : module_items owner y name ≡ [] = no_part y owner name has in (
+              λ h. (bytes, [], subst (λ z. AreCells l fill (cells_or z) bytes) e h, subst (λ z. EncodesSegmentItems p fill (size_or g) z []) (sym none) refl, sym (append-nil bytes)),
+              λ h. (let empty : h.1 ≡ [] = subst (λ z. EncodesSegmentItems p fill (size_or g) z h.1) none h.3 in let same : h.0 ≡ bytes = sym (h.4 ∙ ap (λ z. h.0 ++ z) empty ∙ append-nil h.0) in subst (λ z. AreCells l fill (cells_or z) bytes) (sym e) (subst (AreCells l fill (cells_or g)) same h.2)),
             )
         go (grows key has among lt called e) = (there, back)
           where
@@ -223,7 +223,7 @@ module _ (s : Script) (placement : Placement) (ys : List Layout) (ms : List Modu
             sec = section_of origins y.cursor.segments (section_keys cs) (import_keys (table_of y).imports cs) cs key
 
             alignment : ℕ
-            alignment = largest_multiple (lines_at key (lines_after owner [] y.laid))
+            alignment = largest_multiple (statements_with_segment key (segment_statements_after owner [] y.laid))
 
             begin : ℕ
             begin = next_multiple_of (size_or g) alignment
@@ -231,7 +231,7 @@ module _ (s : Script) (placement : Placement) (ys : List Layout) (ms : List Modu
             gap_is : begin_after (or_empty name g).size sec - (or_empty name g).size ≡ begin - size_or g
             gap_is =
                 ap (λ n. begin_after n sec - n) (size_or_empty name g)
-                ∙ ap (λ n. n - size_or g) (section_begin y owner key (size_or g) origins (section_keys cs) (import_keys (table_of y).imports cs) cs source.laid_out)
+                ∙ ap (λ n. n - size_or g) (section_begin y owner key (size_or g) origins (section_keys cs) (import_keys (table_of y).imports cs) cs source.no_line_errors)
 
             cells_are : cells_or (after_sections owner name g m.object.sections) ≡ cells_or g ++ (replicate (begin - size_or g) filled ++ flat_map (fragment_cells owner) sec.fragments)
             cells_are =
@@ -240,26 +240,26 @@ module _ (s : Script) (placement : Placement) (ys : List Layout) (ms : List Modu
                 ∙ ap (λ n. (or_empty name g).cells ++ (replicate n filled ++ flat_map (fragment_cells owner) sec.fragments)) gap_is
                 ∙ ap (λ z. z ++ (replicate (begin - size_or g) filled ++ flat_map (fragment_cells owner) sec.fragments)) (or_empty_cells name g)
 
-            part_is : part_of owner y name ≡ rounding alignment ∷ map line (lines_at key (lines_after owner [] y.laid))
-            part_is = whole_part y owner key name source.laid_out lt called has
+            part_is : module_items owner y name ≡ rounding alignment ∷ map statement_item (statements_with_segment key (segment_statements_after owner [] y.laid))
+            part_is = whole_part y owner key name source.no_line_errors lt called has
 
-            lines : (more : List ℕ) → AreBytes p fill begin (map line (lines_at key (lines_after owner [] y.laid))) more ↔ AreCells l fill (flat_map (fragment_cells owner) sec.fragments) more
-            lines more = lines_have begin key origins cs more (contents_of y m source).found (begin_is_multiple y owner key (size_or g) source.laid_out)
+            lines : (more : List ℕ) → EncodesSegmentItems p fill begin (map statement_item (statements_with_segment key (segment_statements_after owner [] y.laid))) more ↔ AreCells l fill (flat_map (fragment_cells owner) sec.fragments) more
+            lines more = lines_have begin key origins cs more (contents_of y m source).found (begin_is_multiple y owner key (size_or g) source.no_line_errors)
 
-            there : AreCells l fill (cells_or (after_sections owner name g m.object.sections)) bytes → Split (cells_or g) (size_or g) (part_of owner y name) bytes
+            there : AreCells l fill (cells_or (after_sections owner name g m.object.sections)) bytes → Split (cells_or g) (size_or g) (module_items owner y name) bytes
             there h =
                 let a = cells_split l fill (cells_or g) (replicate (begin - size_or g) filled ++ flat_map (fragment_cells owner) sec.fragments) bytes (subst (λ z. AreCells l fill z bytes) cells_are h) in
                 let b = cells_split l fill (replicate (begin - size_or g) filled) (flat_map (fragment_cells owner) sec.fragments) a.1 a.3 in
-                let part : AreBytes p fill (size_or g) (rounding alignment ∷ map line (lines_at key (lines_after owner [] y.laid))) a.1 = (b.0, b.1, (of_filled l fill (begin - size_or g) b.0).1 b.2, (lines b.1).1 b.3, b.4) in
-                (a.0, a.1, a.2, subst (λ z. AreBytes p fill (size_or g) z a.1) (sym part_is) part, a.4)
+                let part : EncodesSegmentItems p fill (size_or g) (rounding alignment ∷ map statement_item (statements_with_segment key (segment_statements_after owner [] y.laid))) a.1 = (b.0, b.1, (of_filled l fill (begin - size_or g) b.0).1 b.2, (lines b.1).1 b.3, b.4) in
+                (a.0, a.1, a.2, subst (λ z. EncodesSegmentItems p fill (size_or g) z a.1) (sym part_is) part, a.4)
 
-            back : Split (cells_or g) (size_or g) (part_of owner y name) bytes → AreCells l fill (cells_or (after_sections owner name g m.object.sections)) bytes
+            back : Split (cells_or g) (size_or g) (module_items owner y name) bytes → AreCells l fill (cells_or (after_sections owner name g m.object.sections)) bytes
             back h =
-                let b : AreBytes p fill (size_or g) (rounding alignment ∷ map line (lines_at key (lines_after owner [] y.laid))) h.1 = subst (λ z. AreBytes p fill (size_or g) z h.1) part_is h.3 in
+                let b : EncodesSegmentItems p fill (size_or g) (rounding alignment ∷ map statement_item (statements_with_segment key (segment_statements_after owner [] y.laid))) h.1 = subst (λ z. EncodesSegmentItems p fill (size_or g) z h.1) part_is h.3 in
                 let rest = cells_joined l fill (replicate (begin - size_or g) filled) (flat_map (fragment_cells owner) sec.fragments) h.1 (b.0, b.1, (of_filled l fill (begin - size_or g) b.0).0 b.2, (lines b.1).0 b.3, b.4) in
                 subst (λ z. AreCells l fill z bytes) (sym cells_are) (cells_joined l fill (cells_or g) (replicate (begin - size_or g) filled ++ flat_map (fragment_cells owner) sec.fragments) bytes (h.0, h.1, h.2, rest, h.4))
 
-  modules : (rest : List Layout) (ns : List Module) (owner : ℕ) (g : Option Segment) (bytes : List ℕ) → AreSources rest ns → ((i : ℕ) → slice_get rest i ≡ slice_get ys (owner + i)) → ((i : ℕ) → slice_get ns i ≡ slice_get ms (owner + i)) → AreCells l fill (cells_or (after_modules owner name g ns)) bytes ↔ Split (cells_or g) (size_or g) (items_from owner rest name) bytes
+  modules : (rest : List Layout) (ns : List Module) (owner : ℕ) (g : Option Segment) (bytes : List ℕ) → AreObjectsOfLayouts rest ns → ((i : ℕ) → slice_get rest i ≡ slice_get ys (owner + i)) → ((i : ℕ) → slice_get ns i ≡ slice_get ms (owner + i)) → AreCells l fill (cells_or (after_modules owner name g ns)) bytes ↔ Split (cells_or g) (size_or g) (segment_items_from owner rest name) bytes
   modules [] [] owner g bytes h up_y up_m = grind (arith, common_steps)
   modules [] (m ∷ ns) owner g bytes h up_y up_m = absurd h
   modules (y ∷ rest) [] owner g bytes h up_y up_m = absurd h
@@ -270,12 +270,12 @@ module _ (s : Script) (placement : Placement) (ys : List Layout) (ms : List Modu
       let next : (i : ℕ) → owner + suc i ≡ suc owner + i = λ i. omega arith in
       let after : Option Segment = after_sections owner name g m.object.sections in
       let deeper = modules rest ns (suc owner) after bytes h.1 (λ i. up_y (suc i) ∙ ap (slice_get ys) (next i)) (λ i. up_m (suc i) ∙ ap (slice_get ms) (next i)) in
-      let size : size_or after ≡ end_of (size_or g) (part_of owner y name) = part_end y m owner name g h.0 in
+      let size : size_or after ≡ end_of (size_or g) (module_items owner y name) = part_end y m owner name g h.0 in
       let one = one_part owner y m at_y at_m g in (
-        λ k. (let d = deeper.0 k in let a = (one d.0).0 d.2 in (a.0, a.1 ++ d.1, a.2, bytes_joined p fill (size_or g) (part_of owner y name) (items_from (suc owner) rest name) (a.1 ++ d.1) (a.1, d.1, a.3, subst (λ n. AreBytes p fill n (items_from (suc owner) rest name) d.1) size d.3, refl), d.4 ∙ ap (λ z. z ++ d.1) a.4 ∙ append_assoc a.0 a.1 d.1)),
-        λ k. (let b = bytes_split p fill (size_or g) (part_of owner y name) (items_from (suc owner) rest name) k.1 k.3 in deeper.1 (k.0 ++ b.0, b.1, (one (k.0 ++ b.0)).1 (k.0, b.0, k.2, b.2, refl), subst (λ n. AreBytes p fill n (items_from (suc owner) rest name) b.1) (sym size) b.3, k.4 ∙ ap (λ z. k.0 ++ z) b.4 ∙ sym (append_assoc k.0 b.0 b.1))),
+        λ k. (let d = deeper.0 k in let a = (one d.0).0 d.2 in (a.0, a.1 ++ d.1, a.2, bytes_joined p fill (size_or g) (module_items owner y name) (segment_items_from (suc owner) rest name) (a.1 ++ d.1) (a.1, d.1, a.3, subst (λ n. EncodesSegmentItems p fill n (segment_items_from (suc owner) rest name) d.1) size d.3, refl), d.4 ∙ ap (λ z. z ++ d.1) a.4 ∙ append_assoc a.0 a.1 d.1)),
+        λ k. (let b = bytes_split p fill (size_or g) (module_items owner y name) (segment_items_from (suc owner) rest name) k.1 k.3 in deeper.1 (k.0 ++ b.0, b.1, (one (k.0 ++ b.0)).1 (k.0, b.0, k.2, b.2, refl), subst (λ n. EncodesSegmentItems p fill n (segment_items_from (suc owner) rest name) b.1) (sym size) b.3, k.4 ∙ ap (λ z. k.0 ++ z) b.4 ∙ sym (append_assoc k.0 b.0 b.1))),
       )
 
 -- What lies in a segment of a link has the bytes of the segment's list in the whole program.
-pub linked_bytes_law : (s : Script) (placement : Placement) (ys : List Layout) (ms : List Module) (fill : ℕ) (name bytes : List ℕ) → AreSources ys ms → AreObjects (whole.program_of s placement ys) (linked_objects s placement ys ms) → AreCells (linkage_of s (linked.program_of ms) placement) fill (cells_or (segment_of (linked.program_of ms).segments name)) bytes ↔ AreBytes (whole.program_of s placement ys) fill 0 (items_of ys name) bytes
+pub linked_bytes_law : (s : Script) (placement : Placement) (ys : List Layout) (ms : List Module) (fill : ℕ) (name bytes : List ℕ) → AreObjectsOfLayouts ys ms → IsLinkerView (whole.placed_program s placement ys) (linked_objects s placement ys ms) → AreCells (linkage_of s (linked.program_of ms) placement) fill (cells_or (segment_of (linked.program_of ms).segments name)) bytes ↔ EncodesSegmentItems (whole.placed_program s placement ys) fill 0 (segment_items ys name) bytes
 linked_bytes_law s placement ys ms fill name bytes sources objects = grind (arith, common_steps, modules, cells_or, after_modules, segment_law)

@@ -8,13 +8,13 @@ use Rattle.object65.specs.Form.{Form, lit, sec, imp, prefix, binary}
 use Rattle.object65.specs.FormValue.{or_none, value_in}
 use Rattle.object65.specs.declared.folding.FormFault.{FormFault}
 use Rattle.syntax65.specs.declared.source_location.SourceLocation.{SourceLocation}
-use Rattle.semantics65.specs.Contents.{located_declarations}
-use Rattle.semantics65.specs.Norms.{fold_result, address_of, form_of_meaning, norm}
-use Rattle.whole65.specs.Objects.{AreObjects, ImportHasValue, HasProviderValue, Objects, form_value, HasValue, IsExport}
-use Rattle.whole65.specs.Values.{Provider, by_module, by_script, by_nobody, Program, SymbolBinding, label_at, constant_at, import_of, meaning_in, Value, number, here, label, constant, exported, scripted, prefixed, joined}
+use Rattle.semantics65.specs.Contents.{with_file_name_check}
+use Rattle.semantics65.specs.Norms.{fold_result, address_of, form_of_binding, norm}
+use Rattle.whole65.specs.Objects.{IsLinkerView, ImportHasValue, HasProviderValue, LinkerView, form_value, HasValue, ImportHasExportValue}
+use Rattle.whole65.specs.Values.{Provider, by_module, by_script, by_nobody, Program, SymbolBinding, label_at, constant_at, import_of, operand_binding, Value, number, here, label, constant, exported, scripted, prefixed, joined}
 use Rattle.syntax65.specs.Trees.{Tree, name}
 use Rattle.syntax65.specs.Trees as tree
-use Rattle.whole65.specs.Laws.{ValueIsUnique, SameValuesLaw}
+use Rattle.whole65.specs.Laws.{ValueIsUnique, NormalFormPreservesValue}
 use Rattle.semantics65.specs.Symbols.{binding_of}
 use Rattle.base65.specs.declared.values.Op1.{Op1}
 use Rattle.base65.specs.declared.values.Op2.{Op2}
@@ -30,7 +30,7 @@ pub folded_ok : (r : Result Form FormFault) (f : Form) → fold_result r ≡ Ok 
 folded_ok x f e = grind (arith, common_steps)
 
 -- what is written with its place is what was to be written
-pub written_ok : {A : Type 0} (place : SourceLocation) (a b : A) → located_declarations place a ≡ Ok b → a ≡ b
+pub written_ok : {A : Type 0} (place : SourceLocation) (a b : A) → with_file_name_check place a ≡ Ok b → a ≡ b
 written_ok {A = A} place a b e = grind (arith, common_steps)
 
 -- the second has the values of the first
@@ -44,14 +44,14 @@ value_covered none bases few more h (imp k) v q = h k v q
 value_covered none bases few more h (prefix op f) v q = grind (arith, common_steps, (value_covered none bases few more h f))
 value_covered none bases few more h (binary op f g) v q = grind (arith, common_steps, (value_covered none bases few more h f), (value_covered none bases few more h g))
 
-module _ {E : Type 0} (p : Program) (o : Objects E) (h : AreObjects p o) where
+module _ {E : Type 0} (p : Program) (o : LinkerView E) (h : IsLinkerView p o) where
   -- what is reached through so many exports is reached through one more
   Reaches : ℕ → Type 0
   Reaches export_depth = (owner : ℕ) → Covers (o.imports export_depth owner) (o.imports (suc export_depth) owner)
 
   by_provider : (export_depth owner k : ℕ) (v : ℤ) → ((before : ℕ) → export_depth ≡ suc before → Reaches before) → (x : List ℕ) (g : Provider) → HasProviderValue p o owner k x g → o.imports export_depth owner k ≡ Ok v → o.imports (suc export_depth) owner k ≡ Ok v
   unfolding Reaches
-  by_provider zero owner k v deeper x (by_module provider) given q = absurd (given.first v q)
+  by_provider zero owner k v deeper x (by_module provider) given q = absurd (given.at_zero v q)
   by_provider (suc export_depth) owner k v deeper x (by_module provider) given q = grind (arith, common_steps, value_covered)
   by_provider export_depth owner k v deeper x (by_script u) given q = given (suc export_depth) ∙ sym (given export_depth) ∙ q
   by_provider export_depth owner k v deeper x by_nobody given q = absurd (given export_depth v q)
@@ -61,14 +61,14 @@ module _ {E : Type 0} (p : Program) (o : Objects E) (h : AreObjects p o) where
 
   reaches : (export_depth : ℕ) → Reaches export_depth
   unfolding Reaches
-  reaches zero owner k v q = by_name zero owner k v (λ before e. cc) (slice_get (o.symbols owner).imports k) (h.given owner k) q
+  reaches zero owner k v q = by_name zero owner k v (λ before e. cc) (slice_get (o.symbols owner).imports k) (h.imports_agree owner k) q
   reaches (suc export_depth) owner k v q =
       let at_hand : Reaches export_depth = reaches export_depth in
-      by_name (suc export_depth) owner k v (λ before e. let same : export_depth ≡ before = omega (arith, e) in subst Reaches same at_hand) (slice_get (o.symbols owner).imports k) (h.given owner k) q
+      by_name (suc export_depth) owner k v (λ before e. let same : export_depth ≡ before = omega (arith, e) in subst Reaches same at_hand) (slice_get (o.symbols owner).imports k) (h.imports_agree owner k) q
 
   pub value_next : (export_depth owner : ℕ) (f : Form) (v : ℤ) → form_value o export_depth owner f ≡ Ok v → form_value o (suc export_depth) owner f ≡ Ok v
   unfolding Reaches
-  value_next export_depth owner f v q = value_covered o.none (o.bases owner) (o.imports export_depth owner) (o.imports (suc export_depth) owner) (reaches export_depth owner) f v q
+  value_next export_depth owner f v q = value_covered o.no_value_error (o.bases owner) (o.imports export_depth owner) (o.imports (suc export_depth) owner) (reaches export_depth owner) f v q
 
   pub value_later : (more export_depth owner : ℕ) (f : Form) (v : ℤ) → form_value o export_depth owner f ≡ Ok v → form_value o (more + export_depth) owner f ≡ Ok v
   value_later zero export_depth owner f v q = let same : zero + export_depth ≡ export_depth = omega arith in rw same q
@@ -78,7 +78,7 @@ module _ {E : Type 0} (p : Program) (o : Objects E) (h : AreObjects p o) where
 
 -- what an import's value comes from
 abbrev pub FromProvider : Program → List ℕ → Provider → ℤ → Type 0
-FromProvider p x (by_module provider) v = Value p provider (p.global provider) (name false (x ∷ [])) v
+FromProvider p x (by_module provider) v = Value p provider (p.global_index provider) (name false (x ∷ [])) v
 FromProvider p x (by_script u) v = u ≡ v
 FromProvider p x by_nobody v = ⊥
 
@@ -93,17 +93,17 @@ From p owner index (tree.number n) v = pos n ≡ v
 From p owner index tree.here v = p.address owner index ≡ v
 From p owner index (tree.unary op e) v = (a : ℤ) × Value p owner index e a × (value1 op a ≡ v)
 From p owner index (tree.binary op e f) v = (a : ℤ) × (b : ℤ) × Value p owner index e a × Value p owner index f b × (value2 op a b ≡ Some v)
-From p owner index e v = FromMeaning p owner (p.means owner index e) v
+From p owner index e v = FromMeaning p owner (p.binding owner index e) v
 
 -- what has a meaning comes from it
-by_meaning : (p : Program) (owner index : ℕ) (e : Tree) (v : ℤ) (m : SymbolBinding) → meaning_in p owner index e ≡ Some m → FromMeaning p owner (Some m) v → From p owner index e v
+by_meaning : (p : Program) (owner index : ℕ) (e : Tree) (v : ℤ) (m : SymbolBinding) → operand_binding p owner index e ≡ Some m → FromMeaning p owner (Some m) v → From p owner index e v
 by_meaning p owner index x v m q h = grind (arith, common_steps)
 
 pub inverse : (p : Program) {owner index : ℕ} {e : Tree} {v : ℤ} → Value p owner index e v → From p owner index e v
 inverse p x1 = grind (arith, common_steps)
 
 -- and the meaning of what has one is all that its value comes from
-pub of_meaning : (p : Program) (owner index : ℕ) (e : Tree) (v : ℤ) (m : SymbolBinding) → meaning_in p owner index e ≡ Some m → From p owner index e v → FromMeaning p owner (Some m) v
+pub of_meaning : (p : Program) (owner index : ℕ) (e : Tree) (v : ℤ) (m : SymbolBinding) → operand_binding p owner index e ≡ Some m → From p owner index e v → FromMeaning p owner (Some m) v
 of_meaning p owner index x v m q h = grind (arith, common_steps)
 
 unique : (p : Program) {owner index : ℕ} {e : Tree} {v : ℤ} → Value p owner index e v → (w : ℤ) → Value p owner index e w → v ≡ w
@@ -127,22 +127,22 @@ one_value_law p owner index e v w d h = unique p d w h
 -- ---- The form of what stands for a definition.
 
 -- the form of what means this, through at most so many constants
-abbrev pub IsFormOf : {E : Type 0} → Objects E → ℕ → ℕ → Form → SymbolBinding → Type 0
+abbrev pub IsFormOf : {E : Type 0} → LinkerView E → ℕ → ℕ → Form → SymbolBinding → Type 0
 IsFormOf o depth owner f (label_at index) = f ≡ address_of (o.contexts owner index)
 IsFormOf o depth owner f (constant_at index e) = norm depth (o.symbols owner) (o.contexts owner index) e ≡ Ok f
 IsFormOf o depth owner f (import_of x) = (k : ℕ) × (slice_get (o.symbols owner).imports k ≡ Some x) × (f ≡ imp k)
 
-abbrev pub IsForm : {E : Type 0} → Objects E → ℕ → ℕ → Form → Option SymbolBinding → Type 0
+abbrev pub IsForm : {E : Type 0} → LinkerView E → ℕ → ℕ → Form → Option SymbolBinding → Type 0
 IsForm o depth owner f (Some m) = IsFormOf o depth owner f m
 IsForm o depth owner f None = (k : ℕ) × (slice_get (o.symbols owner).imports k ≡ None) × (f ≡ imp k)
 
-module _ {E : Type 0} (p : Program) (o : Objects E) (h : AreObjects p o) where
+module _ {E : Type 0} (p : Program) (o : LinkerView E) (h : IsLinkerView p o) where
   -- the form of an operand is that of what it means
-  pub operand : (depth owner index : ℕ) (e : Tree) (f : Form) → (binding_of (o.symbols owner) (o.contexts owner index) e >>= form_of_meaning (norm depth (o.symbols owner)) (o.symbols owner)) ≡ Ok f → IsForm o depth owner f (p.means owner index e)
+  pub operand : (depth owner index : ℕ) (e : Tree) (f : Form) → (binding_of (o.symbols owner) (o.contexts owner index) e >>= form_of_binding (norm depth (o.symbols owner)) (o.symbols owner)) ≡ Ok f → IsForm o depth owner f (p.binding owner index e)
   operand depth owner index e f q = grind (arith, common_steps)
 
   -- likewise of an expression that has a meaning
-  pub meant : (depth owner index : ℕ) (e : Tree) (m : SymbolBinding) (f : Form) → meaning_in p owner index e ≡ Some m → norm (suc depth) (o.symbols owner) (o.contexts owner index) e ≡ Ok f → IsFormOf o depth owner f m
+  pub meant : (depth owner index : ℕ) (e : Tree) (m : SymbolBinding) (f : Form) → operand_binding p owner index e ≡ Some m → norm (suc depth) (o.symbols owner) (o.contexts owner index) e ≡ Ok f → IsFormOf o depth owner f m
   meant depth owner index x m f w q = grind (arith, common_steps)
 
 -- ---- A normal form has the value of its expression.
@@ -153,7 +153,7 @@ or_none_is none x v q = grind (arith, common_steps)
 or_none_from : {E : Type 0} (none : E) (r : Option ℤ) (v : ℤ) → or_none none r ≡ Ok v → r ≡ Some v
 or_none_from none x v q = grind (arith, common_steps)
 
-module _ {E : Type 0} (p : Program) (o : Objects E) (h : AreObjects p o) where
+module _ {E : Type 0} (p : Program) (o : LinkerView E) (h : IsLinkerView p o) where
   -- the forms of an operation's parts
   one_part : (depth owner index : ℕ) (op : Op1) (e : Tree) (f : Form) → norm (suc depth) (o.symbols owner) (o.contexts owner index) (tree.unary op e) ≡ Ok f → (g : Form) × (norm (suc depth) (o.symbols owner) (o.contexts owner index) e ≡ Ok g) × (fold1 op g ≡ Ok f)
   one_part depth owner index op e f q = grind (arith, common_steps)
@@ -168,13 +168,13 @@ module _ {E : Type 0} (p : Program) (o : Objects E) (h : AreObjects p o) where
   at_place export_depth owner index = ap Ok (sym (h.addresses owner index))
 
   -- ---- From the program to the objects.
-  export_of : (owner k : ℕ) (x : List ℕ) (provider : ℕ) → slice_get (o.symbols owner).imports k ≡ Some x → p.provider x ≡ by_module provider → IsExport p o owner k x provider
+  export_of : (owner k : ℕ) (x : List ℕ) (provider : ℕ) → slice_get (o.symbols owner).imports k ≡ Some x → p.provider x ≡ by_module provider → ImportHasExportValue p o owner k x provider
   export_of owner k x provider there g = grind (arith, common_steps)
 
-  value_of : (owner k : ℕ) (x : List ℕ) (provider : ℕ) (f : Form) (v : ℤ) (export : IsExport p o owner k x provider) → f ≡ imp k → HasValue o provider export.form v → HasValue o owner f v
+  value_of : (owner k : ℕ) (x : List ℕ) (provider : ℕ) (f : Form) (v : ℤ) (export : ImportHasExportValue p o owner k x provider) → f ≡ imp k → HasValue o provider export.form v → HasValue o owner f v
   value_of owner k x provider f v export same (export_depth, got) =
       let one : form_value o (suc export_depth) owner f ≡ o.imports (suc export_depth) owner k = ap (form_value o (suc export_depth) owner) same in
-      (suc export_depth, one ∙ export.later export_depth ∙ got)
+      (suc export_depth, one ∙ export.at_successor export_depth ∙ got)
 
   of_script : (owner k : ℕ) (x : List ℕ) (v : ℤ) → slice_get (o.symbols owner).imports k ≡ Some x → p.provider x ≡ by_script v → o.imports zero owner k ≡ Ok v
   of_script owner k x v there g = grind (arith, common_steps)
@@ -187,7 +187,7 @@ module _ {E : Type 0} (p : Program) (o : Objects E) (h : AreObjects p o) where
   linked (constant {owner = owner} {index = index} {definer = definer} {e = e} {f = g} w d) (suc depth) f q = linked d depth f (meant p o h depth owner index e (constant_at definer g) f w q)
   linked (exported {owner = owner} {index = index} {provider = provider} {e = e} {x = x} {v = v} w g d) (suc depth) f q =
       let (k, there, same) = meant p o h depth owner index e (import_of x) f w q in
-      let export : IsExport p o owner k x provider = export_of owner k x provider there g in
+      let export : ImportHasExportValue p o owner k x provider = export_of owner k x provider there g in
       value_of owner k x provider f v export same (linked d export.depth export.form export.normal)
   linked (scripted {owner = owner} {index = index} {e = e} {x = x} {v = v} w g) (suc depth) f q = grind (arith, common_steps, meant, of_script)
   linked (prefixed {owner = owner} {index = index} {op = op} {e = e} {a = a} d) (suc depth) f q = grind (arith, common_steps, (linked d (suc depth)))
@@ -198,7 +198,7 @@ module _ {E : Type 0} (p : Program) (o : Objects E) (h : AreObjects p o) where
       let turned : n₂ + n₁ ≡ n₁ + n₂ = omega arith in
       let u₁ : form_value o (n₁ + n₂) owner g ≡ Ok a = rw turned at (value_later p o h n₂ n₁ owner g a e₁) in
       let u₂ : form_value o (n₁ + n₂) owner k ≡ Ok b = value_later p o h n₁ n₂ owner k b e₂ in
-      (n₁ + n₂, binary_fold_law E o.none (o.bases owner) (o.imports (n₁ + n₂) owner) op g k f t ∙ rw (u₁, u₂) (or_none_is o.none (value2 op a b) v w))
+      (n₁ + n₂, binary_fold_law E o.no_value_error (o.bases owner) (o.imports (n₁ + n₂) owner) op g k f t ∙ rw (u₁, u₂) (or_none_is o.no_value_error (value2 op a b) v w))
 
   -- ---- From the objects to the program.
   -- what is known of forms, one export deeper
@@ -212,17 +212,17 @@ module _ {E : Type 0} (p : Program) (o : Objects E) (h : AreObjects p o) where
   abbrev Through : ℕ → ℕ → Type 0
   Through export_depth depth = (owner index : ℕ) (e : Tree) (f : Form) (v : ℤ) → norm depth (o.symbols owner) (o.contexts owner index) e ≡ Ok f → form_value o export_depth owner f ≡ Ok v → Value p owner index e v
 
-  import_back : (export_depth : ℕ) → BelowExport export_depth → (owner index k : ℕ) (e : Tree) (x : List ℕ) (v : ℤ) → meaning_in p owner index e ≡ Some (import_of x) → (g : Provider) → p.provider x ≡ g → HasProviderValue p o owner k x g → o.imports export_depth owner k ≡ Ok v → Value p owner index e v
-  import_back zero below owner index k e x v w (by_module provider) g given d = absurd (given.first v d)
+  import_back : (export_depth : ℕ) → BelowExport export_depth → (owner index k : ℕ) (e : Tree) (x : List ℕ) (v : ℤ) → operand_binding p owner index e ≡ Some (import_of x) → (g : Provider) → p.provider x ≡ g → HasProviderValue p o owner k x g → o.imports export_depth owner k ≡ Ok v → Value p owner index e v
+  import_back zero below owner index k e x v w (by_module provider) g given d = absurd (given.at_zero v d)
   import_back (suc export_depth) below owner index k e x v w (by_module provider) g given d =
-      exported w g (below export_depth refl given.depth provider (p.global provider) (tree.name false (x ∷ [])) given.form v given.normal (sym (given.later export_depth) ∙ d))
+      exported w g (below export_depth refl given.depth provider (p.global_index provider) (tree.name false (x ∷ [])) given.form v given.normal (sym (given.at_successor export_depth) ∙ d))
   import_back export_depth below owner index k e x v w (by_script u) g given d =
       let both : Ok u ≡ Ok v = sym (given export_depth) ∙ d in
       let same : u ≡ v = cc both in
       scripted w (g ∙ ap by_script same)
   import_back export_depth below owner index k e x v w by_nobody g given d = absurd (given export_depth v d)
 
-  meaning_back : (export_depth : ℕ) → BelowExport export_depth → (depth : ℕ) → Through export_depth depth → (owner index : ℕ) (e : Tree) (f : Form) (v : ℤ) (m : Option SymbolBinding) → meaning_in p owner index e ≡ m → IsForm o depth owner f m → form_value o export_depth owner f ≡ Ok v → Value p owner index e v
+  meaning_back : (export_depth : ℕ) → BelowExport export_depth → (depth : ℕ) → Through export_depth depth → (owner index : ℕ) (e : Tree) (f : Form) (v : ℤ) (m : Option SymbolBinding) → operand_binding p owner index e ≡ m → IsForm o depth owner f m → form_value o export_depth owner f ≡ Ok v → Value p owner index e v
   meaning_back export_depth below depth through owner index e f v None w (k, there, same) d = grind (arith, common_steps)
   meaning_back export_depth below depth through owner index e f v (Some (label_at definer)) w same d =
       let there : Ok (p.address owner definer) ≡ Ok v = sym (at_place export_depth owner definer) ∙ (rw same at d) in
@@ -236,17 +236,17 @@ module _ {E : Type 0} (p : Program) (o : Objects E) (h : AreObjects p o) where
   expression_back export_depth below depth through owner index tree.here f v q d = let one : p.address owner index ≡ v = grind (arith, common_steps) in subst (λ z. Value p owner index tree.here z) one here
   expression_back export_depth below depth through owner index (tree.unary op e) f v q d =
       let (g, r, t) = one_part depth owner index op e f q in
-      let whole : (form_value o export_depth owner g >>= (λ a. Ok (value1 op a))) ≡ Ok v = sym (prefix_fold_law E o.none (o.bases owner) (o.imports export_depth owner) op g f t) ∙ d in
+      let whole : (form_value o export_depth owner g >>= (λ a. Ok (value1 op a))) ≡ Ok v = sym (prefix_fold_law E o.no_value_error (o.bases owner) (o.imports export_depth owner) op g f t) ∙ d in
       let (a, u, w) = bind_ok (form_value o export_depth owner g) (λ a. Ok (value1 op a)) v whole in
       let one : value1 op a ≡ v = cc w in
       subst (λ z. Value p owner index (tree.unary op e) z) one (prefixed (expression_back export_depth below depth through owner index e g a r u))
   expression_back export_depth below depth through owner index (tree.binary op c e) f v q d =
       let (g, k, r, s, t) = two_parts depth owner index op c e f q in
-      let whole : (form_value o export_depth owner g >>= (λ a. form_value o export_depth owner k >>= (λ b. or_none o.none (value2 op a b)))) ≡ Ok v = sym (binary_fold_law E o.none (o.bases owner) (o.imports export_depth owner) op g k f t) ∙ d in
-      let (a, u, rest) = bind_ok (form_value o export_depth owner g) (λ a. form_value o export_depth owner k >>= (λ b. or_none o.none (value2 op a b))) v whole in
-      let (b, w, last) = bind_ok (form_value o export_depth owner k) (λ b. or_none o.none (value2 op a b)) v rest in
-      joined (expression_back export_depth below depth through owner index c g a r u) (expression_back export_depth below depth through owner index e k b s w) (or_none_from o.none (value2 op a b) v last)
-  expression_back export_depth below depth through owner index e f v q d = meaning_back export_depth below depth through owner index e f v (p.means owner index e) refl (operand p o h depth owner index e f q) d
+      let whole : (form_value o export_depth owner g >>= (λ a. form_value o export_depth owner k >>= (λ b. or_none o.no_value_error (value2 op a b)))) ≡ Ok v = sym (binary_fold_law E o.no_value_error (o.bases owner) (o.imports export_depth owner) op g k f t) ∙ d in
+      let (a, u, rest) = bind_ok (form_value o export_depth owner g) (λ a. form_value o export_depth owner k >>= (λ b. or_none o.no_value_error (value2 op a b))) v whole in
+      let (b, w, last) = bind_ok (form_value o export_depth owner k) (λ b. or_none o.no_value_error (value2 op a b)) v rest in
+      joined (expression_back export_depth below depth through owner index c g a r u) (expression_back export_depth below depth through owner index e k b s w) (or_none_from o.no_value_error (value2 op a b) v last)
+  expression_back export_depth below depth through owner index e f v q d = meaning_back export_depth below depth through owner index e f v (p.binding owner index e) refl (operand p o h depth owner index e f q) d
 
   through_back : (export_depth : ℕ) → BelowExport export_depth → (depth : ℕ) → Through export_depth depth
   through_back export_depth below zero owner index e f v q d = cc
@@ -256,5 +256,5 @@ module _ {E : Type 0} (p : Program) (o : Objects E) (h : AreObjects p o) where
   linked_back zero depth owner index e f v q d = through_back zero (λ before e. cc) depth owner index e f v q d
   linked_back (suc export_depth) depth owner index e f v q d = grind (arith, common_steps, through_back, (linked_back export_depth))
 
-pub same_values_law : (E : Type 0) → SameValuesLaw E
+pub same_values_law : (E : Type 0) → NormalFormPreservesValue E
 same_values_law E p o h depth owner index e f v q = (λ d. linked p o h d depth f q, λ found. linked_back p o h found.0 depth owner index e f v q found.1)

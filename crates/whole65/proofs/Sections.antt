@@ -11,14 +11,14 @@ use Rattle.link65.proofs.SegmentLemmas.{at_front, after_front, none_among as non
 use Rattle.semantics65.specs.Contents.{Content, exported_names}
 use Rattle.semantics65.specs.Symbols.{LaidOutStatement, needs_section, Symbols}
 use Rattle.semantics65.specs.Layout.{Layout, segment_at}
-use Rattle.semantics65.specs.Numbering.{all_said, number_of, distinct_keys, section_keys, segments_asked, section_of}
+use Rattle.semantics65.specs.Numbering.{all_declarations, number_of, distinct_keys, section_keys, segment_requests, section_of}
 use Rattle.semantics65.specs.Module.{module_resolution}
 use Rattle.whole65.proofs.Positions.{named, Distinct, alike}
 use Rattle.whole65.proofs.Multiples.{equal}
 use Rattle.whole65.proofs.Statements.{AreStated, a_line, are_stated, no_line, stated}
 use Rattle.whole65.specs.Modules.{table_of}
 use Rattle.whole65.specs.Offsets.{HasNoLineErrors}
-use Rattle.whole65.specs.Segments.{has_section, segment_name, is_in_segment}
+use Rattle.whole65.specs.Segments.{has_section, segment_name_at, is_in_segment}
 use Rattle.object65.specs.declared.object.Origin.{Origin}
 use Rattle.object65.specs.declared.object.Section.{Section}
 use Rattle.ast65.proofs.Lists.{same_bytes}
@@ -83,15 +83,15 @@ number_later ks k g e h = grind (arith, common_steps, after_front, none_found)
 
 -- ---- Sections that are asked for.
 
-lines_asked : (z : Symbols) (names : List (List ℕ)) (ls : List LaidOutStatement) (cs : List Content) → AreStated z names ls cs → segments_asked cs ≡ map (λ l. l.context.segment) (filter (λ l. needs_section l.stated) ls)
+lines_asked : (z : Symbols) (names : List (List ℕ)) (ls : List LaidOutStatement) (cs : List Content) → AreStated z names ls cs → segment_requests cs ≡ map (λ l. l.context.segment) (filter (λ l. needs_section l.stated) ls)
 lines_asked z names [] _ no_line = refl
-lines_asked z names (l ∷ ls) _ (a_line ds cs found more) = grind (arith, common_steps, (stated z names l ds found), (lines_asked z (names ++ exported_names (all_said ds)) ls cs more))
+lines_asked z names (l ∷ ls) _ (a_line ds cs found more) = grind (arith, common_steps, (stated z names l ds found), (lines_asked z (names ++ exported_names (all_declarations ds)) ls cs more))
 
 -- a module's contents ask for the segments in which the statements that ask stand
-pub asked_are : (y : Layout) (cs : List Content) → (module_resolution y.laid).found ≡ Ok cs → segments_asked cs ≡ map (λ l. l.context.segment) (filter (λ l. needs_section l.stated) y.laid)
+pub asked_are : (y : Layout) (cs : List Content) → (module_resolution y.laid).found ≡ Ok cs → segment_requests cs ≡ map (λ l. l.context.segment) (filter (λ l. needs_section l.stated) y.laid)
 asked_are y cs e = lines_asked (table_of y) [] y.laid cs (are_stated y cs e)
 
-asked_there : (y : Layout) (name : List ℕ) (ls : List LaidOutStatement) → list_any (λ l. is_in_segment y name l && needs_section l.stated) ls ≡ list_any (λ g. bytes_eq (segment_name y g) name) (map (λ l. l.context.segment) (filter (λ l. needs_section l.stated) ls))
+asked_there : (y : Layout) (name : List ℕ) (ls : List LaidOutStatement) → list_any (λ l. is_in_segment y name l && needs_section l.stated) ls ≡ list_any (λ g. bytes_eq (segment_name_at y g) name) (map (λ l. l.context.segment) (filter (λ l. needs_section l.stated) ls))
 asked_there y name [] = refl
 asked_there y name (l ∷ ls) = grind (arith, common_steps, (asked_there y name ls))
 
@@ -103,15 +103,15 @@ below_all bound (l ∷ ls) h = grind (arith, common_steps, (below_all bound ls h
 pub record AreKeys (y : Layout) (keys : List ℕ) : Type 0 where
   pub single : AreOnce keys
   pub standing : AllByRecursion (λ g. g < length y.cursor.segments) keys
-  pub has : (name : List ℕ) → has_section y name ≡ list_any (λ g. bytes_eq (segment_name y g) name) keys
+  pub has : (name : List ℕ) → has_section y name ≡ list_any (λ g. bytes_eq (segment_name_at y g) name) keys
 
 pub keys_of : (y : Layout) (cs : List Content) → HasNoLineErrors y → (module_resolution y.laid).found ≡ Ok cs → AreKeys y (section_keys cs)
 keys_of y cs d e =
     let asked = asked_are y cs e in
     record {
-      single = are_once [] (segments_asked cs) tt;
-      standing = all_once (λ g. g < length y.cursor.segments) [] (segments_asked cs) tt (subst (AllByRecursion (λ g. g < length y.cursor.segments)) (sym asked) (below_all (length y.cursor.segments) y.laid (named d).standing));
-      has = λ name. asked_there y name y.laid ∙ ap (list_any (λ g. bytes_eq (segment_name y g) name)) (sym asked) ∙ sym (any_once (λ g. bytes_eq (segment_name y g) name) [] (segments_asked cs));
+      single = are_once [] (segment_requests cs) tt;
+      standing = all_once (λ g. g < length y.cursor.segments) [] (segment_requests cs) tt (subst (AllByRecursion (λ g. g < length y.cursor.segments)) (sym asked) (below_all (length y.cursor.segments) y.laid (named d).standing));
+      has = λ name. asked_there y name y.laid ∙ ap (list_any (λ g. bytes_eq (segment_name_at y g) name)) (sym asked) ∙ sym (any_once (λ g. bytes_eq (segment_name_at y g) name) [] (segment_requests cs));
     }
 
 -- ---- The sections of an object, and what they make of one segment.
@@ -126,7 +126,7 @@ module _ (y : Layout) (owner : ℕ) (origins : SourceLocation → Origin) (secti
   its_section g = section_of origins y.cursor.segments sections imports cs g
 
   abbrev is_named : ℕ → Bool
-  is_named g = bytes_eq (segment_name y g) name
+  is_named g = bytes_eq (segment_name_at y g) name
 
   section_named : (g : ℕ) → g < length y.cursor.segments → bytes_eq (its_section g).name name ≡ is_named g
   section_named g lt = ap (λ n. bytes_eq n name) (name_at y.cursor.segments g lt)
@@ -138,14 +138,14 @@ module _ (y : Layout) (owner : ℕ) (origins : SourceLocation → Origin) (secti
   -- no other key is of the same name
   others_apart : (k : ℕ) → Distinct y.cursor.segments → k < length y.cursor.segments → is_named k ≡ true → (ks : List ℕ) → AllByRecursion (λ g. g < length y.cursor.segments) ks → list_any (nat_eq k) ks ≡ false → list_any is_named ks ≡ false
   others_apart k d lt e [] h apart = refl
-  others_apart k d lt e (x ∷ ks) h apart = grind (arith, common_steps, (others_apart k d lt e ks h.1), (bytes_eq-Decides (segment_name y k) name), (bytes_eq-Decides (segment_name y x) name), (bytes_eq-Decides (segment_name y k) (segment_name y x)))
+  others_apart k d lt e (x ∷ ks) h apart = grind (arith, common_steps, (others_apart k d lt e ks h.1), (bytes_eq-Decides (segment_name_at y k) name), (bytes_eq-Decides (segment_name_at y x) name), (bytes_eq-Decides (segment_name_at y k) (segment_name_at y x)))
 
   -- one section of the module is in the segment
   pub record IsGrown (ks : List ℕ) (g : Option linked.Segment) : Type 0 where
     pub key : ℕ
     pub among : list_any (nat_eq key) ks ≡ true
     pub below : key < length y.cursor.segments
-    pub called : segment_name y key ≡ name
+    pub called : segment_name_at y key ≡ name
     pub is : after_sections owner name g (map its_section ks) ≡ Some (segment_with_section owner (or_empty name g) (its_section key))
 
   pub one_there : (ks : List ℕ) → Distinct y.cursor.segments → AllByRecursion (λ g. g < length y.cursor.segments) ks → AreOnce ks → list_any is_named ks ≡ true → (g : Option linked.Segment) → IsGrown ks g
@@ -159,7 +159,7 @@ module _ (y : Layout) (owner : ℕ) (origins : SourceLocation → Origin) (secti
             key = k;
             among = ap (λ b. b || list_any (nat_eq k) ks) (alike k);
             below = h.0;
-            called = same_bytes (segment_name y k) name q;
+            called = same_bytes (segment_name_at y k) name q;
             is =
                 ap (λ b. after_sections owner name (cond b (Some (segment_with_section owner (or_empty (its_section k).name g) (its_section k))) g) (map its_section ks)) (section_named k h.0 ∙ q)
                 ∙ none_there ks h.1 (others_apart k d h.0 q ks h.1 o.0) (Some (segment_with_section owner (or_empty (its_section k).name g) (its_section k)))

@@ -10,13 +10,13 @@ use Rattle.syntax65.specs.Trees.{Tree}
 use Rattle.semantics65.proofs.Found.{AreFound, found_each, found_split}
 use Rattle.sources65.proofs.SoundForms.{all_append}
 use Rattle.sources65.proofs.SoundParts.{content_is}
-use Rattle.semantics65.specs.Contents.{Content, Declaration, Exported, ForcedImport, Part, section_request, decided_assertion, export_said, import_fault, operand_form, section_part, value_part, declaration_content, located_declarations, exported_names}
+use Rattle.semantics65.specs.Contents.{Content, Declaration, ExportedSymbol, ForcedImport, Part, section_request, decided_assertion, export_declarations, import_fault, operand_form, section_part, value_part, declaration_content, with_file_name_check, exported_names}
 use Rattle.semantics65.specs.Layout.{Layout}
-use Rattle.semantics65.specs.Module.{PieceResult, Piece, Purpose, absent_of, as_part, as_said, asserted, slot_result, datum, demanded, module_resolution, equated, exported, failed_assertion_text, given, resolved, imported, item_piece, made_of, operand, operand_pieces, pieces_of, quietly, slots_of, value_result, valued, waiting_at, at_place}
+use Rattle.semantics65.specs.Module.{PieceResult, Piece, Purpose, undefined_export_result, part_result, declarations_result, asserted, slot_result, datum, forced_import, module_resolution, constant_definition, exported, failed_assertion_text, known_part, resolved, imported, item_piece, unrepeated_result, operand, operand_pieces, pieces_of, without_warning, slots_of, value_result, expression_value, deferred_piece, with_location}
 use Rattle.semantics65.specs.Norms.{defined_form, norm_of}
-use Rattle.semantics65.specs.Numbering.{all_said, parts_in, segments_asked}
+use Rattle.semantics65.specs.Numbering.{all_declarations, parts_in, segment_requests}
 use Rattle.semantics65.specs.Symbols.{LaidOutStatement, Symbols, needs_section, definition_index, named}
-use Rattle.semantics65.specs.declared.laid.EncodingChoice.{EncodingChoice}
+use Rattle.semantics65.specs.declared.contexts.EncodingChoice.{EncodingChoice}
 use Rattle.semantics65.specs.Types.{Action, AsmFault, Item, SourceLocation, Statement, Align, Assert, Constant, Export, Incbin, ForceImport, Global, Import, Instruction, Reserve, Values, Width}
 use Rattle.whole65.proofs.SameValues.{bind_ok, written_ok}
 use Rattle.whole65.specs.Modules.{table_of}
@@ -29,25 +29,25 @@ IsLeftOut y names n = (list_any (bytes_eq n) names ≡ true) ⊎ (definition_ind
 
 -- a piece of a laid statement, behind exports of these names
 pub data Comes (y : Symbols) (names : List (List ℕ)) (l : LaidOutStatement) : Piece → Content → Type 0 where
-  a_part : (q : Part) → Comes y names l (given q) (section_part l.context.segment q)
+  a_part : (q : Part) → Comes y names l (known_part q) (section_part l.context.segment q)
   a_datum :
       (width : Width) (e : Tree) (f : Form) (q : Part) → norm_of y l.context e ≡ Ok f → value_part width l.place f ≡ Ok q →
-      Comes y names l (valued (datum width) e) (section_part l.context.segment q)
+      Comes y names l (expression_value (datum width) e) (section_part l.context.segment q)
   an_operand :
       (width : Width) (e : Tree) (f g : Form) (q : Part) → norm_of y l.context e ≡ Ok f → operand_form width l.context f ≡ Ok g →
-      value_part width l.place g ≡ Ok q → Comes y names l (valued (operand width) e) (section_part l.context.segment q)
-  a_constant : (e : Tree) → Comes y names l (valued equated e) (declaration_content [])
+      value_part width l.place g ≡ Ok q → Comes y names l (expression_value (operand width) e) (section_part l.context.segment q)
+  a_constant : (e : Tree) → Comes y names l (expression_value constant_definition e) (declaration_content [])
   an_assertion :
       (act : Action) (words : List ℕ) (e : Tree) (f : Form) (ss : List Declaration) → norm_of y l.context e ≡ Ok f →
-      decided_assertion act l.place words f ≡ Ok ss → Comes y names l (valued (asserted act words) e) (declaration_content ss)
+      decided_assertion act l.place words f ≡ Ok ss → Comes y names l (expression_value (asserted act words) e) (declaration_content ss)
   an_import : (n : List ℕ) → Comes y names l (imported n) (declaration_content [])
-  a_demand : (n : List ℕ) → Comes y names l (demanded n) (declaration_content (ForcedImport n ∷ []))
+  a_demand : (n : List ℕ) → Comes y names l (forced_import n) (declaration_content (ForcedImport n ∷ []))
   no_export : (must : Bool) (n : List ℕ) → IsLeftOut y names n → Comes y names l (exported must n) (declaration_content [])
   an_export :
       (must : Bool) (n : List ℕ) (j : ℕ) (f : Form) → list_any (bytes_eq n) names ≡ false → definition_index y (named 0 n) ≡ Some j →
-      defined_form y j ≡ Ok f → Comes y names l (exported must n) (declaration_content (Exported n l.place f ∷ []))
+      defined_form y j ≡ Ok f → Comes y names l (exported must n) (declaration_content (ExportedSymbol n l.place f ∷ []))
 
-placed_ok : {A : Type 0} (place : SourceLocation) (r : Result A AsmFault) (a : A) → at_place place r ≡ Ok a → r ≡ Ok a
+placed_ok : {A : Type 0} (place : SourceLocation) (r : Result A AsmFault) (a : A) → with_location place r ≡ Ok a → r ≡ Ok a
 placed_ok {A = A} place x a e = grind (arith, common_steps)
 
 same_content : (a b : PieceResult) → ◌≡◌ {A = Result PieceResult AsmFault} (Ok a) (Ok b) → a.content ≡ b.content
@@ -56,45 +56,45 @@ same_content a b e = grind (arith, common_steps)
 import_none : (y : Symbols) (n : List ℕ) (ss : List Declaration) → import_fault y n ≡ Ok ss → [] ≡ ss
 import_none y n ss e = grind (arith, common_steps)
 
-absent_none : (must : Bool) (n : List ℕ) (ss : List Declaration) → absent_of must n ≡ Ok ss → [] ≡ ss
+absent_none : (must : Bool) (n : List ℕ) (ss : List Declaration) → undefined_export_result must n ≡ Ok ss → [] ≡ ss
 absent_none x1 n ss e = grind (arith, common_steps)
 
-comes : (y : Symbols) (names : List (List ℕ)) (l : LaidOutStatement) (p : Piece) (m : PieceResult) → slot_result y names (waiting_at l p) ≡ Ok m → Comes y names l p m.content
-comes y names l (given q) m h = subst (Comes y names l (given q)) (same_content (quietly (section_part l.context.segment q)) m (placed_ok l.place (as_part l.context.segment q) m h)) (a_part q)
-comes y names l (valued why e) m h =
-    let (f, normal, uses) = bind_ok (norm_of y l.context e) (value_result l.place l.context why) m (placed_ok l.place (made_of y l.place l.context (valued why e)) m h) in
+comes : (y : Symbols) (names : List (List ℕ)) (l : LaidOutStatement) (p : Piece) (m : PieceResult) → slot_result y names (deferred_piece l p) ≡ Ok m → Comes y names l p m.content
+comes y names l (known_part q) m h = subst (Comes y names l (known_part q)) (same_content (without_warning (section_part l.context.segment q)) m (placed_ok l.place (part_result l.context.segment q) m h)) (a_part q)
+comes y names l (expression_value why e) m h =
+    let (f, normal, uses) = bind_ok (norm_of y l.context e) (value_result l.place l.context why) m (placed_ok l.place (unrepeated_result y l.place l.context (expression_value why e)) m h) in
     by why f normal uses
   where
-    by : (why : Purpose) (f : Form) → norm_of y l.context e ≡ Ok f → value_result l.place l.context why f ≡ Ok m → Comes y names l (valued why e) m.content
+    by : (why : Purpose) (f : Form) → norm_of y l.context e ≡ Ok f → value_result l.place l.context why f ≡ Ok m → Comes y names l (expression_value why e) m.content
     by (datum width) f normal uses =
-        let (q, kept, last) = bind_ok (value_part width l.place f) (as_part l.context.segment) m uses in
-        subst (Comes y names l (valued (datum width) e)) (same_content (quietly (section_part l.context.segment q)) m last) (a_datum width e f q normal kept)
+        let (q, kept, last) = bind_ok (value_part width l.place f) (part_result l.context.segment) m uses in
+        subst (Comes y names l (expression_value (datum width) e)) (same_content (without_warning (section_part l.context.segment q)) m last) (a_datum width e f q normal kept)
     by (operand width) f normal uses =
-        let (q, both, last) = bind_ok (operand_form width l.context f >>= value_part width l.place) (as_part l.context.segment) m uses in
+        let (q, both, last) = bind_ok (operand_form width l.context f >>= value_part width l.place) (part_result l.context.segment) m uses in
         let (g, counted, kept) = bind_ok (operand_form width l.context f) (value_part width l.place) q both in
-        subst (Comes y names l (valued (operand width) e)) (same_content (quietly (section_part l.context.segment q)) m last) (an_operand width e f g q normal counted kept)
-    by equated f normal uses = subst (Comes y names l (valued equated e)) (same_content (quietly (declaration_content [])) m uses) (a_constant e)
+        subst (Comes y names l (expression_value (operand width) e)) (same_content (without_warning (section_part l.context.segment q)) m last) (an_operand width e f g q normal counted kept)
+    by constant_definition f normal uses = subst (Comes y names l (expression_value constant_definition e)) (same_content (without_warning (declaration_content [])) m uses) (a_constant e)
     by (asserted act words) f normal uses =
         let told : List Declaration → PieceResult = λ ss. record { content = declaration_content ss; warning = failed_assertion_text l.place act words (Ok f) } in
         let (ss, said, last) = bind_ok (decided_assertion act l.place words f) (λ ss. Ok (told ss)) m uses in
-        subst (Comes y names l (valued (asserted act words) e)) (same_content (told ss) m last) (an_assertion act words e f ss normal said)
+        subst (Comes y names l (expression_value (asserted act words) e)) (same_content (told ss) m last) (an_assertion act words e f ss normal said)
 comes y names l (imported n) m h =
-    let (ss, first, last) = bind_ok (import_fault y n) as_said m (placed_ok l.place (made_of y l.place l.context (imported n)) m h) in
-    subst (Comes y names l (imported n)) (ap declaration_content (import_none y n ss first) ∙ same_content (quietly (declaration_content ss)) m last) (an_import n)
-comes y names l (demanded n) m h = subst (Comes y names l (demanded n)) (same_content (quietly (declaration_content (ForcedImport n ∷ []))) m (placed_ok l.place (as_said (ForcedImport n ∷ [])) m h)) (a_demand n)
-comes y names l (exported must n) m h = by (list_any (bytes_eq n) names) refl (placed_ok l.place (if list_any (bytes_eq n) names then as_said [] else made_of y l.place l.context (exported must n)) m h)
+    let (ss, first, last) = bind_ok (import_fault y n) declarations_result m (placed_ok l.place (unrepeated_result y l.place l.context (imported n)) m h) in
+    subst (Comes y names l (imported n)) (ap declaration_content (import_none y n ss first) ∙ same_content (without_warning (declaration_content ss)) m last) (an_import n)
+comes y names l (forced_import n) m h = subst (Comes y names l (forced_import n)) (same_content (without_warning (declaration_content (ForcedImport n ∷ []))) m (placed_ok l.place (declarations_result (ForcedImport n ∷ [])) m h)) (a_demand n)
+comes y names l (exported must n) m h = by (list_any (bytes_eq n) names) refl (placed_ok l.place (if list_any (bytes_eq n) names then declarations_result [] else unrepeated_result y l.place l.context (exported must n)) m h)
   where
-    defining : (o : Option ℕ) → list_any (bytes_eq n) names ≡ false → definition_index y (named 0 n) ≡ o → (ss : List Declaration) → export_said y l.place n (absent_of must n) o ≡ Ok ss → Comes y names l (exported must n) (declaration_content ss)
+    defining : (o : Option ℕ) → list_any (bytes_eq n) names ≡ false → definition_index y (named 0 n) ≡ o → (ss : List Declaration) → export_declarations y l.place n (undefined_export_result must n) o ≡ Ok ss → Comes y names l (exported must n) (declaration_content ss)
     defining None new e ss said = subst (λ ss. Comes y names l (exported must n) (declaration_content ss)) (absent_none must n ss said) (no_export must n (inr e))
     defining (Some j) new e ss said =
-        let (f, form, kept) = bind_ok (defined_form y j) (λ f. located_declarations l.place (Exported n l.place f ∷ [])) ss said in
-        subst (λ ss. Comes y names l (exported must n) (declaration_content ss)) (written_ok l.place (Exported n l.place f ∷ []) ss kept) (an_export must n j f new e form)
+        let (f, form, kept) = bind_ok (defined_form y j) (λ f. with_file_name_check l.place (ExportedSymbol n l.place f ∷ [])) ss said in
+        subst (λ ss. Comes y names l (exported must n) (declaration_content ss)) (written_ok l.place (ExportedSymbol n l.place f ∷ []) ss kept) (an_export must n j f new e form)
 
-    by : (b : Bool) → list_any (bytes_eq n) names ≡ b → (if b then as_said [] else made_of y l.place l.context (exported must n)) ≡ Ok m → Comes y names l (exported must n) m.content
-    by true e made = subst (Comes y names l (exported must n)) (same_content (quietly (declaration_content [])) m made) (no_export must n (inl e))
+    by : (b : Bool) → list_any (bytes_eq n) names ≡ b → (if b then declarations_result [] else unrepeated_result y l.place l.context (exported must n)) ≡ Ok m → Comes y names l (exported must n) m.content
+    by true e made = subst (Comes y names l (exported must n)) (same_content (without_warning (declaration_content [])) m made) (no_export must n (inl e))
     by false e made =
-        let (ss, said, last) = bind_ok (export_said y l.place n (absent_of must n) (definition_index y (named 0 n))) as_said m made in
-        subst (Comes y names l (exported must n)) (same_content (quietly (declaration_content ss)) m last) (defining (definition_index y (named 0 n)) e refl ss said)
+        let (ss, said, last) = bind_ok (export_declarations y l.place n (undefined_export_result must n) (definition_index y (named 0 n))) declarations_result m made in
+        subst (Comes y names l (exported must n)) (same_content (without_warning (declaration_content ss)) m last) (defining (definition_index y (named 0 n)) e refl ss said)
 
 -- pieces one behind the other
 pub data AllCome (y : Symbols) (l : LaidOutStatement) : List (List ℕ) → List Piece → List Content → Type 0 where
@@ -103,7 +103,7 @@ pub data AllCome (y : Symbols) (l : LaidOutStatement) : List (List ℕ) → List
       {names : List (List ℕ)} {p : Piece} {ps : List Piece} {c : Content} {cs : List Content} →
       Comes y names l p c → AllCome y l (names ++ exported_names c.said) ps cs → AllCome y l names (p ∷ ps) (c ∷ cs)
 
-all_come : (y : Symbols) (l : LaidOutStatement) (names : List (List ℕ)) (ps : List Piece) (cs : List Content) → AreFound y names (map (waiting_at l) ps) cs → AllCome y l names ps cs
+all_come : (y : Symbols) (l : LaidOutStatement) (names : List (List ℕ)) (ps : List Piece) (cs : List Content) → AreFound y names (map (deferred_piece l) ps) cs → AllCome y l names ps cs
 all_come y l names [] [] h = no_piece
 all_come y l names [] (c ∷ cs) h = absurd h
 all_come y l names (p ∷ ps) [] h = absurd h
@@ -117,9 +117,9 @@ all_put cs = flat_map (λ c. c.parts) cs
 
 -- a piece that puts a part somewhere, and says nothing; another one puts none
 abbrev pub is_part : Piece → Bool
-is_part (given q) = true
-is_part (valued (datum width) e) = true
-is_part (valued (operand width) e) = true
+is_part (known_part q) = true
+is_part (expression_value (datum width) e) = true
+is_part (expression_value (operand width) e) = true
 is_part _ = false
 
 -- a statement whose pieces are such
@@ -152,7 +152,7 @@ pieces_alike count s (Constant n e) = (refl, tt)
 pieces_alike count s (Import own names) = of_names imported (λ n. refl) names
 pieces_alike count s (Export names) = of_names (exported true) (λ n. refl) names
 pieces_alike count s (Global own names) = of_names (exported false) (λ n. refl) names
-pieces_alike count s (ForceImport names) = all_append (λ p. is_part p ≡ false) (map imported names) (map demanded names) (of_names imported (λ n. refl) names) (of_names demanded (λ n. refl) names)
+pieces_alike count s (ForceImport names) = all_append (λ p. is_part p ≡ false) (map imported names) (map forced_import names) (of_names imported (λ n. refl) names) (of_names forced_import (λ n. refl) names)
 pieces_alike count s (Assert e act words) = (refl, tt)
 pieces_alike count s _ = tt
 
@@ -162,7 +162,7 @@ says_none x1 e = grind (arith, common_steps)
 puts_none : {y : Symbols} {names : List (List ℕ)} {l : LaidOutStatement} {p : Piece} {c : Content} → Comes y names l p c → is_part p ≡ false → c.parts ≡ []
 puts_none x1 e = grind (arith, common_steps)
 
-none_said : {y : Symbols} {l : LaidOutStatement} {names : List (List ℕ)} {ps : List Piece} {cs : List Content} → AllCome y l names ps cs → AllByRecursion (λ p. is_part p ≡ true) ps → all_said cs ≡ []
+none_said : {y : Symbols} {l : LaidOutStatement} {names : List (List ℕ)} {ps : List Piece} {cs : List Content} → AllCome y l names ps cs → AllByRecursion (λ p. is_part p ≡ true) ps → all_declarations cs ≡ []
 none_said no_piece all = refl
 none_said (a_piece first more) (own, all) = grind (arith, common_steps, (says_none first own), (none_said more all))
 
@@ -181,12 +181,12 @@ quiet_parts count s x all e = none_put all (subst (λ b. AllByRecursion (λ p. i
 
 -- it asks for no section, and puts parts into the segment alone
 abbrev StandsIn : ℕ → Content → Type 0
-StandsIn g c = (c.asks ≡ false) × ((c.segment ≡ g) ⊎ (c.parts ≡ []))
+StandsIn g c = (c.requests_section ≡ false) × ((c.segment ≡ g) ⊎ (c.parts ≡ []))
 
 stands_in : {y : Symbols} {names : List (List ℕ)} {l : LaidOutStatement} {p : Piece} {c : Content} → Comes y names l p c → StandsIn l.context.segment c
 stands_in x1 = grind (arith, common_steps)
 
-none_asked : {y : Symbols} {l : LaidOutStatement} {names : List (List ℕ)} {ps : List Piece} {cs : List Content} → AllCome y l names ps cs → segments_asked cs ≡ []
+none_asked : {y : Symbols} {l : LaidOutStatement} {names : List (List ℕ)} {ps : List Piece} {cs : List Content} → AllCome y l names ps cs → segment_requests cs ≡ []
 none_asked no_piece = refl
 none_asked (a_piece first more) = grind (arith, common_steps, (stands_in first), (none_asked more))
 
@@ -205,7 +205,7 @@ pub data SaidOnce (y : Symbols) (place : SourceLocation) : List (List ℕ) → L
   said_first :
       {names : List (List ℕ)} {n : List ℕ} {ns : List (List ℕ)} {ss : List Declaration} (j : ℕ) (f : Form) →
       list_any (bytes_eq n) names ≡ false → definition_index y (named 0 n) ≡ Some j → defined_form y j ≡ Ok f →
-      SaidOnce y place (names ++ n ∷ []) ns ss → SaidOnce y place names (n ∷ ns) (Exported n place f ∷ ss)
+      SaidOnce y place (names ++ n ∷ []) ns ss → SaidOnce y place names (n ∷ ns) (ExportedSymbol n place f ∷ ss)
 
 -- this is said by a statement
 abbrev pub IsSaidBy : Symbols → List (List ℕ) → LaidOutStatement → Statement → List Declaration → Type 0
@@ -215,23 +215,23 @@ IsSaidBy y names l (ForceImport ns) ss = ss ≡ map ForcedImport ns
 IsSaidBy y names l (Assert e act words) ss = (f : Form) × (norm_of y l.context e ≡ Ok f) × (decided_assertion act l.place words f ≡ Ok ss)
 IsSaidBy y names l _ ss = ss ≡ []
 
-said_once : {y : Symbols} {l : LaidOutStatement} (must : Bool) (names ns : List (List ℕ)) (cs : List Content) → AllCome y l names (map (exported must) ns) cs → SaidOnce y l.place names ns (all_said cs)
+said_once : {y : Symbols} {l : LaidOutStatement} (must : Bool) (names ns : List (List ℕ)) (cs : List Content) → AllCome y l names (map (exported must) ns) cs → SaidOnce y l.place names ns (all_declarations cs)
 said_once must names [] _ no_piece = no_name
-said_once {y = y} {l = l} must names (n ∷ ns) _ (a_piece {cs = cs} (no_export _ _ why) more) = left_out why (subst (λ names. SaidOnce y l.place names ns (all_said cs)) (append-nil names) (said_once must (names ++ []) ns cs more))
+said_once {y = y} {l = l} must names (n ∷ ns) _ (a_piece {cs = cs} (no_export _ _ why) more) = left_out why (subst (λ names. SaidOnce y l.place names ns (all_declarations cs)) (append-nil names) (said_once must (names ++ []) ns cs more))
 said_once must names (n ∷ ns) _ (a_piece {cs = cs} (an_export _ _ j f new e form) more) = said_first j f new e form (said_once must (names ++ n ∷ []) ns cs more)
 
-said_demanded : {y : Symbols} {l : LaidOutStatement} {names : List (List ℕ)} (ns : List (List ℕ)) (cs : List Content) → AllCome y l names (map demanded ns) cs → all_said cs ≡ map ForcedImport ns
+said_demanded : {y : Symbols} {l : LaidOutStatement} {names : List (List ℕ)} (ns : List (List ℕ)) (cs : List Content) → AllCome y l names (map forced_import ns) cs → all_declarations cs ≡ map ForcedImport ns
 said_demanded [] _ no_piece = refl
 said_demanded (n ∷ ns) _ (a_piece (a_demand _) more) = grind (arith, common_steps, (said_demanded ns _ more))
 
-said_forced : {y : Symbols} {l : LaidOutStatement} {names : List (List ℕ)} (ms ns : List (List ℕ)) (cs : List Content) → AllCome y l names (map imported ms ++ map demanded ns) cs → all_said cs ≡ map ForcedImport ns
+said_forced : {y : Symbols} {l : LaidOutStatement} {names : List (List ℕ)} (ms ns : List (List ℕ)) (cs : List Content) → AllCome y l names (map imported ms ++ map forced_import ns) cs → all_declarations cs ≡ map ForcedImport ns
 said_forced [] ns cs all = said_demanded ns cs all
 said_forced (m ∷ ms) ns _ (a_piece {cs = cs} (an_import _) more) = said_forced ms ns cs more
 
-nothing_said : {y : Symbols} {l : LaidOutStatement} {names : List (List ℕ)} (cs : List Content) → AllCome y l names [] cs → all_said cs ≡ []
+nothing_said : {y : Symbols} {l : LaidOutStatement} {names : List (List ℕ)} (cs : List Content) → AllCome y l names [] cs → all_declarations cs ≡ []
 nothing_said cs x1 = grind (arith, common_steps)
 
-said_by : {y : Symbols} {l : LaidOutStatement} {names : List (List ℕ)} (count : ℕ) (s : EncodingChoice) (x : Statement) (cs : List Content) → AllCome y l names (pieces_of count s x) cs → IsSaidBy y names l x (all_said cs)
+said_by : {y : Symbols} {l : LaidOutStatement} {names : List (List ℕ)} (count : ℕ) (s : EncodingChoice) (x : Statement) (cs : List Content) → AllCome y l names (pieces_of count s x) cs → IsSaidBy y names l x (all_declarations cs)
 said_by count s (Export ns) cs all = said_once true _ ns cs all
 said_by count s (Global own ns) cs all = said_once false _ ns cs all
 said_by count s (ForceImport ns) cs all = said_forced ns ns cs all
@@ -251,22 +251,22 @@ said_by count s _ cs all = nothing_said cs all
 -- pieces come to.
 pub record Stated (y : Symbols) (names : List (List ℕ)) (l : LaidOutStatement) (ds : List Content) : Type 0 where
   pub own : List Content
-  pub pieces : AllCome y l names (pieces_of l.length l.settled l.stated) own
-  pub asked : segments_asked ds ≡ cond (needs_section l.stated) (l.context.segment ∷ []) []
+  pub pieces : AllCome y l names (pieces_of l.length l.encoding l.stated) own
+  pub asked : segment_requests ds ≡ cond (needs_section l.stated) (l.context.segment ∷ []) []
   pub put : all_put ds ≡ all_put own
   pub parts : (g : ℕ) → parts_in ds g ≡ cond (nat_eq l.context.segment g) (all_put own) []
-  pub said : IsSaidBy y names l l.stated (all_said ds)
+  pub said : IsSaidBy y names l l.stated (all_declarations ds)
 
 pub stated : (y : Symbols) (names : List (List ℕ)) (l : LaidOutStatement) (ds : List Content) → AreFound y names (slots_of l) ds → Stated y names l ds
 stated y names l ds h = by (needs_section l.stated) refl ds h
   where
     ps : List Piece
-    ps = pieces_of l.length l.settled l.stated
+    ps = pieces_of l.length l.encoding l.stated
 
     g : ℕ
     g = l.context.segment
 
-    by : (b : Bool) → needs_section l.stated ≡ b → (ds : List Content) → AreFound y names ((if b then resolved (section_request g) ∷ [] else []) ++ map (waiting_at l) ps) ds → Stated y names l ds
+    by : (b : Bool) → needs_section l.stated ≡ b → (ds : List Content) → AreFound y names ((if b then resolved (section_request g) ∷ [] else []) ++ map (deferred_piece l) ps) ds → Stated y names l ds
     by false e ds h =
         let all : AllCome y l names ps ds = all_come y l names ps ds h in
         record {
@@ -275,13 +275,13 @@ stated y names l ds h = by (needs_section l.stated) refl ds h
           asked = none_asked all ∙ ap (λ b. cond b (g ∷ []) []) (sym e);
           put = refl;
           parts = λ k. parts_own k all;
-          said = said_by l.length l.settled l.stated ds all;
+          said = said_by l.length l.encoding l.stated ds all;
         }
     by true e [] h = absurd h
     by true e (c ∷ ds) (w, made, h) =
-        let same : section_request g ≡ c = content_is (quietly (section_request g)) (record { content = c; warning = w }) made in
+        let same : section_request g ≡ c = content_is (without_warning (section_request g)) (record { content = c; warning = w }) made in
         let before : names ++ exported_names c.said ≡ names = ap (λ (d : Content). names ++ exported_names d.said) (sym same) ∙ append-nil names in
-        let all : AllCome y l names ps ds = all_come y l names ps ds (subst (λ ns. AreFound y ns (map (waiting_at l) ps) ds) before h) in
+        let all : AllCome y l names ps ds = all_come y l names ps ds (subst (λ ns. AreFound y ns (map (deferred_piece l) ps) ds) before h) in
         subst (λ (d : Content). Stated y names l (d ∷ ds)) same
         (record {
           own = ds;
@@ -289,7 +289,7 @@ stated y names l ds h = by (needs_section l.stated) refl ds h
           asked = ap (λ gs. g ∷ gs) (none_asked all) ∙ ap (λ b. cond b (g ∷ []) []) (sym e);
           put = refl;
           parts = λ k. (let own = parts_own k all in grind (arith, common_steps));
-          said = said_by l.length l.settled l.stated ds all;
+          said = said_by l.length l.encoding l.stated ds all;
         })
 
 -- statements one behind the other, behind exports of these names
@@ -297,14 +297,14 @@ pub data AreStated (y : Symbols) : List (List ℕ) → List LaidOutStatement →
   no_line : {names : List (List ℕ)} → AreStated y names [] []
   a_line :
       {names : List (List ℕ)} {l : LaidOutStatement} {ls : List LaidOutStatement} (ds cs : List Content) →
-      AreFound y names (slots_of l) ds → AreStated y (names ++ exported_names (all_said ds)) ls cs → AreStated y names (l ∷ ls) (ds ++ cs)
+      AreFound y names (slots_of l) ds → AreStated y (names ++ exported_names (all_declarations ds)) ls cs → AreStated y names (l ∷ ls) (ds ++ cs)
 
 all_stated : (y : Symbols) (names : List (List ℕ)) (ls : List LaidOutStatement) (cs : List Content) → AreFound y names (flat_map slots_of ls) cs → AreStated y names ls cs
 all_stated y names [] [] h = no_line
 all_stated y names [] (c ∷ cs) h = absurd h
 all_stated y names (l ∷ ls) cs h =
     let split = found_split y names (slots_of l) (flat_map slots_of ls) cs h in
-    subst (AreStated y names (l ∷ ls)) split.all (a_line split.first split.last split.before (all_stated y (names ++ exported_names (all_said split.first)) ls split.last split.following))
+    subst (AreStated y names (l ∷ ls)) split.all (a_line split.first split.last split.before (all_stated y (names ++ exported_names (all_declarations split.first)) ls split.last split.following))
 
 -- what a module comes to is what its statements come to
 pub are_stated : (y : Layout) (cs : List Content) → (module_resolution y.laid).found ≡ Ok cs → AreStated (table_of y) [] y.laid cs
@@ -312,7 +312,7 @@ are_stated y cs e = all_stated (table_of y) [] y.laid cs (found_each (table_of y
 
 -- ---- Contents behind contents.
 
-pub said_append : (ds cs : List Content) → all_said (ds ++ cs) ≡ all_said ds ++ all_said cs
+pub said_append : (ds cs : List Content) → all_declarations (ds ++ cs) ≡ all_declarations ds ++ all_declarations cs
 said_append ds cs = flat_map-append (λ (c : Content). c.said) ds cs
 
 pub put_append : (ds cs : List Content) → all_put (ds ++ cs) ≡ all_put ds ++ all_put cs

@@ -3,8 +3,8 @@ use Rattle.std.specs.Prelude.{ℕ, suc, Bool, List, [], ◌∷◌, ◌++◌, map
 use Rattle.std.specs.List.{flat_map}
 use Rattle.syntax65.specs.Trees.{Tree}
 use Rattle.ast65.specs.declared.fault.AsmFault.{AsmFault}
-use Rattle.semantics65.specs.Symbols.{LaidOutStatement, Symbols, definitions_of, definition_index, named, symbols_of, value_defined, with_new}
-use Rattle.semantics65.specs.declared.laid.Context.{Context}
+use Rattle.semantics65.specs.Symbols.{LaidOutStatement, Symbols, definitions_of, definition_index, named, symbols_of, value_defined, with_new_names}
+use Rattle.semantics65.specs.declared.contexts.Context.{Context}
 use Rattle.ast65.specs.declared.language.Statement.{Statement}
 use Rattle.ast65.specs.declared.language.Statement.TheVariants.{Export, Global, ForceImport}
 use Rattle.semantics65.specs.Layout.{Layout}
@@ -34,18 +34,18 @@ definition_at index (Some l) = go (value_defined l.stated)
     go (Some e) = Some (constant_at index e)
     go None = Some (label_at index)
 
-abbrev pub statement_at : List LaidOutStatement → Option ℕ → Option SymbolBinding
-statement_at ls None = None
-statement_at ls (Some index) = definition_at index (slice_get ls index)
+abbrev pub statement_binding : List LaidOutStatement → Option ℕ → Option SymbolBinding
+statement_binding ls None = None
+statement_binding ls (Some index) = definition_at index (slice_get ls index)
 
 abbrev pub import_named : Option (List ℕ) → Option SymbolBinding
 import_named None = None
 import_named (Some n) = Some (import_of n)
 
-abbrev pub meaning_by : Layout → Result names.Binding AsmFault → Option SymbolBinding
-meaning_by y (Ok (names.defined_at d)) = statement_at y.laid (slice_get (definers_from 0 y.laid) d)
-meaning_by y (Ok (names.imported_as k)) = import_named (slice_get (table_of y).imports k)
-meaning_by y (Err e) = None
+abbrev pub binding_by : Layout → Result names.Binding AsmFault → Option SymbolBinding
+binding_by y (Ok (names.defined_at d)) = statement_binding y.laid (slice_get (definers_from 0 y.laid) d)
+binding_by y (Ok (names.imported_as k)) = import_named (slice_get (table_of y).imports k)
+binding_by y (Err e) = None
 
 -- the context after the last statement: in the global scope and in no segment
 abbrev pub global_context : Layout → Context
@@ -66,8 +66,8 @@ abbrev pub context_at : Layout → ℕ → Context
 context_at y index = context_or (global_context y) (slice_get y.laid index)
 
 -- the binding of an operand of a statement, by the symbol table of the whole module
-abbrev pub means_in : Layout → ℕ → Tree → Option SymbolBinding
-means_in y index e = meaning_by y (names.binding_of (table_of y) (context_at y index) e)
+abbrev pub binding_in : Layout → ℕ → Tree → Option SymbolBinding
+binding_in y index e = binding_by y (names.binding_of (table_of y) (context_at y index) e)
 
 -- ---- The exports and imports of a module.
 
@@ -83,12 +83,12 @@ is_defined y n = is_some (definition_index (table_of y) (named 0 n))
 -- The names that a module exports, each once: those that `.export` or `.global` lists and the module defines. A name that
 -- `.global` lists and the module doesn't define is an import.
 abbrev pub exports_of : Layout → List (List ℕ)
-exports_of y = with_new [] (filter (is_defined y) (flat_map (λ l. exported_by l.stated) y.laid))
+exports_of y = with_new_names [] (filter (is_defined y) (flat_map (λ l. exported_by l.stated) y.laid))
 
-abbrev pub forced_by : Statement → List (List ℕ)
-forced_by (ForceImport names) = names
-forced_by _ = []
+abbrev pub forced_imports_by : Statement → List (List ℕ)
+forced_imports_by (ForceImport names) = names
+forced_imports_by _ = []
 
 -- the names that a module imports even if it doesn't use them
-abbrev pub forced_of : Layout → List (List ℕ)
-forced_of y = flat_map (λ l. forced_by l.stated) y.laid
+abbrev pub forced_imports_of : Layout → List (List ℕ)
+forced_imports_of y = flat_map (λ l. forced_imports_by l.stated) y.laid

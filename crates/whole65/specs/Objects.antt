@@ -5,7 +5,7 @@ use Rattle.base65.specs.Values.{wrap_signed}
 use Rattle.object65.specs.Form.{Form}
 use Rattle.object65.specs.FormValue.{value_in}
 use Rattle.ast65.specs.declared.fault.AsmFault.{AsmFault}
-use Rattle.semantics65.specs.declared.laid.Context.{Context}
+use Rattle.semantics65.specs.declared.contexts.Context.{Context}
 use Rattle.semantics65.specs.Symbols as names
 use Rattle.semantics65.specs.Symbols.{binding_of, Definition, Symbols}
 use Rattle.semantics65.specs.Norms.{norm}
@@ -13,9 +13,9 @@ use Rattle.whole65.specs.Values.{Provider, by_module, by_script, by_nobody, Symb
 
 -- For each module, by its index `owner`: its symbol table, the contexts of its statements, the addresses of its sections and
 -- the values of its imports. `E` is the type of an import's error.
-pub record Objects (E : Type 0) : Type 0 where
+pub record LinkerView (E : Type 0) : Type 0 where
   -- the error of an operation without a value
-  pub none : E
+  pub no_value_error : E
   pub symbols : (owner : ℕ) → Symbols
   pub contexts : (owner index : ℕ) → Context
   -- the index of the statement that makes the definition with this index
@@ -26,8 +26,8 @@ pub record Objects (E : Type 0) : Type 0 where
   pub imports : (export_depth owner number : ℕ) → Result ℤ E
 
 -- the value of a form of a module, if chains of at most this many exports lead to the values of its imports; otherwise an error
-abbrev pub form_value : {E : Type 0} → Objects E → ℕ → ℕ → Form → Result ℤ E
-form_value o export_depth owner f = value_in o.none (o.bases owner) (o.imports export_depth owner) f
+abbrev pub form_value : {E : Type 0} → LinkerView E → ℕ → ℕ → Form → Result ℤ E
+form_value o export_depth owner f = value_in o.no_value_error (o.bases owner) (o.imports export_depth owner) f
 
 -- ---- The bindings of names.
 
@@ -47,7 +47,7 @@ import_binding None = None
 import_binding (Some x) = Some (import_of x)
 
 -- the program's binding for a binding of the module's symbol table
-abbrev pub symbol_binding : {E : Type 0} → Objects E → ℕ → Result names.Binding AsmFault → Option SymbolBinding
+abbrev pub symbol_binding : {E : Type 0} → LinkerView E → ℕ → Result names.Binding AsmFault → Option SymbolBinding
 symbol_binding o owner (Err e) = None
 symbol_binding o owner (Ok (names.defined_at d)) = definition_binding (o.definers owner d) (slice_get (o.symbols owner).definitions d)
 symbol_binding o owner (Ok (names.imported_as k)) = import_binding (slice_get (o.symbols owner).imports k)
@@ -55,27 +55,27 @@ symbol_binding o owner (Ok (names.imported_as k)) = import_binding (slice_get (o
 -- ---- The values of imports.
 
 -- the import `k` of a module has no value
-abbrev pub HasNoValue : {E : Type 0} → Objects E → ℕ → ℕ → Type 0
+abbrev pub HasNoValue : {E : Type 0} → LinkerView E → ℕ → ℕ → Type 0
 HasNoValue o owner k = (export_depth : ℕ) (v : ℤ) → o.imports export_depth owner k ≢ Ok v
 
 -- The import `k` of a module has the value of the export `x` of the providing module. The chain of exports that leads to the
 -- import's value is one longer than that of the export's form. (`name false (x ∷ [])` is the plain name `x`, without a leading
 -- `::`.)
-pub record IsExport {E : Type 0} (p : Program) (o : Objects E) (owner k : ℕ) (x : List ℕ) (provider : ℕ) : Type 0 where
+pub record ImportHasExportValue {E : Type 0} (p : Program) (o : LinkerView E) (owner k : ℕ) (x : List ℕ) (provider : ℕ) : Type 0 where
   pub depth : ℕ
   pub form : Form
-  pub normal : norm depth (o.symbols provider) (o.contexts provider (p.global provider)) (name false (x ∷ [])) ≡ Ok form
-  pub first : (v : ℤ) → o.imports zero owner k ≢ Ok v
-  pub later : (export_depth : ℕ) → o.imports (suc export_depth) owner k ≡ form_value o export_depth provider form
+  pub normal : norm depth (o.symbols provider) (o.contexts provider (p.global_index provider)) (name false (x ∷ [])) ≡ Ok form
+  pub at_zero : (v : ℤ) → o.imports zero owner k ≢ Ok v
+  pub at_successor : (export_depth : ℕ) → o.imports (suc export_depth) owner k ≡ form_value o export_depth provider form
 
 -- the import `k` of the name `x` has the value that the provider gives: that of an export, a number of the script, or none
-abbrev pub HasProviderValue : {E : Type 0} → Program → Objects E → ℕ → ℕ → List ℕ → Provider → Type 0
-HasProviderValue p o owner k x (by_module provider) = IsExport p o owner k x provider
+abbrev pub HasProviderValue : {E : Type 0} → Program → LinkerView E → ℕ → ℕ → List ℕ → Provider → Type 0
+HasProviderValue p o owner k x (by_module provider) = ImportHasExportValue p o owner k x provider
 HasProviderValue p o owner k x (by_script v) = (export_depth : ℕ) → o.imports export_depth owner k ≡ Ok v
 HasProviderValue p o owner k x by_nobody = HasNoValue o owner k
 
 -- the same by the program's provider of the import's name; an import without a name has no value
-abbrev pub ImportHasValue : {E : Type 0} → Program → Objects E → ℕ → ℕ → Option (List ℕ) → Type 0
+abbrev pub ImportHasValue : {E : Type 0} → Program → LinkerView E → ℕ → ℕ → Option (List ℕ) → Type 0
 ImportHasValue p o owner k None = HasNoValue o owner k
 ImportHasValue p o owner k (Some x) = HasProviderValue p o owner k x (p.provider x)
 
@@ -83,18 +83,18 @@ ImportHasValue p o owner k (Some x) = HasProviderValue p o owner k x (p.provider
 
 -- The objects are those of the program's modules: operands have the same bindings, definitions the contexts of their
 -- statements, statements the same addresses, and imports the values that their providers give.
-pub record AreObjects {E : Type 0} (p : Program) (o : Objects E) : Type 0 where
-  pub means :
+pub record IsLinkerView {E : Type 0} (p : Program) (o : LinkerView E) : Type 0 where
+  pub binding :
       (owner index : ℕ) (e : Tree) →
-      p.means owner index e ≡ symbol_binding o owner (binding_of (o.symbols owner) (o.contexts owner index) e)
+      p.binding owner index e ≡ symbol_binding o owner (binding_of (o.symbols owner) (o.contexts owner index) e)
   pub contexts :
       (owner definition : ℕ) (d : Definition) → slice_get (o.symbols owner).definitions definition ≡ Some d →
       o.contexts owner (o.definers owner definition) ≡ d.context
   pub addresses :
       (owner index : ℕ) →
       p.address owner index ≡ wrap_signed (o.bases owner (o.contexts owner index).segment +ℤ pos (o.contexts owner index).offset)
-  pub given : (owner k : ℕ) → ImportHasValue p o owner k (slice_get (o.symbols owner).imports k)
+  pub imports_agree : (owner k : ℕ) → ImportHasValue p o owner k (slice_get (o.symbols owner).imports k)
 
 -- a form of a module has a value, through chains of some number of exports
-abbrev pub HasValue : {E : Type 0} → Objects E → ℕ → Form → ℤ → Type 0
+abbrev pub HasValue : {E : Type 0} → LinkerView E → ℕ → Form → ℤ → Type 0
 HasValue o owner f v = (export_depth : ℕ) × (form_value o export_depth owner f ≡ Ok v)

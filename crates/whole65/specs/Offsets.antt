@@ -4,9 +4,9 @@ use Rattle.std.specs.Int.{next_multiple_of}
 use Rattle.std.specs.List.{AllByRecursion}
 use Rattle.syntax65.specs.declared.source_location.SourceLocation.{SourceLocation}
 use Rattle.ast65.specs.declared.language.Statement.{Statement}
-use Rattle.semantics65.specs.Layout.{Layout, layout_after, nothing_laid, line_fault}
+use Rattle.semantics65.specs.Layout.{Layout, layout_after, empty_layout, line_fault}
 use Rattle.semantics65.specs.Symbols.{symbols_of}
-use Rattle.whole65.specs.Segments.{SegmentLine, end_of, largest_multiple, lines_in, part_of}
+use Rattle.whole65.specs.Segments.{SegmentStatement, end_of, largest_multiple, statements_in_segment, module_items}
 
 pub record IsMultiple (n of : ℕ) : Type 0 where
   pub factor : ℕ
@@ -18,28 +18,28 @@ pub record IsPower (n : ℕ) : Type 0 where
   pub below : exponent < 16
   pub power : n ≡ 2 ^ exponent
 
-abbrev pub ArePowers : List SegmentLine → Type 0
+abbrev pub ArePowers : List SegmentStatement → Type 0
 ArePowers xs = AllByRecursion (λ x. IsPower x.alignment) xs
 
--- Statements laid out in order, none of which has an error at its line. (`IsSoundLayout` of semantics65 states something else:
+-- Statements laid out in order, none of which has an error at its line. (`IsWellFormedLayout` of semantics65 states something else:
 -- that names and sizes fit into an object, and that lengths are those of the layout rules.)
 pub data HasNoLineErrors : Layout → Type 0 where
-  begun : HasNoLineErrors nothing_laid
+  no_statement : HasNoLineErrors empty_layout
   following :
       (y : Layout) (place : SourceLocation) (x : Statement) →
       HasNoLineErrors y → line_fault (symbols_of y.laid) y.cursor x ≡ None → HasNoLineErrors (layout_after y place x)
 
--- the lines of a module in its segment with this index
-abbrev pub lines_at : ℕ → List SegmentLine → List SegmentLine
-lines_at g xs = filter (λ x. nat_eq x.laid.context.segment g) xs
+-- the statements of a module in its segment with this index
+abbrev pub statements_with_segment : ℕ → List SegmentStatement → List SegmentStatement
+statements_with_segment g xs = filter (λ x. nat_eq x.laid.context.segment g) xs
 
 -- The position at which the section of one of these modules begins: of that after the first `count`. The first module has the
 -- index `owner`, and the segment ends at a position before it.
-abbrev pub begin_from : ℕ → ℕ → List Layout → List ℕ → ℕ → ℕ
-begin_from position owner [] name count = position
-begin_from position owner (y ∷ ys) name zero = next_multiple_of position (largest_multiple (lines_in owner y name))
-begin_from position owner (y ∷ ys) name (suc count) = begin_from (end_of position (part_of owner y name)) (suc owner) ys name count
+abbrev pub section_start_from : ℕ → ℕ → List Layout → List ℕ → ℕ → ℕ
+section_start_from position owner [] name count = position
+section_start_from position owner (y ∷ ys) name zero = next_multiple_of position (largest_multiple (statements_in_segment owner y name))
+section_start_from position owner (y ∷ ys) name (suc count) = section_start_from (end_of position (module_items owner y name)) (suc owner) ys name count
 
 -- the position at which the section of a module begins
-abbrev pub begin_of : List Layout → List ℕ → ℕ → ℕ
-begin_of ys name owner = begin_from 0 0 ys name owner
+abbrev pub section_start : List Layout → List ℕ → ℕ → ℕ
+section_start ys name owner = section_start_from 0 0 ys name owner

@@ -10,8 +10,8 @@ use Rattle.link65.specs.Names.{is_among, script_definitions, weak_symbols}
 use Rattle.link65.specs.Values.{run_of}
 use Rattle.semantics65.specs.Symbols.{LaidOutStatement}
 use Rattle.semantics65.specs.Layout.{Layout}
-use Rattle.whole65.specs.Modules.{exports_of, means_in}
-use Rattle.whole65.specs.Segments.{position_of, segment_name}
+use Rattle.whole65.specs.Modules.{exports_of, binding_in}
+use Rattle.whole65.specs.Segments.{position_of, segment_name_at}
 use Rattle.whole65.specs.Values.{Provider, by_module, by_script, by_nobody, SymbolBinding, Program}
 
 -- ---- The providers of names.
@@ -38,33 +38,33 @@ provider_of s p ys name =
 
 -- ---- The addresses of statements.
 
-abbrev pub means_at : Option Layout → ℕ → Tree → Option SymbolBinding
-means_at None index e = None
-means_at (Some y) index e = means_in y index e
+abbrev pub binding_at : Option Layout → ℕ → Tree → Option SymbolBinding
+binding_at None index e = None
+binding_at (Some y) index e = binding_in y index e
 
-abbrev pub length_of : Option Layout → ℕ
-length_of None = 0
-length_of (Some y) = length y.laid
+abbrev pub statement_count : Option Layout → ℕ
+statement_count None = 0
+statement_count (Some y) = length y.laid
 
--- the run address of the segment's row plus the position in the segment
+-- the run address of the segment's row in the script plus the position in the segment
 abbrev pub address_in : Script → Placement → List Layout → ℕ → ℕ → List ℕ → ℤ
 address_in s p ys owner index name = wrap_signed (pos (run_of s.rows p.rows name + position_of ys name owner index))
 
 -- the address of a statement; 0 if there is no such statement
 abbrev pub statement_address : Script → Placement → List Layout → ℕ → ℕ → Option Layout → Option LaidOutStatement → ℤ
-statement_address s p ys owner index (Some y) (Some l) = address_in s p ys owner index (segment_name y l.context.segment)
+statement_address s p ys owner index (Some y) (Some l) = address_in s p ys owner index (segment_name_at y l.context.segment)
 statement_address s p ys owner index _ _ = pos 0
 
-abbrev pub laid_at : Option Layout → ℕ → Option LaidOutStatement
-laid_at None index = None
-laid_at (Some y) index = slice_get y.laid index
+abbrev pub laid_out_statement_at : Option Layout → ℕ → Option LaidOutStatement
+laid_out_statement_at None index = None
+laid_out_statement_at (Some y) index = slice_get y.laid index
 
 -- ---- The program.
 
-abbrev pub program_of : Script → Placement → List Layout → Program
-program_of s p ys = record {
-  means = λ owner index. means_at (slice_get ys owner) index;
-  global = λ owner. length_of (slice_get ys owner);
+abbrev pub placed_program : Script → Placement → List Layout → Program
+placed_program s p ys = record {
+  binding = λ owner index. binding_at (slice_get ys owner) index;
+  global_index = λ owner. statement_count (slice_get ys owner);
   provider = provider_of s p ys;
-  address = λ owner index. statement_address s p ys owner index (slice_get ys owner) (laid_at (slice_get ys owner) index);
+  address = λ owner index. statement_address s p ys owner index (slice_get ys owner) (laid_out_statement_at (slice_get ys owner) index);
 }

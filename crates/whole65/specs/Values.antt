@@ -27,20 +27,20 @@ pub data Provider : Type 0 where
 -- in the module.
 pub record Program : Type 0 where
   -- the binding of an operand of a statement, if it has one
-  pub means : (owner index : ℕ) → Tree → Option SymbolBinding
-  -- the index after the last statement of a module, in its global scope
-  pub global : (owner : ℕ) → ℕ
+  pub binding : (owner index : ℕ) → Tree → Option SymbolBinding
+  -- the index after the last statement of a module: its context is `global_context` of Modules, in the global scope
+  pub global_index : (owner : ℕ) → ℕ
   pub provider : List ℕ → Provider
   -- the address of a statement
   pub address : (owner index : ℕ) → ℤ
 
 -- the definition that an operand refers to; numbers, `*` and operations have values of their own
-abbrev pub meaning_in : Program → (owner index : ℕ) → Tree → Option SymbolBinding
-meaning_in p owner index (tree.number n) = None
-meaning_in p owner index tree.here = None
-meaning_in p owner index (tree.unary op e) = None
-meaning_in p owner index (tree.binary op e f) = None
-meaning_in p owner index e = p.means owner index e
+abbrev pub operand_binding : Program → (owner index : ℕ) → Tree → Option SymbolBinding
+operand_binding p owner index (tree.number n) = None
+operand_binding p owner index tree.here = None
+operand_binding p owner index (tree.unary op e) = None
+operand_binding p owner index (tree.binary op e f) = None
+operand_binding p owner index e = p.binding owner index e
 
 -- The value of an expression at its statement. A derivation is finite, so a name that is needed for its own
 -- value has none.
@@ -52,21 +52,21 @@ pub data Value (p : Program) : (owner index : ℕ) → Tree → ℤ → Type 0 w
   -- a label has the address of its statement
   label :
       {owner index definer : ℕ} {e : Tree} →
-      meaning_in p owner index e ≡ Some (label_at definer) → Value p owner index e (p.address owner definer)
+      operand_binding p owner index e ≡ Some (label_at definer) → Value p owner index e (p.address owner definer)
   -- a constant has the value of its expression at the statement that defines it
   constant :
       {owner index definer : ℕ} {e f : Tree} {v : ℤ} →
-      meaning_in p owner index e ≡ Some (constant_at definer f) → Value p owner definer f v → Value p owner index e v
+      operand_binding p owner index e ≡ Some (constant_at definer f) → Value p owner definer f v → Value p owner index e v
   -- an import has the value of the name in the global scope of the module that exports it; `name false (x ∷ [])` is the plain
   -- name `x`, without a leading `::`
   exported :
       {owner index provider : ℕ} {e : Tree} {x : List ℕ} {v : ℤ} →
-      meaning_in p owner index e ≡ Some (import_of x) → p.provider x ≡ by_module provider →
-      Value p provider (p.global provider) (name false (x ∷ [])) v → Value p owner index e v
+      operand_binding p owner index e ≡ Some (import_of x) → p.provider x ≡ by_module provider →
+      Value p provider (p.global_index provider) (name false (x ∷ [])) v → Value p owner index e v
   -- or the value that the script gives it
   scripted :
       {owner index : ℕ} {e : Tree} {x : List ℕ} {v : ℤ} →
-      meaning_in p owner index e ≡ Some (import_of x) → p.provider x ≡ by_script v → Value p owner index e v
+      operand_binding p owner index e ≡ Some (import_of x) → p.provider x ≡ by_script v → Value p owner index e v
   -- an operation has the value that it computes from those of its operands
   prefixed :
       {owner index : ℕ} {op : Op1} {e : Tree} {a : ℤ} →
@@ -90,12 +90,12 @@ located_expr owner index e = record { owner = owner; index = index; tree = e }
 pub data NeedsNext (p : Program) : LocatedExpr → LocatedExpr → Type 0 where
   of_constant :
       {owner index definer : ℕ} {e f : Tree} →
-      meaning_in p owner index e ≡ Some (constant_at definer f) →
+      operand_binding p owner index e ≡ Some (constant_at definer f) →
       NeedsNext p (located_expr owner index e) (located_expr owner definer f)
   of_import :
       {owner index provider : ℕ} {e : Tree} {x : List ℕ} →
-      meaning_in p owner index e ≡ Some (import_of x) → p.provider x ≡ by_module provider →
-      NeedsNext p (located_expr owner index e) (located_expr provider (p.global provider) (name false (x ∷ [])))
+      operand_binding p owner index e ≡ Some (import_of x) → p.provider x ≡ by_module provider →
+      NeedsNext p (located_expr owner index e) (located_expr provider (p.global_index provider) (name false (x ∷ [])))
   of_prefix :
       {owner index : ℕ} {op : Op1} {e : Tree} →
       NeedsNext p (located_expr owner index (tree.unary op e)) (located_expr owner index e)

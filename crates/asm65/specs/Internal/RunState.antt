@@ -6,34 +6,34 @@ use Rattle.std.specs.Str.{bytes_eq}
 use Rattle.base65.specs.Outcome.{Unless, ◌>>=◌}
 use Rattle.base65.specs.Store.{Files, PropagatesIoErrors, LastFailure}
 use Rattle.syntax65.specs.Tokens.{Lexeme}
-use Rattle.expand65.specs.Failing.{YieldsStatements}
+use Rattle.expand65.specs.Failures.{YieldsStatements}
 use Rattle.expand65.specs.State as expand
-use Rattle.expand65.specs.Representation.{IsPositioned, measure_of, place_of}
+use Rattle.expand65.specs.Representation.{IsPositioned, measure_of, location_of}
 use Rattle.syntax65.specs.declared.source_location.SourceLocation.{SourceLocation}
 use Rattle.ast65.specs.declared.fault.AsmFault.{AsmFault}
 use Rattle.ast65.specs.declared.fault.AsmFault.TheVariants.{FileError, FileNotFound}
 use Rattle.ast65.specs.Faults.{is_failure, is_system_error}
 use Rattle.ast65.specs.declared.language.Statement.{Statement}
 use Rattle.ast65.specs.declared.language.Statement.TheVariants.{Incbin, IncbinPath}
-use Rattle.semantics65.specs.Numbering.{AreSymbolNames, IsWellFormedStatement, AreSound, all_said, object_with}
+use Rattle.semantics65.specs.Numbering.{AreSymbolNames, IsWellFormedStatement, AreWellFormedContents, all_declarations, object_with}
 use Rattle.sources65.specs.Machine.{RunsStatements, State, StepsTo, initial_state}
 use Rattle.sources65.specs.Reading.{AssemblesExpanded, Job, stopped_at, bytes_for, with_bytes}
 use Rattle.asm65.specs.declared.assembler.Assembler.{Assembler}
 use Rattle.asm65.specs.declared.driver.Run.{Run}
 use Rattle.symbols65.specs.Measuring.{opening_limit}
-use Rattle.symbols65.specs.Tables.{IsTable}
+use Rattle.symbols65.specs.Tables.{IsFormCache}
 use Rattle.asm65.specs.Internal.AssemblerState.{Represents}
-use Rattle.asm65.specs.Assembly.{AnswersWithoutFile, is_diagnostic_system_error, placed_of}
+use Rattle.asm65.specs.Assembly.{AnswersWithoutFile, is_diagnostic_system_error, located_fault}
 use Rattle.std.specs.Option.{option_map, unwrap_or}
-use Rattle.semantics65.specs.Contents.{Content, declaration_content, located_declarations, exported_names}
+use Rattle.semantics65.specs.Contents.{Content, declaration_content, with_file_name_check, exported_names}
 use Rattle.semantics65.specs.declared.contents.Declaration.{Declaration}
 use Rattle.semantics65.specs.Symbols.{Symbols, definition_index, named}
-use Rattle.semantics65.specs.Views.{said_at}
-use Rattle.semantics65.specs.Module.{warning_at, PieceResult, as_said, Slot, slot_result, resolved, resolution_of}
+use Rattle.semantics65.specs.Views.{declaration_at}
+use Rattle.semantics65.specs.Module.{warning_at, PieceResult, declarations_result, Slot, slot_result, resolved, resolution_of}
 use Rattle.object65.specs.declared.object.Object.{Object}
 use Rattle.semantics65.specs.declared.contents.Segment.{Segment}
 use Rattle.object65.specs.Objects.{is_well_formed_object}
-use Rattle.emit65.specs.SectionContents.{AreSlotsAlike, StandIn, content_of, contents_so_far, names_of, place_by, slot_of, stands_in}
+use Rattle.emit65.specs.SectionContents.{AreEquivalentSlots, HaveFilesBelow, content_of, contents_so_far, names_of, location_of_pos, slot_of, has_file_below}
 use Rattle.emit65.specs.declared.entries.SectionEntry.{SectionEntry}
 use Rattle.emit65.specs.declared.entries.SectionEntry.TheVariants as entry
 use Rattle.emit65.specs.declared.entries.SourcePos.{SourcePos}
@@ -58,8 +58,8 @@ abbrev pub HasHeadroom : ℕ → Assembler → Type 0
 HasHeadroom more a = (count : ℕ) × (t : State) × (count + more ≤ opening_limit) × Represents count t a
 
 -- nothing else was said than what a state says
-abbrev pub SaysAs : State → Assembler → Type 0
-SaysAs t a = (a.texts.out ≡ t.out) × (a.texts.err ≡ t.err)
+abbrev pub HasSameOutput : State → Assembler → Type 0
+HasSameOutput t a = (a.texts.out ≡ t.out) × (a.texts.err ≡ t.err)
 
 -- ---- States that statements lead to.
 
@@ -75,10 +75,10 @@ pub data IsReached : State → Type 0 where
 abbrev pub RefinesTransition :
     Type 0 → (Result State AsmFault → Type 0) → ℕ → State → Assembler →
     Result (Unit {0}) AsmFault → Type 0
-RefinesTransition AreSo IsAnswer most t new (Ok x) =
+RefinesTransition IsValid IsAnswer most t new (Ok x) =
     (u : State) × IsAnswer (Ok u) × (IsReached t → IsReached u) × RepresentsWithin most u new
-RefinesTransition AreSo IsAnswer most t new (Err e) =
-    Unless (is_system_error e) ((AreSo → IsAnswer (Err e)) × SaysAs t new)
+RefinesTransition IsValid IsAnswer most t new (Err e) =
+    Unless (is_system_error e) ((IsValid → IsAnswer (Err e)) × HasSameOutput t new)
 
 -- where a store tells its files
 abbrev pub ForKnownFiles :
@@ -87,16 +87,16 @@ abbrev pub ForKnownFiles :
 ForKnownFiles o IsAnswer t r = IfSome o (λ m. IsAnswer m t r)
 
 -- the same for each represented state in which this much more may be opened
-abbrev pub TakesBy :
+abbrev pub RefinesAllTransitions :
     Type 0 → (State → Result State AsmFault → Type 0) → ℕ → Assembler → Assembler →
     Result (Unit {0}) AsmFault → Type 0
-TakesBy AreSo IsAnswer more old new r =
+RefinesAllTransitions IsValid IsAnswer more old new r =
     (count : ℕ) (t : State) → count + more ≤ opening_limit → Represents count t old →
-    RefinesTransition AreSo (IsAnswer t) (count + more) t new r
+    RefinesTransition IsValid (IsAnswer t) (count + more) t new r
 
 -- If the store failed, that is the error, and nothing more was printed. If the file weren't there, the error
 -- would say so, for each represented state in which this much more may be opened.
-pub record IsStopped (IsAnswer : State → Result State AsmFault → Type 0) (more : ℕ) (old new : Assembler) (e : AsmFault) : Type 0 where
+pub record FailsWithoutOutput (IsAnswer : State → Result State AsmFault → Type 0) (more : ℕ) (old new : Assembler) (e : AsmFault) : Type 0 where
   pub fault : e ≡ FileError
   pub out : new.texts.out ≡ old.texts.out
   pub err : new.texts.err ≡ old.texts.err
@@ -104,18 +104,18 @@ pub record IsStopped (IsAnswer : State → Result State AsmFault → Type 0) (mo
       (count : ℕ) (t : State) → count + more ≤ opening_limit → Represents count t old →
       IsAnswer t (Err FileNotFound)
 
-abbrev pub StopsQuietly :
+abbrev pub KeepsOutputAtFailure :
     (State → Result State AsmFault → Type 0) → ℕ → Assembler → Assembler →
     Result (Unit {0}) AsmFault → Type 0
-StopsQuietly IsAnswer more old new r =
-    IfErr r (λ e. is_failure e ≡ true → IsStopped IsAnswer more old new e)
+KeepsOutputAtFailure IsAnswer more old new r =
+    IfErr r (λ e. is_failure e ≡ true → FailsWithoutOutput IsAnswer more old new e)
 
 -- so it takes what it reads of a store, where that tells its files, or stops where the store failed
-pub record RefinesRead (o : Option Files) (last_failure : LastFailure) (AreSo : Type 0)
+pub record RefinesRead (o : Option Files) (last_failure : LastFailure) (IsValid : Type 0)
     (IsAnswer : Files → State → Result State AsmFault → Type 0) (more : ℕ) (old new : Assembler)
     (r : Result (Unit {0}) AsmFault) : Type 0 where
-  pub taken : TakesBy AreSo (ForKnownFiles o IsAnswer) more old new r
-  pub stopped : StopsQuietly (AnswersWithoutFile o last_failure IsAnswer) more old new r
+  pub taken : RefinesAllTransitions IsValid (ForKnownFiles o IsAnswer) more old new r
+  pub stopped : KeepsOutputAtFailure (AnswersWithoutFile o last_failure IsAnswer) more old new r
 
 -- ---- A source.
 
@@ -142,44 +142,44 @@ abbrev pub RefinesRun : Files → Job → Run → Result (Unit {0}) AsmFault →
 RefinesRun m job new (Ok x) =
     (u : State) × RunsStatements m job (record { following = u; fault = None }) × RepresentsSome u new.assembler
 RefinesRun m job new (Err e) = Unless (is_system_error e)
-    ((u : State) × RunsStatements m job (stopped_at u (place_of new.expander) e) × SaysAs u new.assembler)
+    ((u : State) × RunsStatements m job (stopped_at u (location_of new.expander) e) × HasSameOutput u new.assembler)
 
 abbrev pub tokens_of : expand.ExpandedStatement → List Lexeme
 tokens_of (expand.label ts) = ts
 tokens_of (expand.plain ts) = ts
 
 -- A statement that expansion gives at a place is taken.
-abbrev pub TakesOne :
+abbrev pub AssemblesStatement :
     Option Files → LastFailure → SourceLocation → expand.ExpandedStatement → Assembler → Assembler →
     Result (Unit {0}) AsmFault → Type 0
-TakesOne o last_failure location x = RefinesRead o last_failure (AreSymbolNames (tokens_of x)) (λ m t. AssemblesExpanded m StepsTo t location x) 2
+AssemblesStatement o last_failure location x = RefinesRead o last_failure (AreSymbolNames (tokens_of x)) (λ m t. AssemblesExpanded m StepsTo t location x) 2
 
 -- statements are taken in order, up to the first that has an error
-pub data TakesAll (o : Option Files) (last_failure : LastFailure) (location : SourceLocation) :
+pub data AssemblesStatements (o : Option Files) (last_failure : LastFailure) (location : SourceLocation) :
     List expand.ExpandedStatement → Assembler → Assembler → Result (Unit {0}) AsmFault → Type 0 where
-  none : (a : Assembler) → TakesAll o last_failure location [] a a (Ok tt)
-  refused :
+  none : (a : Assembler) → AssemblesStatements o last_failure location [] a a (Ok tt)
+  rejected :
       (old new : Assembler) (x : expand.ExpandedStatement) (xs : List expand.ExpandedStatement) (e : AsmFault) →
-      TakesOne o last_failure location x old new (Err e) → TakesAll o last_failure location (x ∷ xs) old new (Err e)
+      AssemblesStatement o last_failure location x old new (Err e) → AssemblesStatements o last_failure location (x ∷ xs) old new (Err e)
   one_more :
       (old mid new : Assembler) (x : expand.ExpandedStatement) (xs : List expand.ExpandedStatement)
       (r : Result (Unit {0}) AsmFault) →
-      TakesOne o last_failure location x old mid (Ok tt) → TakesAll o last_failure location xs mid new r →
-      TakesAll o last_failure location (x ∷ xs) old new r
+      AssemblesStatement o last_failure location x old mid (Ok tt) → AssemblesStatements o last_failure location xs mid new r →
+      AssemblesStatements o last_failure location (x ∷ xs) old new r
 
 -- The statements of the next line of a run are taken.
-pub record TakesLine (o : Option Files) (last_failure : LastFailure) (old new : Run) (r : Result (Unit {0}) AsmFault) : Type 0 where
+pub record AssemblesLine (o : Option Files) (last_failure : LastFailure) (old new : Run) (r : Result (Unit {0}) AsmFault) : Type 0 where
   pub statements : List expand.ExpandedStatement
   pub given : YieldsStatements old.expander statements new.expander
-  pub taken : TakesAll o last_failure (place_of new.expander) statements old.assembler new.assembler r
+  pub taken : AssemblesStatements o last_failure (location_of new.expander) statements old.assembler new.assembler r
   pub less : measure_of new.expander < measure_of old.expander
   pub placed : (m : Files) → IsPositioned m old.expander → IsPositioned m new.expander
 
 -- they are, or nothing is done
-abbrev pub TakesLineIf : Option Files → LastFailure → Run → Run → Result Bool AsmFault → Type 0
-TakesLineIf o last_failure old new (Ok true) = TakesLine o last_failure old new (Ok tt)
-TakesLineIf o last_failure old new (Ok false) = new ≡ old
-TakesLineIf o last_failure old new (Err e) = TakesLine o last_failure old new (Err e)
+abbrev pub AssemblesOptionalLine : Option Files → LastFailure → Run → Run → Result Bool AsmFault → Type 0
+AssemblesOptionalLine o last_failure old new (Ok true) = AssemblesLine o last_failure old new (Ok tt)
+AssemblesOptionalLine o last_failure old new (Ok false) = new ≡ old
+AssemblesOptionalLine o last_failure old new (Err e) = AssemblesLine o last_failure old new (Err e)
 
 -- ---- What is read of the files whose bytes statements take.
 
@@ -191,109 +191,109 @@ read_bytes m location x = x
 
 -- A statement is refused before its file is read for what is wrong with it whatever the files have; where the store
 -- fails nothing is, so without its file the answer would be that it isn't there.
-pub record IsRefusedUnread (o : Option Files) (last_failure : LastFailure) (t : State) (location : SourceLocation) (x : Statement) (e : AsmFault) : Type 0 where
+pub record IsRejectedUnread (o : Option Files) (last_failure : LastFailure) (t : State) (location : SourceLocation) (x : Statement) (e : AsmFault) : Type 0 where
   pub inside : Unless (is_system_error e) ((m : Files) → StepsTo t location (with_bytes m location x) (Err e))
   pub failed : is_failure e ≡ true → AnswersWithoutFile o last_failure (λ m t. StepsTo t location (with_bytes m location x)) t (Err FileNotFound)
 
 -- ---- The result of a piece.
 
 -- the files of a pending piece, and its location
-abbrev pub files_here : FixupLocation → List (List ℕ)
-files_here t = map string_bytes t.files.now
+abbrev pub fixup_files : FixupLocation → List (List ℕ)
+fixup_files t = map string_bytes t.files.now
 
-abbrev pub place_here : FixupLocation → SourceLocation
-place_here t = place_by (files_here t) t.pos
+abbrev pub location_of_fixup : FixupLocation → SourceLocation
+location_of_fixup t = location_of_pos (fixup_files t) t.pos
 
 -- an entry of it
-abbrev pub entry_at : FixupLocation → SectionEntry → Content
-entry_at t e = content_of (files_here t) e
+abbrev pub entry_content : FixupLocation → SectionEntry → Content
+entry_content t e = content_of (fixup_files t) e
 
 -- what is put or said, and the warning of an assertion that failed
-abbrev pub made_at : FixupLocation → code.ResolvedPiece → PieceResult
-made_at t m = record {
-  content = unwrap_or (option_map (entry_at t) m.entry) (declaration_content []);
-  warning = unwrap_or (option_map (warning_at (place_here t)) m.warning) [];
+abbrev pub result_of_piece : FixupLocation → code.ResolvedPiece → PieceResult
+result_of_piece t m = record {
+  content = unwrap_or (option_map (entry_content t) m.entry) (declaration_content []);
+  warning = unwrap_or (option_map (warning_at (location_of_fixup t)) m.warning) [];
 }
 
 -- the location of an entry, if it has one and isn't pending
-abbrev pub StandsWhere : SourcePos → SectionEntry → Type 0
-StandsWhere pos (entry.Value width g o f) = o ≡ pos
-StandsWhere pos (entry.DeclarationEntry t) = t.value.pos ≡ pos
-StandsWhere pos (entry.FixupEntry w) = ⊥
-StandsWhere pos _ = ⊤
+abbrev pub HasLocation : SourcePos → SectionEntry → Type 0
+HasLocation pos (entry.Value width g o f) = o ≡ pos
+HasLocation pos (entry.DeclarationEntry t) = t.value.pos ≡ pos
+HasLocation pos (entry.FixupEntry w) = ⊥
+HasLocation pos _ = ⊤
 
-abbrev pub StandsAt : SourcePos → code.ResolvedPiece → Type 0
-StandsAt pos m = IfSome m.entry (StandsWhere pos)
+abbrev pub PieceHasLocation : SourcePos → code.ResolvedPiece → Type 0
+PieceHasLocation pos m = IfSome m.entry (HasLocation pos)
 
 -- an entry may replace a content
 abbrev pub CanReplace : List (List ℕ) → Content → SectionEntry → Type 0
-CanReplace files c e = AreSlotsAlike (resolved c ∷ []) (slot_of files e ∷ [])
+CanReplace files c e = AreEquivalentSlots (resolved c ∷ []) (slot_of files e ∷ [])
 
 -- the result of a declaration that is written with its location
 abbrev pub declaration_result : SourceLocation → Declaration → Result PieceResult AsmFault
-declaration_result location s = located_declarations location (said_at location s ∷ []) >>= as_said
+declaration_result location s = with_file_name_check location (declaration_at location s ∷ []) >>= declarations_result
 
 -- a name that isn't defined is none of these
-abbrev pub HasDefined : Symbols → List (List ℕ) → Type 0
-HasDefined y names = (n : List ℕ) → definition_index y (named 0 n) ≡ None → list_any (bytes_eq n) names ≡ false
+abbrev pub AreDefinedNames : Symbols → List (List ℕ) → Type 0
+AreDefinedNames y names = (n : List ℕ) → definition_index y (named 0 n) ≡ None → list_any (bytes_eq n) names ≡ false
 
 -- ---- Behind the last line.
 
 -- what was found is so by a symbol table: forms of constants, and that names which were exported are defined
-pub record IsFoundBy (y : Symbols) (e : ResolveState) : Type 0 where
-  pub forms : IsTable y e.known
-  pub names : HasDefined y (names_of e.exported)
+pub record IsResolveState (y : Symbols) (e : ResolveState) : Type 0 where
+  pub forms : IsFormCache y e.known
+  pub names : AreDefinedNames y (names_of e.exported)
 
 -- entries that refer to these files, and declare nothing yet
-pub record AreFed (files : List (List ℕ)) (es : List SectionEntry) : Type 0 where
-  pub standing : StandIn (length files) es
-  pub unsaid : all_said (contents_so_far (map (slot_of files) es)) ≡ []
+pub record AreInitialEntries (files : List (List ℕ)) (es : List SectionEntry) : Type 0 where
+  pub standing : HaveFilesBelow (length files) es
+  pub no_declarations : all_declarations (contents_so_far (map (slot_of files) es)) ≡ []
 
 -- a slot is resolved to its content, which an entry represents, and its warning is printed
-pub record IsSettled (y : Symbols) (files : List (List ℕ)) (x : Slot) (e : SectionEntry) (old new : ResolveState) : Type 0 where
+pub record IsResolvedSlot (y : Symbols) (files : List (List ℕ)) (x : Slot) (e : SectionEntry) (old new : ResolveState) : Type 0 where
   pub made : PieceResult
   pub found : slot_result y (names_of old.exported) x ≡ Ok made
   pub entry : CanReplace files made.content e
-  pub standing : stands_in (length files) e ≡ true
+  pub standing : has_file_below (length files) e ≡ true
   pub names : names_of new.exported ≡ names_of old.exported ++ exported_names made.content.said
   pub err : new.err ≡ old.err ++ made.warning
 
 -- it has a fault instead, and nothing is said
-pub record IsFaulty (y : Symbols) (x : Slot) (e : Diagnostic) (old new : ResolveState) : Type 0 where
-  pub found : slot_result y (names_of old.exported) x ≡ Err (placed_of e)
+pub record IsFaultySlot (y : Symbols) (x : Slot) (e : Diagnostic) (old new : ResolveState) : Type 0 where
+  pub found : slot_result y (names_of old.exported) x ≡ Err (located_fault e)
   pub err : new.err ≡ old.err
 
 -- what a call leaves that isn't refused
-abbrev pub leaving : {A : Type 0} → A → Result Unit Diagnostic → Result A Diagnostic
-leaving a (Ok u) = Ok a
-leaving a (Err e) = Err e
+abbrev pub result_with : {A : Type 0} → A → Result Unit Diagnostic → Result A Diagnostic
+result_with a (Ok u) = Ok a
+result_with a (Err e) = Err e
 
 abbrev pub ResolvesSlot : Symbols → List (List ℕ) → Slot → ResolveState → ResolveState → Result SectionEntry Diagnostic → Type 0
-ResolvesSlot y files x old new (Ok e) = IsSettled y files x e old new
-ResolvesSlot y files x old new (Err e) = Unless (is_diagnostic_system_error e) (IsFaulty y x e old new)
+ResolvesSlot y files x old new (Ok e) = IsResolvedSlot y files x e old new
+ResolvesSlot y files x old new (Err e) = Unless (is_diagnostic_system_error e) (IsFaultySlot y x e old new)
 
 -- all slots are resolved to contents, which the entries represent
-pub record AreSettled (y : Symbols) (files : List (List ℕ)) (xs : List Slot) (es : List SectionEntry) (old new : ResolveState) :
+pub record AreResolvedSlots (y : Symbols) (files : List (List ℕ)) (xs : List Slot) (es : List SectionEntry) (old new : ResolveState) :
     Type 0 where
   pub contents : List Content
   pub said : List ℕ
-  pub found : resolution_of y (names_of old.exported) xs ≡ record { found = Ok contents; warned = said }
-  pub entries : AreSlotsAlike (map resolved contents) (map (slot_of files) es)
-  pub standing : StandIn (length files) es
+  pub found : resolution_of y (names_of old.exported) xs ≡ record { found = Ok contents; printed_warnings = said }
+  pub entries : AreEquivalentSlots (map resolved contents) (map (slot_of files) es)
+  pub standing : HaveFilesBelow (length files) es
   pub err : new.err ≡ old.err ++ said
 
 -- there is a first error, after the warnings of the slots before it
-pub record AreFaulty (y : Symbols) (names : List (List ℕ)) (xs : List Slot) (e : Diagnostic) (old new : List ℕ) :
+pub record AreFaultySlots (y : Symbols) (names : List (List ℕ)) (xs : List Slot) (e : Diagnostic) (old new : List ℕ) :
     Type 0 where
   pub said : List ℕ
-  pub found : resolution_of y names xs ≡ record { found = Err (placed_of e); warned = said }
+  pub found : resolution_of y names xs ≡ record { found = Err (located_fault e); printed_warnings = said }
   pub err : new ≡ old ++ said
 
-abbrev pub SettlesAll :
+abbrev pub ResolvesSlots :
     Symbols → List (List ℕ) → List Slot → ResolveState → ResolveState → Result (List SectionEntry) Diagnostic → Type 0
-SettlesAll y files xs old new (Ok es) = AreSettled y files xs es old new
-SettlesAll y files xs old new (Err e) =
-    Unless (is_diagnostic_system_error e) (AreFaulty y (names_of old.exported) xs e old.err new.err)
+ResolvesSlots y files xs old new (Ok es) = AreResolvedSlots y files xs es old new
+ResolvesSlots y files xs old new (Err e) =
+    Unless (is_diagnostic_system_error e) (AreFaultySlots y (names_of old.exported) xs e old.err new.err)
 
 -- slots are resolved to contents, and this is their object; it can be written if the conditions on the
 -- contents hold
@@ -301,13 +301,13 @@ pub record IsObjectOf (y : Symbols) (segments : List Segment) (xs : List Slot) (
     Type 0 where
   pub contents : List Content
   pub said : List ℕ
-  pub found : resolution_of y [] xs ≡ record { found = Ok contents; warned = said }
+  pub found : resolution_of y [] xs ≡ record { found = Ok contents; printed_warnings = said }
   pub object : o ≡ object_with segments y.imports contents
-  pub good : AreSound segments y.imports contents → is_well_formed_object o ≡ true
+  pub good : AreWellFormedContents segments y.imports contents → is_well_formed_object o ≡ true
   pub err : new ≡ old ++ said
 
 -- the object of slots, or their first error, and the output before and after
-abbrev pub ComesTo :
+abbrev pub RefinesObject :
     Symbols → List Segment → List Slot → (old new : List ℕ) → Result Object Diagnostic → Type 0
-ComesTo y segments xs old new (Ok o) = IsObjectOf y segments xs o old new
-ComesTo y segments xs old new (Err e) = Unless (is_diagnostic_system_error e) (AreFaulty y [] xs e old new)
+RefinesObject y segments xs old new (Ok o) = IsObjectOf y segments xs o old new
+RefinesObject y segments xs old new (Err e) = Unless (is_diagnostic_system_error e) (AreFaultySlots y [] xs e old new)

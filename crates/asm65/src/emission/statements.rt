@@ -1,19 +1,19 @@
 //! Emits the contents of statements that define no name.
 
 ghost use Rattle.std.specs.Prelude.{◌≡◌, ◌∷◌, [], OnOk, Some, map};
-ghost use Rattle.semantics65.specs.Contents.{operand_tree, file_bytes, opcode_part, room_part, Known};
+ghost use Rattle.semantics65.specs.Contents.{operand_tree, file_bytes, opcode_part, reserve_part, Known};
 ghost use Rattle.semantics65.specs.Norms.{width_of};
 ghost use Rattle.symbols65.specs.Views.{table_of};
 ghost use Rattle.symbols65.specs.Evaluations.{HasFinal, HaveFinals};
 ghost use Rattle.std.specs.Vec.Iter.{into_iter_items};
-ghost use Rattle.asm65.specs.Internal.AssemblerState.{EmitsPieces, IsNext, KeepsTables};
+ghost use Rattle.asm65.specs.Internal.AssemblerState.{EmitsPieces, IsNextForm, ChangesOnlySections};
 ghost use Rattle.syntax65.specs.declared.source_location.SourceLocation.{SourceLocation};
-ghost use Rattle.semantics65.specs.Views.{place_at};
-ghost use Rattle.semantics65.specs.Module.{datum, given, item_piece, operand_pieces, valued};
+ghost use Rattle.semantics65.specs.Views.{location_of_ref};
+ghost use Rattle.semantics65.specs.Module.{datum, known_part, item_piece, operand_pieces, expression_value};
 ghost use Rattle.ast65.specs.Items.{literal_item};
 
 use super::PieceContext;
-use super::values::{ValueUse, bytes_of, defer, file_bytes, items_of, put_value};
+use super::values::{ValueUse, bytes_of, defer, emit_value, file_bytes, items_of};
 use crate::assembler::Assembler;
 use ast65::{Item, Items, ItemsKind, Operand};
 use base65::ListVec;
@@ -58,8 +58,8 @@ pub fn emit_opcode(
     code: Option<u8>,
 ) -> Result<(), AllocError>
     ensures entered { OnOk result ((location : SourceLocation) → EmitsPieces location context
-        (given (opcode_part code) ∷ []) assembler.old assembler.new) }
-    ensures tables { KeepsTables assembler.old assembler.new }
+        (known_part (opcode_part code) ∷ []) assembler.old assembler.new) }
+    ensures tables { ChangesOnlySections assembler.old assembler.new }
 {
     match code {
         Some(code) => assembler.sections.append(context.segment, &[code]),
@@ -69,7 +69,7 @@ pub fn emit_opcode(
 
 /// Emits the value of an operand at once if its form is final and has no error, else defers it.
 #[inline(always)]
-pub fn enter_operand(
+pub fn emit_operand(
     alloc: Global,
     assembler: &mut Assembler,
     site: PieceContext<'_>,
@@ -79,12 +79,12 @@ pub fn enter_operand(
 ) -> Result<(), AllocError>
     requires { HasFinal (table_of assembler.old.symbols) site.context (operand_tree operand) form }
     ensures { OnOk result (EmitsPieces
-        (place_at site.entry.at) site.entry.context
+        (location_of_ref site.entry.at) site.entry.context
         (operand_pieces width (operand_tree operand)) assembler.old assembler.new) }
 {
     match (width, operand_value(operand)) {
         (Some(width), Some(value)) => {
-            if put_value(alloc, assembler, site, form, ValueUse::Operand(width))? {
+            if emit_value(alloc, assembler, site, form, ValueUse::Operand(width))? {
                 return Ok(());
             }
             defer(assembler, site, FixupKind::Operand { width, value })
@@ -95,7 +95,7 @@ pub fn enter_operand(
 
 /// Returns the form of the next element of a list, if it has a final one.
 fn next_form(forms: &mut IntoIter<Option<Norm>>) -> Option<Norm>
-    ensures { IsNext (into_iter_items forms.old) result (into_iter_items forms.new) }
+    ensures { IsNextForm (into_iter_items forms.old) result (into_iter_items forms.new) }
 {
     match forms.next() {
         Some(form) => form,
@@ -105,7 +105,7 @@ fn next_form(forms: &mut IntoIter<Option<Norm>>) -> Option<Norm>
 
 /// Emits an element of a list at once if its form is final and has no error, else defers it.
 #[inline(always)]
-fn enter_element(
+fn emit_element(
     alloc: Global,
     assembler: &mut Assembler,
     site: PieceContext<'_>,
@@ -115,18 +115,18 @@ fn enter_element(
 ) -> Result<(), AllocError>
     requires { HasFinal (table_of assembler.old.symbols) site.context (Some value) form }
     ensures entered { OnOk result (EmitsPieces
-        (place_at site.entry.at) site.entry.context
-        (valued (datum width) value ∷ []) assembler.old assembler.new) }
-    ensures tables { KeepsTables assembler.old assembler.new }
+        (location_of_ref site.entry.at) site.entry.context
+        (expression_value (datum width) value ∷ []) assembler.old assembler.new) }
+    ensures tables { ChangesOnlySections assembler.old assembler.new }
 {
-    if put_value(alloc, assembler, site, form, ValueUse::Element(width))? {
+    if emit_value(alloc, assembler, site, form, ValueUse::Datum(width))? {
         return Ok(());
     }
     defer(assembler, site, FixupKind::Datum { width, value })
 }
 
 /// Emits a list of expressions and strings.
-fn enter_mixed(
+fn emit_mixed(
     alloc: Global,
     assembler: &mut Assembler,
     site: PieceContext<'_>,
@@ -136,14 +136,14 @@ fn enter_mixed(
 ) -> Result<(), AllocError>
     requires { HaveFinals (table_of assembler.old.symbols) site.context items forms.items }
     ensures { OnOk result (EmitsPieces
-        (place_at site.entry.at) site.entry.context
+        (location_of_ref site.entry.at) site.entry.context
         (map (item_piece width) items) assembler.old assembler.new) }
 {
     let mut forms = forms.into_iter();
     for item in items.into_vec() {
         let form = next_form(&mut forms);
         match item {
-            Item::Value(value) => enter_element(alloc, assembler, site, width, value, form)?,
+            Item::Value(value) => emit_element(alloc, assembler, site, width, value, form)?,
             Item::StringLiteral(bytes) => {
                 assembler
                     .sections
@@ -155,7 +155,7 @@ fn enter_mixed(
 }
 
 /// Emits a list of numbers: their bytes together if each number is in range, else one by one.
-fn enter_numbers(
+fn emit_numbers(
     alloc: Global,
     assembler: &mut Assembler,
     site: PieceContext<'_>,
@@ -163,7 +163,7 @@ fn enter_numbers(
     numbers: &[u32],
 ) -> Result<(), AllocError>
     ensures { OnOk result (EmitsPieces
-        (place_at site.entry.at) site.entry.context
+        (location_of_ref site.entry.at) site.entry.context
         (map (item_piece width) (map literal_item numbers.now)) assembler.old assembler.new) }
 {
     match bytes_of(alloc, width, numbers)? {
@@ -172,7 +172,7 @@ fn enter_numbers(
             .append(site.context.segment, bytes.as_slice()),
         None => {
             let items = items_of(alloc, numbers)?;
-            enter_mixed(alloc, assembler, site, width, items, Vec::new(alloc))
+            emit_mixed(alloc, assembler, site, width, items, Vec::new(alloc))
         }
     }
 }
@@ -189,14 +189,14 @@ pub fn emit_values(
 ) -> Result<(), AllocError>
     requires { HaveFinals (table_of assembler.old.symbols) site.context items forms.items }
     ensures { OnOk result (EmitsPieces
-        (place_at site.entry.at) site.entry.context
+        (location_of_ref site.entry.at) site.entry.context
         (map (item_piece width) items) assembler.old assembler.new) }
 {
     match items.into_kind() {
         ItemsKind::Numbers(numbers) => {
-            enter_numbers(alloc, assembler, site, width, numbers.as_slice())
+            emit_numbers(alloc, assembler, site, width, numbers.as_slice())
         }
-        ItemsKind::Mixed(items) => enter_mixed(alloc, assembler, site, width, items, forms),
+        ItemsKind::Mixed(items) => emit_mixed(alloc, assembler, site, width, items, forms),
     }
 }
 
@@ -206,12 +206,12 @@ pub fn emit_reserve(
     assembler: &mut Assembler,
     context: Context,
     count: u32,
-    settled: EncodingChoice,
+    encoding: EncodingChoice,
 ) -> Result<(), AllocError>
     ensures { OnOk result ((location : SourceLocation) → EmitsPieces location context
-        (given (room_part count settled) ∷ []) assembler.old assembler.new) }
+        (known_part (reserve_part count encoding) ∷ []) assembler.old assembler.new) }
 {
-    match settled {
+    match encoding {
         EncodingChoice::FillByte(byte) => assembler.sections.fill(context.segment, count, byte),
         _ => assembler.sections.reserve_bytes(context.segment, count),
     }
@@ -223,12 +223,12 @@ pub fn emit_incbin(
     assembler: &mut Assembler,
     context: Context,
     count: u32,
-    settled: EncodingChoice,
+    encoding: EncodingChoice,
     bytes: Option<ListVec<u8>>,
 ) -> Result<(), AllocError>
     ensures { OnOk result ((location : SourceLocation) → EmitsPieces location context
-        (given (Known (file_bytes count bytes settled)) ∷ []) assembler.old assembler.new) }
+        (known_part (Known (file_bytes count bytes encoding)) ∷ []) assembler.old assembler.new) }
 {
-    let part = file_bytes(&bytes, settled, count);
+    let part = file_bytes(&bytes, encoding, count);
     assembler.sections.append(context.segment, part)
 }

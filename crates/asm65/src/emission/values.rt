@@ -3,15 +3,15 @@
 ghost use Rattle.std.specs.Prelude.{◌≡◌, drop, IfOk, IfSome, List, map, Ok, OnOk, Some, take, ℕ};
 ghost use Rattle.semantics65.specs.Contents.{file_bytes, section_part, value_part, Known};
 ghost use Rattle.ast65.specs.Items.{literal_item};
-ghost use Rattle.semantics65.specs.Views.{place_at};
+ghost use Rattle.semantics65.specs.Views.{location_of_ref};
 ghost use Rattle.symbols65.specs.Evaluations.{HasFinal};
 ghost use Rattle.symbols65.specs.Views.{table_of};
-ghost use Rattle.asm65.specs.Internal.AssemblerState.{AreStored, IsPut, operand_stored, KeepsTables, DefersPiece, EmitsIfResolved, purpose_of};
+ghost use Rattle.asm65.specs.Internal.AssemblerState.{AreEncodedNumbers, AppendsPart, operand_part, ChangesOnlySections, DefersPiece, EmitsIfResolved, purpose_of};
 ghost use Rattle.base65.specs.Outcome.{Refines};
-ghost use Rattle.ast65.specs.Faults.{is_memory};
+ghost use Rattle.ast65.specs.Faults.{is_out_of_memory};
 ghost use Rattle.object65.specs.Objects.{is_file_name};
 ghost use Rattle.emit65.specs.SectionContents.{piece_of};
-ghost use Rattle.semantics65.specs.Module.{valued};
+ghost use Rattle.semantics65.specs.Module.{expression_value};
 ghost use Rattle.base65.specs.declared.action.Action.{Action};
 ghost use Rattle.syntax65.specs.Trees.{Tree};
 
@@ -34,7 +34,7 @@ pub fn bytes_of(
     width: Width,
     numbers: &[u32],
 ) -> Result<Option<ListVec<u8>>, AllocError>
-    ensures { IfOk result (λ o. IfSome o (AreStored width numbers.now)) }
+    ensures { IfOk result (λ o. IfSome o (AreEncodedNumbers width numbers.now)) }
 {
     let mut bytes = ListVec::from_vec(Vec::with_capacity(alloc, numbers.len())?);
     for number in numbers {
@@ -63,15 +63,15 @@ pub fn items_of(alloc: Global, numbers: &[u32]) -> Result<ListVec<Item>, AllocEr
 
 /// Emits the stored value of a form into the section of a segment, if it has no error. Returns
 /// whether it did.
-pub fn put_form(
+pub fn emit_form(
     sections: &mut Sections,
     segment: u32,
     width: Width,
     at: LocationRef<'_>,
     form: Norm,
 ) -> Result<bool, AllocError>
-    ensures { IfOk result (IsPut sections.old sections.new segment
-        (value_part width (place_at at.entry) form)) }
+    ensures { IfOk result (AppendsPart sections.old sections.new segment
+        (value_part width (location_of_ref at.entry) form)) }
 {
     match literal_of(&form) {
         Some(value) if fits(width, value) => {
@@ -87,19 +87,19 @@ pub fn put_form(
 }
 
 /// Emits the stored form of an operand, if it has no error. Returns whether it did.
-fn put_operand(
+fn emit_operand_form(
     alloc: Global,
     sections: &mut Sections,
     site: PieceContext<'_>,
     width: Width,
     form: Norm,
 ) -> Result<bool, AllocError>
-    ensures { IfOk result (IsPut sections.old sections.new site.entry.context.segment
-        (operand_stored width site.entry.context
-        (place_at site.entry.at) form)) }
+    ensures { IfOk result (AppendsPart sections.old sections.new site.entry.context.segment
+        (operand_part width site.entry.context
+        (location_of_ref site.entry.at) form)) }
 {
     match operand_form(alloc, width, site.context, form) {
-        Ok(form) => put_form(sections, site.context.segment, width, site.at, form),
+        Ok(form) => emit_form(sections, site.context.segment, width, site.at, form),
         Err(fault) if fault.is_memory() => Err(AllocError),
         // A fault is reported after the last line.
         Err(_) => Ok(false),
@@ -107,10 +107,10 @@ fn put_operand(
 }
 
 /// Returns `count` bytes of a file from the offset of the encoding; none if there is no file.
-pub fn file_bytes(bytes: &Option<ListVec<u8>>, settled: EncodingChoice, count: u32) -> &[u8]
-    ensures { result.now ≡ file_bytes count bytes.now settled }
+pub fn file_bytes(bytes: &Option<ListVec<u8>>, encoding: EncodingChoice, count: u32) -> &[u8]
+    ensures { result.now ≡ file_bytes count bytes.now encoding }
 {
-    match (bytes, settled) {
+    match (bytes, encoding) {
         (Some(bytes), EncodingChoice::FileOffset(start)) => {
             let bytes = bytes.as_slice();
             let (_, rest) = bytes.split_at(bytes.len().min(start as usize));
@@ -136,24 +136,25 @@ pub fn defer(
     piece: FixupKind,
 ) -> Result<(), AllocError>
     ensures waits { OnOk result (DefersPiece
-        (place_at site.entry.at) site.entry.context
+        (location_of_ref site.entry.at) site.entry.context
         (piece_of piece) assembler.old assembler.new) }
-    ensures tables { KeepsTables assembler.old assembler.new }
+    ensures tables { ChangesOnlySections assembler.old assembler.new }
 {
     assembler.sections.defer(site.at, site.context, piece)
 }
 
-/// The use of a value: an element of a list or an operand, which is stored, or an assertion.
+/// The use of a value: it is stored as an element of a list or as an operand, or it is asserted.
 #[derive(Clone, Copy)]
 pub enum ValueUse {
-    Element(Width),
+    Datum(Width),
     Operand(Width),
     Assertion,
 }
 
-/// Emits a value if its form is final and has no error. Returns whether it did.
+/// Emits a value if its form is final and has no error. Returns whether it did. If it didn't, the caller defers the value, so
+/// a fixup is built only if it is needed.
 #[inline(always)]
-pub fn put_value(
+pub fn emit_value(
     alloc: Global,
     assembler: &mut Assembler,
     site: PieceContext<'_>,
@@ -162,9 +163,9 @@ pub fn put_value(
 ) -> Result<bool, AllocError>
     ensures put { (e : Tree) (action : Action) (text : List ℕ) →
         HasFinal (table_of assembler.old.symbols) site.entry.context (Some e) form →
-        IfOk result (EmitsIfResolved (place_at site.entry.at) site.entry.context
-        (valued (purpose_of value_use action text) e) assembler.old assembler.new) }
-    ensures tables { KeepsTables assembler.old assembler.new }
+        IfOk result (EmitsIfResolved (location_of_ref site.entry.at) site.entry.context
+        (expression_value (purpose_of value_use action text) e) assembler.old assembler.new) }
+    ensures tables { ChangesOnlySections assembler.old assembler.new }
 {
     let Some(form) = form else {
         return Ok(false);
@@ -172,8 +173,8 @@ pub fn put_value(
     let segment = site.context.segment;
     let sections = &mut assembler.sections;
     match value_use {
-        ValueUse::Element(width) => put_form(sections, segment, width, site.at, form),
-        ValueUse::Operand(width) => put_operand(alloc, sections, site, width, form),
+        ValueUse::Datum(width) => emit_form(sections, segment, width, site.at, form),
+        ValueUse::Operand(width) => emit_operand_form(alloc, sections, site, width, form),
         // An assertion that holds emits nothing.
         ValueUse::Assertion => match literal_of(&form) {
             Some(value) => Ok(value != 0),

@@ -3,14 +3,14 @@
 ghost use Rattle.std.specs.Prelude.{◌≡◌, ◌<◌, ◌∷◌, [], false, length, map, option_map, take, IfOk, IfSome, None, Ok};
 ghost use Rattle.syntax65.specs.Tokens.{lexemes};
 ghost use Rattle.ast65.specs.Items.{literal_item};
-ghost use Rattle.ast65.specs.declared.reading.words.ElementKind.{ElementKind};
-ghost use Rattle.ast65.specs.Parsing.{parts_after, parts_of, string_of, EachIs, IsDirective, IsItem, IsName, IsRange, RefinesParse, action_word, lone_statement, words_of};
-ghost use Rattle.ast65.specs.declared.reading.words.Directive.TheVariants as directive;
+ghost use Rattle.ast65.specs.declared.reading.keywords.ElementKind.{ElementKind};
+ghost use Rattle.ast65.specs.Parsing.{elements_after_comma, list_elements, string_of, MapsEach, IsDirective, IsItem, IsName, IsRange, RefinesParse, action_keyword, bare_statement, assertion_text};
+ghost use Rattle.ast65.specs.declared.reading.keywords.Directive.TheVariants as directive;
 ghost use Rattle.ast65.specs.declared.language.Statement.TheVariants.{Segment};
 
-use super::operands::{expression, first_part, number_in, one_or_two};
-use super::tokens::{is_comma, name_of, ok_or_not_understood, string_of, word_of};
-use super::words::{BareDirective, ElementKind, Message, NameListDirective, SizedDirective};
+use super::keywords::{BareDirective, ElementKind, Message, NameListDirective, SizedDirective};
+use super::operands::{expression, number_in, one_or_two, split_at_comma};
+use super::tokens::{identifier_of, is_comma, name_of, ok_or_not_understood, string_of};
 use crate::fault::AsmFault;
 use crate::language::{Item, Items, ItemsKind, OptionalExpr, Statement};
 use base65::{Action, ListVec, Width};
@@ -32,7 +32,7 @@ fn item(alloc: Global, elements: ElementKind, tokens: &[Token<'_>]) -> Result<It
 
 /// Returns an empty list with capacity for the elements of `count` tokens, which have commas
 /// between them.
-fn no_elements<T: Drop>(alloc: Global, count: usize) -> Result<ListVec<T>, AllocError>
+fn empty_list<T: Drop>(alloc: Global, count: usize) -> Result<ListVec<T>, AllocError>
     ensures { IfOk result (λ elements. elements ≡ []) }
 {
     Ok(ListVec::from_vec(Vec::with_capacity(alloc, count / 2 + 1)?))
@@ -42,8 +42,8 @@ fn no_elements<T: Drop>(alloc: Global, count: usize) -> Result<ListVec<T>, Alloc
 /// the comma, if there is one.
 #[inline(always)]
 fn first_number<'a, 'b>(tokens: &'b [Token<'a>]) -> Option<(u32, Option<&'b [Token<'a>]>)>
-    ensures parts { IfSome result (λ x. parts_of (lexemes tokens.now) ≡ lexemes (take 1 tokens.now)
-        ∷ parts_after (option_map (λ rest. lexemes rest.now) x.1)) }
+    ensures parts { IfSome result (λ x. list_elements (lexemes tokens.now) ≡ lexemes (take 1 tokens.now)
+        ∷ elements_after_comma (option_map (λ rest. lexemes rest.now) x.1)) }
     ensures item { IfSome result (λ x. (elements : ElementKind) →
         IsItem elements (lexemes (take 1 tokens.now)) (Ok (literal_item x.0))) }
     ensures shorter { IfSome result (λ x. IfSome x.1 (λ rest. length rest.now < length tokens.now)) }
@@ -65,9 +65,9 @@ fn first_number<'a, 'b>(tokens: &'b [Token<'a>]) -> Option<(u32, Option<&'b [Tok
 /// Parses a list that consists of numbers separated by commas.
 fn numbers(alloc: Global, tokens: &[Token<'_>]) -> Result<Option<ListVec<u32>>, AllocError>
     ensures { IfOk result (λ numbers. IfSome numbers (λ ns. (elements : ElementKind) →
-        EachIs (IsItem elements) (parts_of (lexemes tokens.now)) (Ok (map literal_item ns)))) }
+        MapsEach (IsItem elements) (list_elements (lexemes tokens.now)) (Ok (map literal_item ns)))) }
 {
-    let mut numbers = no_elements(alloc, tokens.len())?;
+    let mut numbers = empty_list(alloc, tokens.len())?;
     let mut rest = Some(tokens);
     'parts: while let Some(left) = rest {
         let Some((number, following)) = first_number(left) else {
@@ -85,12 +85,12 @@ fn mixed(
     elements: ElementKind,
     tokens: &[Token<'_>],
 ) -> Result<ListVec<Item>, AsmFault>
-    ensures { RefinesParse result (EachIs (IsItem elements) (parts_of (lexemes tokens.now))) }
+    ensures { RefinesParse result (MapsEach (IsItem elements) (list_elements (lexemes tokens.now))) }
 {
-    let mut items = no_elements(alloc, tokens.len())?;
+    let mut items = empty_list(alloc, tokens.len())?;
     let mut rest = Some(tokens);
     'parts: while let Some(left) = rest {
-        let (part, following) = first_part(left);
+        let (part, following) = split_at_comma(left);
         items.push(item(alloc, elements, part)?)?;
         rest = following;
     }
@@ -99,7 +99,7 @@ fn mixed(
 
 /// Parses elements separated by commas.
 pub fn items(alloc: Global, elements: ElementKind, tokens: &[Token<'_>]) -> Result<Items, AsmFault>
-    ensures { RefinesParse result (EachIs (IsItem elements) (parts_of (lexemes tokens.now))) }
+    ensures { RefinesParse result (MapsEach (IsItem elements) (list_elements (lexemes tokens.now))) }
 {
     if let Some(numbers) = numbers(alloc, tokens)? {
         return Ok(Items::new(ItemsKind::Numbers(numbers)));
@@ -122,7 +122,7 @@ pub fn list(
 }
 
 /// Parses `.asciiz`: a string, followed by a byte 0.
-pub fn ended_text(alloc: Global, tokens: &[Token<'_>]) -> Result<Statement, AsmFault>
+pub fn asciiz(alloc: Global, tokens: &[Token<'_>]) -> Result<Statement, AsmFault>
     ensures { RefinesParse result (IsDirective directive.Asciiz (lexemes tokens.now)) }
 {
     let text = ok_or_not_understood(string_of(tokens))?;
@@ -139,12 +139,12 @@ pub fn ended_text(alloc: Global, tokens: &[Token<'_>]) -> Result<Statement, AsmF
 
 /// Parses names separated by commas.
 fn names(alloc: Global, tokens: &[Token<'_>]) -> Result<ListVec<ListVec<u8>>, AsmFault>
-    ensures { RefinesParse result (EachIs IsName (parts_of (lexemes tokens.now))) }
+    ensures { RefinesParse result (MapsEach IsName (list_elements (lexemes tokens.now))) }
 {
     let mut names = ListVec::new(alloc);
     let mut rest = Some(tokens);
     'parts: while let Some(left) = rest {
-        let (part, following) = first_part(left);
+        let (part, following) = split_at_comma(left);
         names.push(ListVec::copy_of(alloc, name_of(part)?)?)?;
         rest = following;
     }
@@ -169,11 +169,11 @@ pub fn name_list(
 }
 
 /// An optional start and an optional length.
-type PartRange = (OptionalExpr, OptionalExpr);
+type StartAndLength = (OptionalExpr, OptionalExpr);
 
 /// Parses the operands after the name of a file.
-fn range(alloc: Global, following: Option<&[Token<'_>]>) -> Result<PartRange, AsmFault>
-    ensures { RefinesParse result (IsRange (parts_after (option_map (λ rest. lexemes rest.now) following.entry))) }
+fn range(alloc: Global, following: Option<&[Token<'_>]>) -> Result<StartAndLength, AsmFault>
+    ensures { RefinesParse result (IsRange (elements_after_comma (option_map (λ rest. lexemes rest.now) following.entry))) }
 {
     let Some(following) = following else {
         return Ok((OptionalExpr::none(), OptionalExpr::none()));
@@ -183,10 +183,10 @@ fn range(alloc: Global, following: Option<&[Token<'_>]>) -> Result<PartRange, As
 }
 
 /// Parses `.incbin`.
-pub fn file_part(alloc: Global, tokens: &[Token<'_>]) -> Result<Statement, AsmFault>
+pub fn incbin(alloc: Global, tokens: &[Token<'_>]) -> Result<Statement, AsmFault>
     ensures { RefinesParse result (IsDirective directive.Incbin (lexemes tokens.now)) }
 {
-    let (name, following) = first_part(tokens);
+    let (name, following) = split_at_comma(tokens);
     let name = ok_or_not_understood(string_of(name))?;
     let (start, len) = range(alloc, following)?;
     let name = ListVec::copy_of(alloc, name)?;
@@ -194,21 +194,21 @@ pub fn file_part(alloc: Global, tokens: &[Token<'_>]) -> Result<Statement, AsmFa
 }
 
 /// Parses `n[,v]`.
-pub fn amount(
+pub fn sized(
     alloc: Global,
     which: SizedDirective,
     tokens: &[Token<'_>],
 ) -> Result<Statement, AsmFault>
-    ensures { RefinesParse result (IsDirective (directive.Amount which) (lexemes tokens.now)) }
+    ensures { RefinesParse result (IsDirective (directive.Sized which) (lexemes tokens.now)) }
 {
-    let (amount, value) = one_or_two(alloc, tokens)?;
+    let (sized, value) = one_or_two(alloc, tokens)?;
     Ok(match which {
         SizedDirective::Reserve => Statement::Reserve {
-            count: amount,
+            count: sized,
             value,
         },
         SizedDirective::Align => Statement::Align {
-            alignment: amount,
+            alignment: sized,
             value,
         },
     })
@@ -217,21 +217,21 @@ pub fn amount(
 /// The maximum length of an assertion's text in bytes.
 const MAX_TEXT: usize = 255;
 
-fn action_word(word: &[u8]) -> Result<Action, AsmFault>
-    ensures { result ≡ action_word word.now }
+fn action_keyword(keyword: &[u8]) -> Result<Action, AsmFault>
+    ensures { result ≡ action_keyword keyword.now }
 {
-    if word == b"warning".as_slice() {
+    if keyword == b"warning".as_slice() {
         Ok(Action::Warning)
-    } else if word == b"error".as_slice() {
+    } else if keyword == b"error".as_slice() {
         Ok(Action::Error)
     } else {
         Err(AsmFault::NotUnderstood)
     }
 }
 
-/// Parses the text that an assertion gives.
-fn own_text(alloc: Global, tokens: &[Token<'_>]) -> Result<ListVec<u8>, AsmFault>
-    ensures { RefinesParse result (λ r. r ≡ words_of (lexemes tokens.now ∷ [])) }
+/// Parses the text of an assertion that has one.
+fn explicit_text(alloc: Global, tokens: &[Token<'_>]) -> Result<ListVec<u8>, AsmFault>
+    ensures { RefinesParse result (λ r. r ≡ assertion_text (lexemes tokens.now ∷ [])) }
 {
     let text = ok_or_not_understood(string_of(tokens))?;
     if text.len() > MAX_TEXT {
@@ -241,16 +241,16 @@ fn own_text(alloc: Global, tokens: &[Token<'_>]) -> Result<ListVec<u8>, AsmFault
 }
 
 /// Returns the text of an assertion: the given or the default one.
-fn text_of(alloc: Global, rest: Option<&[Token<'_>]>) -> Result<ListVec<u8>, AsmFault>
-    ensures { RefinesParse result (λ r. r ≡ words_of (parts_after (option_map (λ rest. lexemes rest.now) rest.entry))) }
+fn assertion_text(alloc: Global, rest: Option<&[Token<'_>]>) -> Result<ListVec<u8>, AsmFault>
+    ensures { RefinesParse result (λ r. r ≡ assertion_text (elements_after_comma (option_map (λ rest. lexemes rest.now) rest.entry))) }
 {
     let Some(rest) = rest else {
         return Ok(ListVec::copy_of(alloc, b"assertion failed")?);
     };
-    let (part, following) = first_part(rest);
+    let (part, following) = split_at_comma(rest);
     match following {
         Some(_) => Err(AsmFault::NotUnderstood),
-        None => own_text(alloc, part),
+        None => explicit_text(alloc, part),
     }
 }
 
@@ -258,14 +258,14 @@ fn text_of(alloc: Global, rest: Option<&[Token<'_>]>) -> Result<ListVec<u8>, Asm
 pub fn assertion(alloc: Global, tokens: &[Token<'_>]) -> Result<Statement, AsmFault>
     ensures { RefinesParse result (IsDirective directive.Assert (lexemes tokens.now)) }
 {
-    let (value, following) = first_part(tokens);
+    let (value, following) = split_at_comma(tokens);
     let Some(following) = following else {
         return Err(AsmFault::NotUnderstood);
     };
-    let (action, rest) = first_part(following);
+    let (action, rest) = split_at_comma(following);
     let value = expression(alloc, value)?;
-    let action = action_word(ok_or_not_understood(word_of(action))?)?;
-    let text = text_of(alloc, rest)?;
+    let action = action_keyword(ok_or_not_understood(identifier_of(action))?)?;
+    let text = assertion_text(alloc, rest)?;
     Ok(Statement::Assert {
         value,
         action,
@@ -282,8 +282,8 @@ fn standard_segment(alloc: Global, name: &[u8]) -> Result<Statement, AsmFault>
     })
 }
 
-fn lone_statement(alloc: Global, which: BareDirective) -> Result<Statement, AsmFault>
-    ensures { RefinesParse result (λ r. r ≡ Ok (lone_statement which)) }
+fn bare_statement(alloc: Global, which: BareDirective) -> Result<Statement, AsmFault>
+    ensures { RefinesParse result (λ r. r ≡ Ok (bare_statement which)) }
 {
     match which {
         BareDirective::PushSegment => Ok(Statement::PushSegment),
@@ -300,15 +300,15 @@ fn lone_statement(alloc: Global, which: BareDirective) -> Result<Statement, AsmF
 }
 
 /// Returns a statement without operands.
-pub fn lone(
+pub fn bare(
     alloc: Global,
     which: BareDirective,
     tokens: &[Token<'_>],
 ) -> Result<Statement, AsmFault>
-    ensures { RefinesParse result (IsDirective (directive.Lone which) (lexemes tokens.now)) }
+    ensures { RefinesParse result (IsDirective (directive.Bare which) (lexemes tokens.now)) }
 {
     if tokens.is_empty() {
-        lone_statement(alloc, which)
+        bare_statement(alloc, which)
     } else {
         Err(AsmFault::NotUnderstood)
     }

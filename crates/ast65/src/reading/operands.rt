@@ -2,16 +2,16 @@
 
 ghost use Rattle.std.specs.Prelude.{◌≡◌, ◌<◌, ◌≤◌, ◌∷◌, [], false, length, not, option_map, IfOk, IfSome, IsTrue, None, Ok, Some};
 ghost use Rattle.std.specs.List.{prefix_len};
-ghost use Rattle.syntax65.specs.Expressions.{IsParsed, binary_at, opening_of};
+ghost use Rattle.syntax65.specs.Expressions.{IsParsed, binary_at, operand_start_of};
 ghost use Rattle.syntax65.specs.Faults.{is_expr_system_error};
 ghost use Rattle.base65.specs.Relations.{RefinesRel};
 ghost use Rattle.syntax65.specs.Tokens.{lexeme_of, lexemes};
 ghost use Rattle.syntax65.specs.Trees.{number};
-ghost use Rattle.syntax65.specs.declared.expressions.words.OperandStart.TheVariants.{Number};
-ghost use Rattle.ast65.specs.Parsing.{is_comma, parts_after, parts_of, quoted_in, IsExpression, IsFront, IsOneOrTwo, RefinesParse, closing_of, index_of, indirect_by, IsEnded, IsOperand, IsPlainOperand, ParsesAs};
+ghost use Rattle.syntax65.specs.declared.expressions.operators.OperandStart.TheVariants.{Number};
+ghost use Rattle.ast65.specs.Parsing.{is_comma, elements_after_comma, list_elements, quoted_in, IsExpression, IsExpressionAndRest, IsOneOrTwo, RefinesParse, closing_of, index_of, indirect_by, IsExpressionOperand, IsOperand, IsPlainOperand, ParsesAs};
 ghost use Rattle.ast65.specs.declared.language.Operand.TheVariants.{Address};
 
-use super::tokens::{is_close, is_comma, is_spelled, spells, word_of};
+use super::tokens::{has_spelling, identifier_of, is_close, is_comma, is_identifier_named};
 use crate::fault::AsmFault;
 use crate::language::{Index, Operand, OptionalExpr};
 use std::alloc::Global;
@@ -19,7 +19,7 @@ use syntax65::{AddressSize, Expr, ExprFault, ExprKind, Punctuation, Token, Token
 
 /// Returns the value of a number.
 pub fn number_in(token: &Token<'_>) -> Option<u32>
-    ensures number { IfSome result (λ v. opening_of token.now.kind token.now.text.now ≡ Number v) }
+    ensures number { IfSome result (λ v. operand_start_of token.now.kind token.now.text.now ≡ Number v) }
     ensures text { IfSome result (λ _. quoted_in (lexeme_of token.now) ≡ None) }
     ensures comma { IfSome result (λ _. is_comma (lexeme_of token.now) ≡ false) }
 {
@@ -41,7 +41,7 @@ fn end_expression(tokens: &[Token<'_>]) -> bool
 
 /// Returns the value of a number at the start that is a whole expression.
 #[inline(always)]
-fn lone_number(tokens: &[Token<'_>]) -> Option<u32>
+fn single_number(tokens: &[Token<'_>]) -> Option<u32>
     ensures read { IfSome result (λ v. IsParsed (lexemes tokens.now) (Ok (number v, 1))) }
     ensures some { IfSome result (λ _. 0 < length tokens.now) }
 {
@@ -57,11 +57,11 @@ fn lone_number(tokens: &[Token<'_>]) -> Option<u32>
 
 /// Parses the expression at the start. Returns it and its number of tokens. Most expressions are
 /// one number, which takes a fast path.
-fn parsed(alloc: Global, tokens: &[Token<'_>]) -> Result<(Expr, usize), ExprFault>
+fn parse_expression(alloc: Global, tokens: &[Token<'_>]) -> Result<(Expr, usize), ExprFault>
     ensures read { RefinesRel is_expr_system_error (λ r. r) result (IsParsed (lexemes tokens.now)) }
     ensures bound { IfOk result (λ r. r.1 ≤ length tokens.now) }
 {
-    match lone_number(tokens) {
+    match single_number(tokens) {
         Some(value) => Ok((Expr::new(ExprKind::Number(value)), 1)),
         None => read_expr(alloc, tokens),
     }
@@ -71,7 +71,7 @@ fn parsed(alloc: Global, tokens: &[Token<'_>]) -> Result<(Expr, usize), ExprFaul
 pub fn expression(alloc: Global, tokens: &[Token<'_>]) -> Result<Expr, AsmFault>
     ensures { RefinesParse result (IsExpression (lexemes tokens.now)) }
 {
-    let (value, count) = parsed(alloc, tokens)?;
+    let (value, count) = parse_expression(alloc, tokens)?;
     if count == tokens.len() {
         Ok(value)
     } else {
@@ -80,18 +80,18 @@ pub fn expression(alloc: Global, tokens: &[Token<'_>]) -> Result<Expr, AsmFault>
 }
 
 /// Returns the number of tokens before the first comma.
-fn part_len(tokens: &[Token<'_>]) -> usize
+fn len_before_comma(tokens: &[Token<'_>]) -> usize
     ensures { result ≡ prefix_len (λ t. not (is_comma (lexeme_of t))) tokens.now }
 {
     tokens.iter().take_while(|token| !is_comma(token)).count()
 }
 
 /// Returns the tokens before the first comma, and those after it, if there is one.
-pub fn first_part<'a, 'b>(tokens: &'b [Token<'a>]) -> (&'b [Token<'a>], Option<&'b [Token<'a>]>)
-    ensures parts { parts_of (lexemes tokens.now) ≡ lexemes result.0.now ∷ parts_after (option_map (λ rest. lexemes rest.now) result.1) }
+pub fn split_at_comma<'a, 'b>(tokens: &'b [Token<'a>]) -> (&'b [Token<'a>], Option<&'b [Token<'a>]>)
+    ensures parts { list_elements (lexemes tokens.now) ≡ lexemes result.0.now ∷ elements_after_comma (option_map (λ rest. lexemes rest.now) result.1) }
     ensures shorter { IfSome result.1 (λ rest. length rest.now < length tokens.now) }
 {
-    let len = part_len(tokens);
+    let len = len_before_comma(tokens);
     if len < tokens.len() {
         (&tokens[..len], Some(&tokens[len + 1..]))
     } else {
@@ -100,18 +100,18 @@ pub fn first_part<'a, 'b>(tokens: &'b [Token<'a>]) -> (&'b [Token<'a>], Option<&
 }
 
 /// Parses an expression at the start. Returns it and the rest.
-pub fn front<'a, 'b>(
+pub fn split_expression<'a, 'b>(
     alloc: Global,
     tokens: &'b [Token<'a>],
 ) -> Result<(Expr, &'b [Token<'a>]), AsmFault>
-    ensures { ParsesAs (λ x. (x.0, lexemes x.1.now)) result (IsFront (lexemes tokens.now)) }
+    ensures { ParsesAs (λ x. (x.0, lexemes x.1.now)) result (IsExpressionAndRest (lexemes tokens.now)) }
 {
-    let (value, count) = parsed(alloc, tokens)?;
+    let (value, count) = parse_expression(alloc, tokens)?;
     Ok((value, &tokens[count..]))
 }
 
 /// Parses an expression and an optional second one.
-fn two(
+fn two_expressions(
     alloc: Global,
     first: &[Token<'_>],
     second: &[Token<'_>],
@@ -125,15 +125,15 @@ fn two(
 
 /// Parses one expression, or two separated by a comma.
 pub fn one_or_two(alloc: Global, tokens: &[Token<'_>]) -> Result<(Expr, OptionalExpr), AsmFault>
-    ensures { RefinesParse result (IsOneOrTwo (parts_of (lexemes tokens.now))) }
+    ensures { RefinesParse result (IsOneOrTwo (list_elements (lexemes tokens.now))) }
 {
-    let (first, following) = first_part(tokens);
+    let (first, following) = split_at_comma(tokens);
     let Some(following) = following else {
         return Ok((expression(alloc, first)?, OptionalExpr::none()));
     };
-    let (second, following) = first_part(following);
+    let (second, following) = split_at_comma(following);
     match following {
-        None => two(alloc, first, second),
+        None => two_expressions(alloc, first, second),
         Some(_) => Err(AsmFault::NotUnderstood),
     }
 }
@@ -144,8 +144,12 @@ fn index_of(tokens: &[Token<'_>]) -> Result<Option<Index>, AsmFault>
 {
     match tokens {
         [] => Ok(None),
-        [comma, register] if is_comma(comma) && spells(register, b"x") => Ok(Some(Index::X)),
-        [comma, register] if is_comma(comma) && spells(register, b"y") => Ok(Some(Index::Y)),
+        [comma, register] if is_comma(comma) && is_identifier_named(register, b"x") => Ok(Some(
+            Index::X,
+        )),
+        [comma, register] if is_comma(comma) && is_identifier_named(register, b"y") => Ok(Some(
+            Index::Y,
+        )),
         _ => Err(AsmFault::NotUnderstood),
     }
 }
@@ -156,9 +160,9 @@ fn address(
     prefix: Option<AddressSize>,
     tokens: &[Token<'_>],
 ) -> Result<Operand, AsmFault>
-    ensures { RefinesParse result (IsEnded index_of (Address prefix) (lexemes tokens.now)) }
+    ensures { RefinesParse result (IsExpressionOperand index_of (Address prefix) (lexemes tokens.now)) }
 {
-    let (value, following) = front(alloc, tokens)?;
+    let (value, following) = split_expression(alloc, tokens)?;
     let index = index_of(following)?;
     Ok(Operand::Address {
         prefix,
@@ -174,9 +178,9 @@ fn closing_of(tokens: &[Token<'_>]) -> Result<Option<Index>, AsmFault>
     match tokens {
         [end] if is_close(end) => Ok(None),
         [first, second, third] => {
-            if is_comma(first) && spells(second, b"x") && is_close(third) {
+            if is_comma(first) && is_identifier_named(second, b"x") && is_close(third) {
                 Ok(Some(Index::X))
-            } else if is_close(first) && is_comma(second) && spells(third, b"y") {
+            } else if is_close(first) && is_comma(second) && is_identifier_named(third, b"y") {
                 Ok(Some(Index::Y))
             } else {
                 Err(AsmFault::NotUnderstood)
@@ -198,9 +202,9 @@ fn indirect_by(value: Expr, index: Option<Index>) -> Operand
 
 /// Parses an indirect operand, after its `(`.
 fn indirect(alloc: Global, tokens: &[Token<'_>]) -> Result<Operand, AsmFault>
-    ensures { RefinesParse result (IsEnded closing_of indirect_by (lexemes tokens.now)) }
+    ensures { RefinesParse result (IsExpressionOperand closing_of indirect_by (lexemes tokens.now)) }
 {
-    let (value, following) = front(alloc, tokens)?;
+    let (value, following) = split_expression(alloc, tokens)?;
     let index = closing_of(following)?;
     Ok(indirect_by(value, index))
 }
@@ -210,7 +214,7 @@ fn indirect(alloc: Global, tokens: &[Token<'_>]) -> Result<Operand, AsmFault>
 fn plain_operand(alloc: Global, tokens: &[Token<'_>]) -> Result<Operand, AsmFault>
     ensures { RefinesParse result (IsPlainOperand (lexemes tokens.now)) }
 {
-    if is_spelled(word_of(tokens), b"a") {
+    if has_spelling(identifier_of(tokens), b"a") {
         Ok(Operand::Accumulator)
     } else {
         address(alloc, None, tokens)

@@ -2,18 +2,18 @@
 
 ghost use Rattle.std.specs.Prelude.{◌≡◌, ◌∷◌, false, Ok, option_map, IfSome, Result, Some};
 ghost use Rattle.syntax65.specs.Tokens.{lexeme_of, lexemes};
-ghost use Rattle.ast65.specs.Parsing.{label_before, label_of, named_label, RefinesParse, IsConstant, IsInstruction, IsNamed, IsStatement, ParsesAs};
+ghost use Rattle.ast65.specs.Parsing.{label_with_colon, label_of, named_label, RefinesParse, IsConstant, IsInstruction, IsNamedStatement, IsStatement, ParsesAs};
 ghost use Rattle.syntax65.specs.Mnemonics.{mnemonic_of};
 ghost use Rattle.syntax65.specs.declared.lexing.tokens.TokenKind.TheVariants as token;
 ghost use Rattle.ast65.specs.declared.fault.AsmFault.{AsmFault};
 ghost use Rattle.ast65.specs.declared.language.Statement.{Statement};
 
 use super::directives::{
-    amount, assertion, ended_text, file_part, list, lone, message, name_list, processor,
+    asciiz, assertion, bare, incbin, list, message, name_list, processor, sized,
 };
+use super::keywords::{Directive, directive_of};
 use super::operands::{expression, operand};
-use super::tokens::{defines, is_colon, proc, scope, segment};
-use super::words::{Directive, directive_of};
+use super::tokens::{is_colon, is_definition, proc, scope, segment};
 use crate::fault::AsmFault;
 use crate::language::Statement;
 use base65::ListVec;
@@ -40,12 +40,12 @@ fn named_label(alloc: Global, token: &Token<'_>) -> Result<Option<Statement>, As
 }
 
 /// Splits off a label that consists of a token and `:`.
-fn label_before<'a, 'b>(
+fn label_with_colon<'a, 'b>(
     alloc: Global,
     token: &Token<'a>,
     following: &'b [Token<'a>],
 ) -> Result<Option<(Statement, &'b [Token<'a>])>, AsmFault>
-    ensures { ParsesAs (λ label. option_map (λ x. (x.0, lexemes x.1.now)) label) result (λ r. r ≡ Ok (label_before (lexeme_of token.now) (lexemes following.now))) }
+    ensures { ParsesAs (λ label. option_map (λ x. (x.0, lexemes x.1.now)) label) result (λ r. r ≡ Ok (label_with_colon (lexeme_of token.now) (lexemes following.now))) }
 {
     let Some((colon, rest)) = following.split_first() else {
         return Ok(None);
@@ -72,7 +72,7 @@ pub fn label<'a, 'b>(
     if is_colon(first) {
         return Ok((Some(Statement::UnnamedLabel), following));
     }
-    match label_before(alloc, first, following)? {
+    match label_with_colon(alloc, first, following)? {
         Some((label, following)) => Ok((Some(label), following)),
         None => Ok((None, tokens)),
     }
@@ -81,21 +81,21 @@ pub fn label<'a, 'b>(
 /// Parses the statement of a directive from the tokens after it.
 fn directive_statement(
     alloc: Global,
-    word: &[u8],
+    keyword: &[u8],
     tokens: &[Token<'_>],
 ) -> Result<Statement, AsmFault>
-    ensures { RefinesParse result (IsStatement ((token.Directive, word.now) ∷ lexemes tokens.now)) }
+    ensures { RefinesParse result (IsStatement ((token.Directive, keyword.now) ∷ lexemes tokens.now)) }
 {
-    let Some(directive) = directive_of(word) else {
+    let Some(directive) = directive_of(keyword) else {
         return Err(AsmFault::NotUnderstood);
     };
     match directive {
         Directive::List(elements, width) => list(alloc, elements, width, tokens),
-        Directive::Asciiz => ended_text(alloc, tokens),
-        Directive::Amount(which) => amount(alloc, which, tokens),
-        Directive::Incbin => file_part(alloc, tokens),
+        Directive::Asciiz => asciiz(alloc, tokens),
+        Directive::Sized(which) => sized(alloc, which, tokens),
+        Directive::Incbin => incbin(alloc, tokens),
         Directive::Segment => segment(alloc, tokens),
-        Directive::Lone(which) => lone(alloc, which, tokens),
+        Directive::Bare(which) => bare(alloc, which, tokens),
         Directive::Scope => scope(alloc, tokens),
         Directive::Proc => proc(alloc, tokens),
         Directive::Names(which) => name_list(alloc, which, tokens),
@@ -131,7 +131,7 @@ fn instruction(alloc: Global, name: &[u8], tokens: &[Token<'_>]) -> Result<State
 /// Splits an instruction into its mnemonic and the tokens of its operand. Returns `None` for any
 /// other statement.
 #[inline(always)]
-pub fn instruction_front<'a, 'b>(tokens: &'a [Token<'b>]) -> Option<(Mnemonic, &'a [Token<'b>])>
+pub fn split_instruction<'a, 'b>(tokens: &'a [Token<'b>]) -> Option<(Mnemonic, &'a [Token<'b>])>
     ensures { IfSome result (λ x. (r : Result Statement AsmFault) →
         IsInstruction (Some x.0) (lexemes x.1.now) r → IsStatement (lexemes tokens.now) r) }
 {
@@ -140,7 +140,7 @@ pub fn instruction_front<'a, 'b>(tokens: &'a [Token<'b>]) -> Option<(Mnemonic, &
         return None;
     }
     if let Some((next, _)) = following.split_first() {
-        if defines(next) {
+        if is_definition(next) {
             return None;
         }
     }
@@ -150,11 +150,11 @@ pub fn instruction_front<'a, 'b>(tokens: &'a [Token<'b>]) -> Option<(Mnemonic, &
 
 /// Parses a statement that begins with an identifier.
 fn named(alloc: Global, name: &[u8], tokens: &[Token<'_>]) -> Result<Statement, AsmFault>
-    ensures { RefinesParse result (IsNamed name.now (lexemes tokens.now)) }
+    ensures { RefinesParse result (IsNamedStatement name.now (lexemes tokens.now)) }
 {
     match tokens.split_first() {
         Some((first, following)) => {
-            if defines(first) {
+            if is_definition(first) {
                 constant(alloc, name, following)
             } else {
                 instruction(alloc, name, tokens)

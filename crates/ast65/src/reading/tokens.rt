@@ -3,9 +3,9 @@
 ghost use Rattle.std.specs.Prelude.{◌≡◌, false, option_map};
 ghost use Rattle.syntax65.specs.Tokens.{lexeme_of, lexemes};
 ghost use Rattle.std.specs.List.{list_all};
-ghost use Rattle.ast65.specs.Parsing.{defines, inner, is_close, is_colon, is_comma, name_of, quoted_in, is_spelled_as, is_word_of, string_of, ok_or_not_understood, word_in, word_of, IsDirective, RefinesParse, ParsesAs, is_identifier, is_letter, size_after, size_word};
-ghost use Rattle.ast65.specs.declared.reading.words.Directive.TheVariants as directive;
-ghost use Rattle.syntax65.specs.Forms.{is_word};
+ghost use Rattle.ast65.specs.Parsing.{is_definition, string_contents, is_close, is_colon, is_comma, name_of, quoted_in, is_spelled_as, is_identifier_named, string_of, ok_or_not_understood, identifier_in, identifier_of, IsDirective, RefinesParse, ParsesAs, is_identifier, is_letter, size_after, size_keyword};
+ghost use Rattle.ast65.specs.declared.reading.keywords.Directive.TheVariants as directive;
+ghost use Rattle.syntax65.specs.Forms.{is_identifier_byte};
 
 use crate::fault::AsmFault;
 use crate::language::Statement;
@@ -33,8 +33,8 @@ pub fn is_close(token: &Token<'_>) -> bool
 }
 
 /// Returns whether a token is `=` or `:=`.
-pub fn defines(token: &Token<'_>) -> bool
-    ensures { result ≡ defines (lexeme_of token.now) }
+pub fn is_definition(token: &Token<'_>) -> bool
+    ensures { result ≡ is_definition (lexeme_of token.now) }
 {
     matches!(
         token.kind,
@@ -43,8 +43,8 @@ pub fn defines(token: &Token<'_>) -> bool
 }
 
 /// Returns the bytes between the quotes of a string.
-fn inner(quoted: &[u8]) -> &[u8]
-    ensures { result.now ≡ inner quoted.now }
+fn string_contents(quoted: &[u8]) -> &[u8]
+    ensures { result.now ≡ string_contents quoted.now }
 {
     if quoted.len() < 2 {
         b""
@@ -58,14 +58,14 @@ pub fn quoted_in<'a>(token: &Token<'a>) -> Option<&'a [u8]>
     ensures { option_map (λ s. s.now) result ≡ quoted_in (lexeme_of token.now) }
 {
     match token.kind {
-        TokenKind::StringLiteral => Some(inner(token.text)),
+        TokenKind::StringLiteral => Some(string_contents(token.text)),
         _ => None,
     }
 }
 
 /// Returns the bytes of an identifier.
-pub fn word_in<'a>(token: &Token<'a>) -> Option<&'a [u8]>
-    ensures { option_map (λ s. s.now) result ≡ word_in (lexeme_of token.now) }
+pub fn identifier_in<'a>(token: &Token<'a>) -> Option<&'a [u8]>
+    ensures { option_map (λ s. s.now) result ≡ identifier_in (lexeme_of token.now) }
 {
     match token.kind {
         TokenKind::Identifier => Some(token.text),
@@ -84,30 +84,30 @@ pub fn string_of<'a>(tokens: &[Token<'a>]) -> Option<&'a [u8]>
 }
 
 /// Returns the bytes of an identifier, if it is the only token.
-pub fn word_of<'a>(tokens: &[Token<'a>]) -> Option<&'a [u8]>
-    ensures { option_map (λ s. s.now) result ≡ word_of (lexemes tokens.now) }
+pub fn identifier_of<'a>(tokens: &[Token<'a>]) -> Option<&'a [u8]>
+    ensures { option_map (λ s. s.now) result ≡ identifier_of (lexemes tokens.now) }
 {
     match tokens {
-        [token] => word_in(token),
+        [token] => identifier_in(token),
         _ => None,
     }
 }
 
 /// Returns whether an identifier, if there is one, is this name in upper or lower case.
-pub fn is_spelled(word: Option<&[u8]>, name: &[u8]) -> bool
-    ensures { result ≡ is_spelled_as (option_map (λ s. s.now) word.entry) name.now }
+pub fn has_spelling(ident: Option<&[u8]>, name: &[u8]) -> bool
+    ensures { result ≡ is_spelled_as (option_map (λ s. s.now) ident.entry) name.now }
 {
-    match word {
-        Some(word) => word.eq_ignore_ascii_case(name),
+    match ident {
+        Some(ident) => ident.eq_ignore_ascii_case(name),
         None => false,
     }
 }
 
 /// Returns whether a token is this identifier, in upper or lower case.
-pub fn spells(token: &Token<'_>, name: &[u8]) -> bool
-    ensures { result ≡ is_word_of (lexeme_of token.now) name.now }
+pub fn is_identifier_named(token: &Token<'_>, name: &[u8]) -> bool
+    ensures { result ≡ is_identifier_named (lexeme_of token.now) name.now }
 {
-    is_spelled(word_in(token), name)
+    has_spelling(identifier_in(token), name)
 }
 
 /// Returns the bytes, or an error if there are none.
@@ -125,19 +125,19 @@ pub fn ok_or_not_understood(found: Option<&[u8]>) -> Result<&[u8], AsmFault>
 pub fn name_of<'a>(tokens: &[Token<'a>]) -> Result<&'a [u8], AsmFault>
     ensures { ParsesAs (λ s. s.now) result (λ r. r ≡ name_of (lexemes tokens.now)) }
 {
-    let name = ok_or_not_understood(word_of(tokens))?;
+    let name = ok_or_not_understood(identifier_of(tokens))?;
     if is_reserved(name) {
         return Err(AsmFault::NotUnderstood);
     }
     Ok(name)
 }
 
-fn size_word(word: &[u8]) -> Result<AddressSize, AsmFault>
-    ensures { result ≡ size_word word.now }
+fn size_keyword(ident: &[u8]) -> Result<AddressSize, AsmFault>
+    ensures { result ≡ size_keyword ident.now }
 {
-    if word == b"zeropage".as_slice() {
+    if ident == b"zeropage".as_slice() {
         Ok(AddressSize::ZeroPage)
-    } else if word == b"absolute".as_slice() {
+    } else if ident == b"absolute".as_slice() {
         Ok(AddressSize::Absolute)
     } else {
         Err(AsmFault::NotUnderstood)
@@ -154,8 +154,8 @@ fn size_after(tokens: &[Token<'_>]) -> Result<Option<AddressSize>, AsmFault>
     if !is_colon(colon) {
         return Err(AsmFault::NotUnderstood);
     }
-    let word = ok_or_not_understood(word_of(following))?;
-    Ok(Some(size_word(word)?))
+    let ident = ok_or_not_understood(identifier_of(following))?;
+    Ok(Some(size_keyword(ident)?))
 }
 
 fn is_letter(byte: u8) -> bool
@@ -165,13 +165,13 @@ fn is_letter(byte: u8) -> bool
 }
 
 fn is_letter_or_digit(byte: u8) -> bool
-    ensures { result ≡ is_word byte }
+    ensures { result ≡ is_identifier_byte byte }
 {
     is_letter(byte) || byte.is_ascii_digit()
 }
 
 fn are_letters_or_digits(bytes: &[u8]) -> bool
-    ensures { result ≡ list_all is_word bytes.now }
+    ensures { result ≡ list_all is_identifier_byte bytes.now }
 {
     bytes.iter().all(|byte| is_letter_or_digit(*byte))
 }

@@ -1,7 +1,7 @@
-//! The exports of an object and its assertions.
+//! Builds the exports and the assertions of an object.
 
 ghost use Rattle.std.specs.Prelude.{◌≡◌, ◌++◌, ◌∷◌, [], filter_map, IfOk, OnOk};
-ghost use Rattle.emit65.specs.Internal.Drafts.{assert_by, DeclaredFits, export_by};
+ghost use Rattle.emit65.specs.Internal.Drafts.{assert_by, DeclarationsFit, export_by};
 
 use super::keys::{Numbers, numbered, origin_of};
 use crate::entries::LocatedDeclaration;
@@ -17,25 +17,25 @@ pub struct DeclarationTables {
     pub asserts: ListVec<Assert>,
 }
 
-/// Adds an export, or an assertion.
-fn add_saying(
+/// Adds a declaration, if it is an export or an assertion.
+fn add_declaration(
     numbers: &Numbers,
     declared: &mut DeclarationTables,
-    saying: LocatedDeclaration,
+    located: LocatedDeclaration,
 ) -> Result<(), AllocError>
     ensures exports { OnOk result (declared.new.exports ≡ declared.old.exports ++
-        filter_map (export_by numbers.now) (saying ∷ [])) }
+        filter_map (export_by numbers.now) (located ∷ [])) }
     ensures asserts { OnOk result (declared.new.asserts ≡ declared.old.asserts ++
-        filter_map (assert_by numbers.now) (saying ∷ [])) }
-    ensures fits { OnOk result (DeclaredFits declared.old → DeclaredFits declared.new) }
+        filter_map (assert_by numbers.now) (located ∷ [])) }
+    ensures fits { OnOk result (DeclarationsFit declared.old → DeclarationsFit declared.new) }
 {
-    let origin = origin_of(numbers, saying.pos)?;
-    match saying.said {
-        Declaration::Exported { name, form } => {
+    let origin = origin_of(numbers, located.pos)?;
+    match located.said {
+        Declaration::ExportedSymbol { name, form } => {
             let form = numbered(numbers, form)?;
             declared.exports.push(Export { name, origin, form })
         }
-        Declaration::Asserted { action, text, form } => {
+        Declaration::LinkAssertion { action, text, form } => {
             let form = numbered(numbers, form)?;
             declared.asserts.push(Assert {
                 action,
@@ -48,22 +48,23 @@ fn add_saying(
     }
 }
 
-/// The exports and the assertions of a module.
-pub fn declared_by(
+/// Builds the exports and the assertions of a module from
+/// its declarations.
+pub fn declaration_tables(
     alloc: Global,
     numbers: &Numbers,
     declarations: ListVec<LocatedDeclaration>,
 ) -> Result<DeclarationTables, AllocError>
     ensures exports { IfOk result (λ d. d.exports ≡ filter_map (export_by numbers.now) declarations) }
     ensures asserts { IfOk result (λ d. d.asserts ≡ filter_map (assert_by numbers.now) declarations) }
-    ensures fits { IfOk result DeclaredFits }
+    ensures fits { IfOk result DeclarationsFit }
 {
     let mut declared = DeclarationTables {
         exports: ListVec::new(alloc),
         asserts: ListVec::new(alloc),
     };
-    for saying in declarations.into_vec() {
-        add_saying(numbers, &mut declared, saying)?;
+    for located in declarations.into_vec() {
+        add_declaration(numbers, &mut declared, located)?;
     }
     Ok(declared)
 }

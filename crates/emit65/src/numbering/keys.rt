@@ -1,12 +1,12 @@
-//! The keys of imports, by name and in the order of their numbers, and the numbers of sections and files.
+//! The keys of imports, and the numbers of sections, imports and files in the object.
 
 ghost use Rattle.std.specs.Prelude.{◌≡◌, IfOk, [], map, nat_eq, OnOk};
-ghost use Rattle.emit65.specs.Internal.Drafts.{anywhere, origin_of};
-ghost use Rattle.semantics65.specs.Numbering.{key_of, number_of, renumbered_form, content_imports, import_keys, imports_in, distinct_keys, optional_key, said_imports};
+ghost use Rattle.emit65.specs.Internal.Drafts.{any_location, origin_of};
+ghost use Rattle.semantics65.specs.Numbering.{key_of, number_of, renumbered_form, content_imports, import_keys, imports_in, distinct_keys, optional_key, declaration_imports};
 ghost use Rattle.object65.specs.Objects.{FitsBits, OriginFits};
 ghost use Rattle.indexmap.specs.IndexSet.{IsUnique};
 ghost use Rattle.emit65.specs.SectionContents.{content_of, names_of};
-ghost use Rattle.semantics65.specs.Views.{said_at};
+ghost use Rattle.semantics65.specs.Views.{declaration_at};
 
 use crate::entries::{SectionEntry, SourcePos};
 use base65::Seed;
@@ -15,10 +15,11 @@ use object65::{Node, Norm, Origin};
 use semantics65::Declaration;
 use std::alloc::{AllocError, Global};
 
-/// The names of imports, each once. The key of one is its place.
+/// The names of imports, each once. The key of an import is its index.
 pub type Imports = IndexSet<Vec<u8>, Seed>;
 
-/// The keys of sections, imports and files, whose places are their numbers. A file's key is its place in the table of all.
+/// The keys of the object's sections, imports and files. The number of each is its index here. The key of a section is its
+/// segment, and that of a file its index in the table of all files.
 #[derive(Drop)]
 pub struct Numbers {
     pub sections: IndexSet<u32>,
@@ -26,33 +27,33 @@ pub struct Numbers {
     pub files: IndexSet<u32>,
 }
 
-/// A place in 32 bits. No memory holds a table that needs more.
-pub fn narrow(place: usize) -> Result<u32, AllocError>
-    ensures { IfOk result (λ n. n ≡ place) }
+/// Returns an index in 32 bits. A larger one counts as out of memory: no table in memory needs it.
+pub fn narrow(index: usize) -> Result<u32, AllocError>
+    ensures { IfOk result (λ n. n ≡ index) }
 {
-    match u32::try_from(place) {
+    match u32::try_from(index) {
         Ok(number) => Ok(number),
         Err(_) => Err(AllocError),
     }
 }
 
-/// The number of a key, or 0 where it has none.
+/// Returns the number of a key, or 0 if it has none.
 fn number_of(keys: &IndexSet<u32>, key: u32) -> Result<u32, AllocError>
     ensures { IfOk result (λ n. n ≡ number_of keys.now.keys key) }
 {
     match keys.get_index_of(&key) {
-        Some(place) => narrow(place),
+        Some(index) => narrow(index),
         None => Ok(0),
     }
 }
 
-/// The origin by the number of its file.
+/// Returns the origin of a location, with the number of its file.
 pub fn origin_of(numbers: &Numbers, pos: SourcePos) -> Result<Origin, AllocError>
     ensures origin { IfOk result (λ o. o ≡ origin_of numbers.now pos) }
     ensures fits { IfOk result OriginFits }
 {
     let file = match numbers.files.get_index_of(&pos.file) {
-        Some(place) => Some(narrow(place)?),
+        Some(index) => Some(narrow(index)?),
         None => None,
     };
     Ok(Origin {
@@ -61,7 +62,7 @@ pub fn origin_of(numbers: &Numbers, pos: SourcePos) -> Result<Origin, AllocError
     })
 }
 
-/// Gives the sections and imports in a form their numbers.
+/// Replaces the keys of the sections and imports in a form by their numbers.
 fn renumber(numbers: &Numbers, form: &mut Norm) -> Result<(), AllocError>
     ensures form { OnOk result (form.new ≡ renumbered_form numbers.now.sections.keys numbers.now.imports.keys form.old) }
     ensures bits { OnOk result (FitsBits form.new) }
@@ -87,7 +88,7 @@ fn renumber(numbers: &Numbers, form: &mut Norm) -> Result<(), AllocError>
     Ok(())
 }
 
-/// The form with the numbers of its sections and imports.
+/// Returns a form with the numbers of its sections and imports instead of their keys.
 pub fn numbered(numbers: &Numbers, form: Norm) -> Result<Norm, AllocError>
     ensures form { IfOk result (λ f. f ≡ renumbered_form numbers.now.sections.keys numbers.now.imports.keys form) }
     ensures bits { IfOk result FitsBits }
@@ -97,7 +98,7 @@ pub fn numbered(numbers: &Numbers, form: Norm) -> Result<Norm, AllocError>
     Ok(form)
 }
 
-/// Adds the imports that a form holds.
+/// Adds the keys of the imports in a form.
 #[tactic(auto, using(crate::proofs::Keys::once_append))]
 fn add_form(keys: &mut IndexSet<u32>, form: &Norm) -> Result<(), AllocError>
     ensures { OnOk result (keys.new.keys ≡ distinct_keys keys.old.keys (imports_in form.now)) }
@@ -116,35 +117,35 @@ fn add_form(keys: &mut IndexSet<u32>, form: &Norm) -> Result<(), AllocError>
     }
 }
 
-/// Adds the import of a name, if there is one.
+/// Adds the key of the import with this name, if there is one.
 fn add_name(keys: &mut IndexSet<u32>, imports: &Imports, name: &[u8]) -> Result<(), AllocError>
     ensures { OnOk result (keys.new.keys ≡ distinct_keys keys.old.keys
         (optional_key (key_of (names_of imports.now) name.now))) }
 {
-    if let Some(place) = imports.get_index_of(name) {
-        keys.insert(narrow(place)?)?;
+    if let Some(index) = imports.get_index_of(name) {
+        keys.insert(narrow(index)?)?;
     }
     Ok(())
 }
 
-/// Adds the imports of what a statement says.
-fn add_saying(
+/// Adds the keys of the imports in a declaration.
+fn add_declaration(
     keys: &mut IndexSet<u32>,
     imports: &Imports,
-    said: &Declaration,
+    declaration: &Declaration,
 ) -> Result<(), AllocError>
     ensures { OnOk result (keys.new.keys ≡ distinct_keys keys.old.keys
-        (said_imports (names_of imports.now) (said_at anywhere said.now))) }
+        (declaration_imports (names_of imports.now) (declaration_at any_location declaration.now))) }
 {
-    match said {
-        Declaration::Exported { form, .. } | Declaration::Asserted { form, .. } => {
+    match declaration {
+        Declaration::ExportedSymbol { form, .. } | Declaration::LinkAssertion { form, .. } => {
             add_form(keys, form)
         }
         Declaration::ForcedImport(name) => add_name(keys, imports, name.as_slice()),
     }
 }
 
-/// Adds the imports of an entry.
+/// Adds the keys of the imports in an entry.
 fn add_entry(
     keys: &mut IndexSet<u32>,
     imports: &Imports,
@@ -155,13 +156,13 @@ fn add_entry(
 {
     match entry {
         SectionEntry::Value { form, .. } => add_form(keys, form),
-        SectionEntry::DeclarationEntry(saying) => add_saying(keys, imports, &saying.said),
+        SectionEntry::DeclarationEntry(located) => add_declaration(keys, imports, &located.said),
         SectionEntry::Bytes { .. } | SectionEntry::Reserve { .. } | SectionEntry::FixupEntry(_) =>
             Ok(()),
     }
 }
 
-/// The imports that the object has.
+/// Returns the keys of the object's imports, in the order in which entries first use them.
 pub fn import_keys(
     alloc: Global,
     imports: &Imports,

@@ -1,10 +1,10 @@
-//! The files of an object, in the order in which it first names them.
+//! The files of an object, in the order in which it first uses them.
 
 ghost use Rattle.std.specs.Prelude.{◌≡◌, ◌∷◌, [], map, string_bytes, true, IfOk, OnOk};
 ghost use Rattle.std.specs.List.{AllByRecursion, flat_map};
 ghost use Rattle.std.specs.Str.{is_utf8};
 ghost use Rattle.semantics65.specs.Numbering.{name_of, distinct_keys};
-ghost use Rattle.emit65.specs.Internal.Drafts.{assert_keys, draft_keys, export_keys, HasLast, order_of, value_keys};
+ghost use Rattle.emit65.specs.Internal.Drafts.{assert_keys, draft_keys, export_keys, HasLast, files_in_order, value_keys};
 
 use super::drafts::{EntriesBySection, SectionDraft};
 use crate::entries::{LocatedDeclaration, SectionEntry, SourcePos};
@@ -13,16 +13,18 @@ use indexmap::IndexSet;
 use semantics65::Declaration;
 use std::alloc::{AllocError, Global};
 
-/// Files in the order in which they are first named, by their places in the table of all.
+/// Files in the order in which the object first uses them, by their indices in the table
+/// of all files.
 #[derive(Drop)]
-pub struct Order {
+pub struct FileOrder {
     pub files: IndexSet<u32>,
-    /// The one that was named last.
+    /// The file that was added last.
     pub last: Option<u32>,
 }
 
-/// Numbers the file of an entry. It is mostly the last one, and then it isn't looked up.
-fn name_file(order: &mut Order, pos: SourcePos) -> Result<(), AllocError>
+/// Adds the file of a location. Mostly it is the file that was added last, which needs no
+/// lookup.
+fn add_file(order: &mut FileOrder, pos: SourcePos) -> Result<(), AllocError>
     requires { HasLast order.old }
     ensures named { OnOk result (order.new.files.keys ≡ distinct_keys order.old.files.keys
         (pos.file ∷ [])) }
@@ -38,8 +40,8 @@ fn name_file(order: &mut Order, pos: SourcePos) -> Result<(), AllocError>
     Ok(())
 }
 
-/// Names the files of a section's values.
-fn name_values(order: &mut Order, entries: &[SectionEntry]) -> Result<(), AllocError>
+/// Adds the files of a section's values.
+fn add_value_files(order: &mut FileOrder, entries: &[SectionEntry]) -> Result<(), AllocError>
     requires { HasLast order.old }
     ensures named { OnOk result (order.new.files.keys ≡ distinct_keys order.old.files.keys
         (flat_map value_keys entries.now)) }
@@ -47,93 +49,103 @@ fn name_values(order: &mut Order, entries: &[SectionEntry]) -> Result<(), AllocE
 {
     for entry in entries {
         if let SectionEntry::Value { pos, .. } = entry {
-            name_file(order, *pos)?;
+            add_file(order, *pos)?;
         }
     }
     Ok(())
 }
 
-/// Names the files of sections.
-fn name_drafts(order: &mut Order, drafts: &[SectionDraft]) -> Result<(), AllocError>
+/// Adds the files of the values in sections.
+fn add_draft_files(order: &mut FileOrder, drafts: &[SectionDraft]) -> Result<(), AllocError>
     requires { HasLast order.old }
     ensures named { OnOk result (order.new.files.keys ≡ distinct_keys order.old.files.keys
         (flat_map draft_keys drafts.now)) }
     ensures last { OnOk result (HasLast order.new) }
 {
     for draft in drafts {
-        name_values(order, draft.entries.as_slice())?;
+        add_value_files(order, draft.entries.as_slice())?;
     }
     Ok(())
 }
 
-/// Names the files of exports.
-fn name_exports(order: &mut Order, declarations: &[LocatedDeclaration]) -> Result<(), AllocError>
+/// Adds the files of exports.
+fn add_export_files(
+    order: &mut FileOrder,
+    declarations: &[LocatedDeclaration],
+) -> Result<(), AllocError>
     requires { HasLast order.old }
     ensures named { OnOk result (order.new.files.keys ≡ distinct_keys order.old.files.keys
         (flat_map export_keys declarations.now)) }
     ensures last { OnOk result (HasLast order.new) }
 {
-    for saying in declarations {
-        if let Declaration::Exported { .. } = &saying.said {
-            name_file(order, saying.pos)?;
+    for located in declarations {
+        if let Declaration::ExportedSymbol { .. } = &located.said {
+            add_file(order, located.pos)?;
         }
     }
     Ok(())
 }
 
-/// Names the files of assertions.
-fn name_asserts(order: &mut Order, declarations: &[LocatedDeclaration]) -> Result<(), AllocError>
+/// Adds the files of assertions.
+fn add_assert_files(
+    order: &mut FileOrder,
+    declarations: &[LocatedDeclaration],
+) -> Result<(), AllocError>
     requires { HasLast order.old }
     ensures named { OnOk result (order.new.files.keys ≡ distinct_keys order.old.files.keys
         (flat_map assert_keys declarations.now)) }
     ensures last { OnOk result (HasLast order.new) }
 {
-    for saying in declarations {
-        if let Declaration::Asserted { .. } = &saying.said {
-            name_file(order, saying.pos)?;
+    for located in declarations {
+        if let Declaration::LinkAssertion { .. } = &located.said {
+            add_file(order, located.pos)?;
         }
     }
     Ok(())
 }
 
-/// The files that an object names, in its order.
-pub fn order_of(alloc: Global, parted: &EntriesBySection) -> Result<IndexSet<u32>, AllocError>
-    ensures { IfOk result (λ s. s.keys ≡ order_of parted.now.drafts.items parted.now.declarations) }
+/// Returns the files that an object uses: those of its values, then of its exports, then
+/// of its assertions.
+pub fn files_in_order(
+    alloc: Global,
+    by_section: &EntriesBySection,
+) -> Result<IndexSet<u32>, AllocError>
+    ensures { IfOk result (λ s. s.keys ≡ files_in_order by_section.now.drafts.items by_section.now.declarations) }
 {
-    let mut order = Order {
+    let mut order = FileOrder {
         files: IndexSet::new(alloc),
         last: None,
     };
-    name_drafts(&mut order, parted.drafts.as_slice())?;
-    name_exports(&mut order, parted.declarations.as_slice())?;
-    name_asserts(&mut order, parted.declarations.as_slice())?;
-    let Order { files, last: _ } = order;
+    add_draft_files(&mut order, by_section.drafts.as_slice())?;
+    add_export_files(&mut order, by_section.declarations.as_slice())?;
+    add_assert_files(&mut order, by_section.declarations.as_slice())?;
+    let FileOrder { files, last: _ } = order;
     Ok(files)
 }
 
-/// The name of a file, by its place in the table.
-fn file_name(alloc: Global, table: &[String], place: u32) -> Result<ListVec<u8>, AllocError>
-    ensures name { IfOk result (λ name. name ≡ name_of (map string_bytes table.now) place) }
+/// Returns the name of a file by its index in the table; an empty name if there is none.
+fn file_name(alloc: Global, table: &[String], index: u32) -> Result<ListVec<u8>, AllocError>
+    ensures name { IfOk result (λ name. name ≡ name_of (map string_bytes table.now) index) }
     ensures text { IfOk result (λ name. is_utf8 name ≡ true) }
 {
-    match table.get(place as usize) {
+    match table.get(index as usize) {
         Some(name) => ListVec::copy_of(alloc, name.as_str().as_bytes()),
         None => Ok(ListVec::new(alloc)),
     }
 }
 
-/// The names of files, by their places in the table.
+/// Returns the names of files by their indices in the table.
 pub fn file_names(
     alloc: Global,
     table: &[String],
-    places: &[u32],
+    indices: &[u32],
 ) -> Result<ListVec<ListVec<u8>>, AllocError>
-    ensures names { IfOk result (λ names. names ≡ map (name_of (map string_bytes table.now)) places.now) }
+    ensures names { IfOk result (λ names. names ≡ map (name_of (map string_bytes table.now)) indices.now) }
     ensures texts { IfOk result (AllByRecursion (λ name. is_utf8 name ≡ true)) }
 {
     let mut names = ListVec::new(alloc);
-    for place in places {
-        names.push(file_name(alloc, table, *place)?)?;
+    for index in indices {
+        names.push(file_name(alloc, table, *index)?)?;
     }
     Ok(names)
 }

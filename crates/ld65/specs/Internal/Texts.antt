@@ -9,9 +9,9 @@ use Rattle.ld65.specs.Linkage.{text_of}
 abbrev pub script_limit : ℕ
 script_limit = 1048576
 
-abbrev pub front_of : Result (List ℕ) LinkCommandFault → Result (List ℕ) LinkCommandFault
-front_of (Ok bytes) = Ok (take (script_limit + 1) bytes)
-front_of (Err e) = Err e
+abbrev pub limited_bytes : Result (List ℕ) LinkCommandFault → Result (List ℕ) LinkCommandFault
+limited_bytes (Ok bytes) = Ok (take (script_limit + 1) bytes)
+limited_bytes (Err e) = Err e
 
 abbrev pub script_text : Files → List ℕ → Result (List ℕ) LinkCommandFault
-script_text m name = front_of (text_of (get m name))
+script_text m name = limited_bytes (text_of (get m name))

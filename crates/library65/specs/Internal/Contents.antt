@@ -7,15 +7,16 @@ use Rattle.object65.specs.Reading.{records_at}
 use Rattle.library65.specs.declared.contents.Contents.{Contents}
 use Rattle.library65.specs.Libraries.{contents_from}
 
--- the records from a place on make an object of this version that exports and imports these, and its END ends there
-pub record EndsWith (bytes : List ℕ) (version at : ℕ) (c : Contents) (end : ℕ) : Type 0 where
+-- the records from an offset on form an object of this version with these exports and imports; `end` is the offset
+-- after its END
+pub record HasObjectContents (bytes : List ℕ) (version at : ℕ) (c : Contents) (end : ℕ) : Type 0 where
   pub state : State
   pub read : records_at (length bytes) (start version) at (length bytes) bytes ≡ Ok (state, end)
   pub whole : object_of_state state ≡ Ok (object_from state)
   pub contents : c ≡ contents_from (object_from state)
 
--- the same, or the records' first fault
+-- the exports and imports, with the offset after the END; or the records' first error; or out of memory
 abbrev pub ReadsContents : List ℕ → ℕ → ℕ → Result (Contents × ℕ) ObjectFault → Type 0
-ReadsContents bytes version at (Ok x) = EndsWith bytes version at x.0 x.1
+ReadsContents bytes version at (Ok x) = HasObjectContents bytes version at x.0 x.1
 ReadsContents bytes version at (Err e) =
     RefinesErr is_memory e (records_at (length bytes) (start version) at (length bytes) bytes)

@@ -17,62 +17,62 @@ use Rattle.object65.specs.Small.{is_small_text}
 -- ---- A scan.
 
 abbrev pub outline_in : ScanState → Outline
-outline_in k = record { version = k.version; files = map (λ n. n.items) k.files.keys; imports = map (λ n. n.items) k.imports.keys; sections = map (λ n. n.items) k.sections.keys; rooms = k.rooms.items; begun = k.begun; exports = map (λ n. n.items) k.exports.keys; asserting = k.asserting; ended = k.ended; failed = false }
+outline_in k = record { version = k.version; files = map (λ n. n.items) k.files.keys; imports = map (λ n. n.items) k.imports.keys; sections = map (λ n. n.items) k.sections.keys; fills = k.fills.items; has_fragment = k.has_fragment; exports = map (λ n. n.items) k.exports.keys; has_assert = k.has_assert; ended = k.ended; failed = false }
 
 -- all sections before the one being filled are full
 pub record IsWellFormedOutline (k : ScanState) : Type 0 where
-  pub filling : k.filling ≤ prefix_len is_filled k.rooms.items
+  pub search_start : k.search_start ≤ prefix_len is_filled k.fills.items
 
--- some records lead to an object in the making of which this is kept
+-- some records lead to a state with this outline
 pub record IsReachable (o : Outline) : Type 0 where
   pub state : State
   pub reached : IsReached state
   pub same : o ≡ outline_of state
 
 -- the invariant of a scan that hasn't failed
-pub record IsIntact (k : ScanState) : Type 0 where
+pub record ScanInvariant (k : ScanState) : Type 0 where
   pub sound : IsWellFormedOutline k
-  pub stands : IsReachable (outline_in k)
+  pub reachable : IsReachable (outline_in k)
 
--- the result and the effect of a call that takes a record: those of a scan, with a text whose length is one
+-- the result and the effect of a call that scans a record are those expected; the length of a text fits one
 -- byte
-pub record RefinesScan (old new : ScanState) (result : Result Item ObjectFault) (said : Result (Outline × Item) ObjectFault) : Type 0 where
-  pub taken : Refines is_memory (λ i. (outline_in new, i)) result said
+pub record RefinesScan (old new : ScanState) (result : Result Item ObjectFault) (expected : Result (Outline × Item) ObjectFault) : Type 0 where
+  pub taken : Refines is_memory (λ i. (outline_in new, i)) result expected
   pub small : IfOk result (λ i. has_small_text i ≡ true)
   pub sound : OnOk result (IsWellFormedOutline new)
 
 -- ---- A builder.
 
 abbrev pub state_of : Parts → State
-state_of p = record { version = p.version; files = p.files; imports = p.imports; drafts = p.drafts.items; begun = false; exports = p.exports; asserts = p.asserts; ended = false; failed = false }
+state_of p = record { version = p.version; files = p.files; imports = p.imports; drafts = p.drafts.items; has_fragment = false; exports = p.exports; asserts = p.asserts; ended = false; failed = false }
 
--- without what the scan beside it knows
-abbrev pub without_marks : State → State
-without_marks s = record s { begun = false; ended = false; failed = false }
+-- the state without the marks that its scan stores
+abbrev pub without_scan_flags : State → State
+without_scan_flags s = record s { has_fragment = false; ended = false; failed = false }
 
--- with what the scan beside it knows
+-- the state of the parts with the marks that the scan stores
 abbrev pub state_in : Parts → Outline → State
-state_in p o = record (state_of p) { begun = o.begun; ended = o.ended }
+state_in p o = record (state_of p) { has_fragment = o.has_fragment; ended = o.ended }
 
--- there is a section at this place, and the fragment is within it
-pub record HasPlace (ds : List Draft) (k : ℕ) (f : Fragment) : Type 0 where
+-- there is a section at this index, and the fragment fits in it
+pub record FitsDraft (ds : List Draft) (k : ℕ) (f : Fragment) : Type 0 where
   pub draft : Draft
-  pub there : slice_get ds k ≡ Some draft
+  pub at_index : slice_get ds k ≡ Some draft
   pub within : draft.filled + fragment_len f ≤ draft.size
 
-abbrev pub HasRoom : List Draft → Item → Type 0
-HasRoom ds (Part k offset f) = HasPlace ds k f
-HasRoom ds (File name) = ⊤
-HasRoom ds (Import name) = ⊤
-HasRoom ds (Section name size align) = ⊤
-HasRoom ds (Export name origin form) = ⊤
-HasRoom ds (Assert action origin text form) = ⊤
-HasRoom ds End = ⊤
+abbrev pub FitsDrafts : List Draft → Item → Type 0
+FitsDrafts ds (Part k offset f) = FitsDraft ds k f
+FitsDrafts ds (File name) = ⊤
+FitsDrafts ds (Import name) = ⊤
+FitsDrafts ds (Section name size align) = ⊤
+FitsDrafts ds (Export name origin form) = ⊤
+FitsDrafts ds (Assert action origin text form) = ⊤
+FitsDrafts ds End = ⊤
 
 -- the invariant of a builder that hasn't failed
-pub record IsWhole (p : Parts) (o : Outline) : Type 0 where
-  -- its scan has taken the same records
+pub record BuilderInvariant (p : Parts) (o : Outline) : Type 0 where
+  -- its scan has the outline of the same state
   pub scanned : o ≡ outline_of (state_in p o)
   pub reached : IsReached (state_in p o)
-  -- the length of a text was one byte
+  -- the length of each text fits one byte
   pub texts : list_all (λ a. is_small_text a.text) p.asserts ≡ true

@@ -1,4 +1,4 @@
-//! A file that is read ahead.
+//! A file with a read-ahead buffer.
 
 ghost use Rattle.std.specs.Prelude.{◌≤◌, IfOk, length};
 
@@ -12,7 +12,7 @@ const BUFFER: usize = 8192;
 /// The least number of bytes for which a read bypasses the buffer.
 const LARGE: usize = 4096;
 
-/// An open file, with a buffer that holds what it has from a place on once a small part of it was read.
+/// An open file with a read-ahead buffer: after a small read it has the file's bytes from an offset on.
 #[derive(Drop)]
 pub struct ReadAhead<F> {
     name: PathString,
@@ -20,15 +20,15 @@ pub struct ReadAhead<F> {
     buffer: Vec<u8>,
     start: u64,
     filled: usize,
-    /// Where the file ended for the last read past the buffer, if that read less than was asked for.
+    /// The end of the file as found by the last read past the buffer, if that returned fewer bytes than requested.
     end: Option<u64>,
-    /// Whether anything of the file was read.
-    is_begun: bool,
+    /// Whether the file has been read.
+    has_been_read: bool,
     ghost within: { filled ≤ length buffer.items },
 }
 
 impl<F: Read + Seek + Drop> ReadAhead<F> {
-    /// Nothing is read yet.
+    /// Creates the buffer of an open file, without reading from it.
     pub fn new(alloc: Global, name: &str, file: F) -> Result<Self, AllocError> {
         Ok(ReadAhead {
             name: PathString::copy_of(alloc, name)?,
@@ -37,11 +37,11 @@ impl<F: Read + Seek + Drop> ReadAhead<F> {
             start: 0,
             filled: 0,
             end: None,
-            is_begun: false,
+            has_been_read: false,
         })
     }
 
-    /// Another file of this name, of which nothing is read yet, with the same buffer.
+    /// Replaces the file by another open one with this name, without reading from it. Reuses the buffer.
     pub fn with_file(self, name: PathString, file: F) -> Self {
         let ReadAhead { buffer, .. } = self;
         ReadAhead {
@@ -51,19 +51,19 @@ impl<F: Read + Seek + Drop> ReadAhead<F> {
             start: 0,
             filled: 0,
             end: None,
-            is_begun: false,
+            has_been_read: false,
         }
     }
 
     /// Returns whether the file has this name.
-    pub fn is_of(&self, name: &str) -> bool {
+    pub fn has_name(&self, name: &str) -> bool {
         self.name.as_str() == name
     }
 
-    /// Reads from an offset on into the buffer.
+    /// Fills the buffer from an offset of the file.
     fn fill(&mut self, at: u64) -> io::Result<()> {
         self.filled = 0;
-        self.is_begun = true;
+        self.has_been_read = true;
         if self.buffer.is_empty() {
             self.buffer.resize(BUFFER, 0)?;
         }
@@ -73,38 +73,38 @@ impl<F: Read + Seek + Drop> ReadAhead<F> {
         Ok(())
     }
 
-    /// Reads past the buffer.
-    fn read_past(&mut self, at: u64, buf: &mut [u8]) -> io::Result<usize>
+    /// Reads from an offset of the file into `buf`, bypassing the buffer.
+    fn read_unbuffered(&mut self, at: u64, buf: &mut [u8]) -> io::Result<usize>
         ensures { IfOk result (λ n. n ≤ length buf.new) }
     {
-        self.is_begun = true;
+        self.has_been_read = true;
         self.file.seek(SeekFrom::Start(at))?;
         let n = self.file.read(buf)?;
         self.end = (n < buf.len()).then_some(at.saturating_add(n as u64));
         Ok(n)
     }
 
-    /// Reads what the file has from a place on, and answers how many bytes it read: none only at its end or
-    /// into an empty buffer.
+    /// Reads from an offset of the file into `buf`. Returns the number of bytes read, which is 0 only at the end of
+    /// the file or if `buf` is empty.
     pub fn read_at(&mut self, at: u64, buf: &mut [u8]) -> io::Result<usize>
         ensures { IfOk result (λ n. n ≤ length buf.new) }
     {
         if at < self.start || at - self.start >= self.filled as u64 {
-            // Many bytes are read past the buffer, those of a file's end, and, before any other, some that don't begin
-            // the file, by which its length is asked for.
-            let asks_length = at > 0 && !self.is_begun;
-            if buf.len() >= LARGE || self.end == Some(at) || asks_length {
-                return self.read_past(at, buf);
+            // These reads bypass the buffer: large ones, those at the end of the file, and a first read after the
+            // start of the file, which only tests its length.
+            let is_length_test = at > 0 && !self.has_been_read;
+            if buf.len() >= LARGE || self.end == Some(at) || is_length_test {
+                return self.read_unbuffered(at, buf);
             }
             self.fill(at)?;
         }
         let from = at.saturating_sub(self.start) as usize;
-        let held = &self.buffer[..self.filled];
-        if from >= held.len() {
+        let buffered = &self.buffer[..self.filled];
+        if from >= buffered.len() {
             return Ok(0);
         }
-        let n = (held.len() - from).min(buf.len());
-        buf[..n].copy_from_slice(&held[from..from + n]);
+        let n = (buffered.len() - from).min(buf.len());
+        buf[..n].copy_from_slice(&buffered[from..from + n]);
         Ok(n)
     }
 }

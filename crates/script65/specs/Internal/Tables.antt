@@ -8,6 +8,6 @@ use Rattle.script65.specs.declared.reading.entries.ConfigEntry.{ConfigEntry}
 abbrev pub KeysMatchNames : List (List ℕ × ConfigEntry) → Type 0
 KeysMatchNames es = AllByRecursion (λ (e : List ℕ × ConfigEntry). e.0 ≡ e.1.name) es
 
--- the place of the entry of which this is the name for the part with an ending
-abbrev pub part_at : List ConfigEntry → List ℕ → List ℕ → Option ℕ
-part_at es name end = position (λ (e : ConfigEntry). bytes_eq name (codes "__" ++ (e.name ++ end))) es
+-- the index of the entry N for which the name is `__N` and this ending
+abbrev pub owner_index_by_ending : List ConfigEntry → List ℕ → List ℕ → Option ℕ
+owner_index_by_ending es name end = position (λ (e : ConfigEntry). bytes_eq name (codes "__" ++ (e.name ++ end))) es

@@ -1,4 +1,4 @@
-//! The rows of all areas, and what segments need.
+//! Places all areas and their rows, by the sizes that segments need.
 
 ghost use Rattle.std.specs.Prelude.{◌≡◌, ℕ, List, IfOk, map, ◌<◌, ◌++◌, ◌∷◌, ◌==◌, [], Some, OnOk, length, slice_get, if◌then◌else◌, ◌≤◌};
 ghost use Rattle.std.specs.Str.{bytes_eq};
@@ -6,20 +6,20 @@ ghost use Rattle.indexmap.specs.IndexMap.{get_by};
 ghost use Rattle.indexmap.specs.IndexSet.{contains_by};
 ghost use Rattle.base65.specs.Outcome.{Refines};
 ghost use Rattle.script65.specs.Faults.{is_place_system_error};
-ghost use Rattle.script65.specs.Placing.{has_row, rows_exist, size_of, unplaced_row, is_in, places_in, areas_from, row_place, rows_from, spots_after};
+ghost use Rattle.script65.specs.Placing.{has_row, rows_exist, size_of, unplaced_row, is_in, row_indices_in, areas_from, row_placement, rows_from, row_states_after};
 ghost use Rattle.std.specs.Option.{option_map};
-ghost use Rattle.script65.specs.declared.placing.site.RowState.{RowState};
+ghost use Rattle.script65.specs.declared.placing.row_placing.RowState.{RowState};
 ghost use Rattle.script65.specs.declared.script.SegmentRow.{SegmentRow};
 
 use crate::placement::{AreaPlacement, PlaceFault, RowPlacement, SegmentNeed};
-use crate::placing::site::{AreaContext, RowState};
-use crate::placing::sums::{SumContext, row_place};
+use crate::placing::row_placing::{AreaContext, RowState};
+use crate::placing::sums::{SumContext, row_placement};
 use crate::script::{MemoryArea, SegmentRow};
 use base65::ListVec;
 use indexmap::{IndexMap, IndexSet};
 use std::alloc::{AllocError, Global};
 
-// The names of rows.
+// Returns the names of rows.
 fn names_of<'a>(alloc: Global, rows: &'a [SegmentRow]) -> Result<IndexSet<&'a [u8]>, AllocError>
     ensures { IfOk result (λ s. (name : List ℕ) →
         contains_by (λ k. bytes_eq name k.now) s ≡ has_row rows.now name) }
@@ -31,7 +31,7 @@ fn names_of<'a>(alloc: Global, rows: &'a [SegmentRow]) -> Result<IndexSet<&'a [u
     Ok(names)
 }
 
-/// Refuses the first need that no row has.
+/// Rejects the first need that has no row.
 pub fn check_rows(
     alloc: Global,
     rows: &[SegmentRow],
@@ -48,7 +48,8 @@ pub fn check_rows(
     Ok(())
 }
 
-// The sizes of segments by name. Of two needs of one name the first counts, so it comes last.
+// Returns the sizes of segments by name. Of two needs with one name the first counts, so it is
+// inserted last.
 fn sizes_of<'a>(
     alloc: Global,
     needs: &'a [SegmentNeed],
@@ -64,27 +65,27 @@ fn sizes_of<'a>(
     Ok(sizes)
 }
 
-/// The rows before any is placed.
+/// Returns the states of the rows before any is placed.
 pub fn unplaced_rows(
     alloc: Global,
     rows: &[SegmentRow],
     needs: &[SegmentNeed],
 ) -> Result<Vec<RowState>, AllocError>
-    ensures { IfOk result (λ spots. spots.items ≡ map (unplaced_row needs.now) rows.now) }
+    ensures { IfOk result (λ row_states. row_states.items ≡ map (unplaced_row needs.now) rows.now) }
 {
     let sizes = sizes_of(alloc, needs)?;
-    let mut spots = Vec::new(alloc);
+    let mut row_states = Vec::new(alloc);
     for row in rows {
-        spots.push(RowState {
+        row_states.push(RowState {
             size: sizes.get(row.name.as_slice()).copied(),
             run: 0,
             load: 0,
         })?;
     }
-    Ok(spots)
+    Ok(row_states)
 }
 
-// As many empty sequences as there are areas.
+// Returns an empty list for each area.
 fn no_members(alloc: Global, areas: usize) -> Result<Vec<ListVec<usize>>, AllocError>
     ensures { IfOk result (λ v. (k : ℕ) → k < areas → slice_get v.items k ≡ Some []) }
 {
@@ -110,29 +111,29 @@ fn add_member(members: &mut Vec<ListVec<usize>>, area: usize, row: usize) -> Res
 fn add_row(
     members: &mut Vec<ListVec<usize>>,
     row: &SegmentRow,
-    place: usize,
+    index: usize,
 ) -> Result<(), AllocError>
     ensures { OnOk result ((k : ℕ) → slice_get members.new.items k
-        ≡ option_map (λ m. if is_in k row.now then m ++ place ∷ [] else m) (slice_get members.old.items k)) }
+        ≡ option_map (λ m. if is_in k row.now then m ++ index ∷ [] else m) (slice_get members.old.items k)) }
 {
-    add_member(members, row.run, place)?;
+    add_member(members, row.run, index)?;
     if row.load != row.run {
-        add_member(members, row.load, place)?;
+        add_member(members, row.load, index)?;
     }
     Ok(())
 }
 
-/// The places of the rows of each area, in order.
+/// Returns the indices of the rows of each area, in order.
 pub fn members_of(
     alloc: Global,
     areas: usize,
     rows: &[SegmentRow],
 ) -> Result<Vec<ListVec<usize>>, AllocError>
-    ensures { IfOk result (λ v. (k : ℕ) → k < areas → slice_get v.items k ≡ Some (places_in k 0 rows.now)) }
+    ensures { IfOk result (λ v. (k : ℕ) → k < areas → slice_get v.items k ≡ Some (row_indices_in k 0 rows.now)) }
 {
     let mut members = no_members(alloc, areas)?;
-    for (place, row) in rows.iter().enumerate() {
-        add_row(&mut members, row, place)?;
+    for (index, row) in rows.iter().enumerate() {
+        add_row(&mut members, row, index)?;
     }
     Ok(members)
 }
@@ -140,97 +141,101 @@ pub fn members_of(
 // Places a row of an area, and returns the address after it.
 fn place_member(
     alloc: Global,
-    site: &AreaContext,
+    context: &AreaContext,
     rows: &[SegmentRow],
     member: usize,
-    spots: &mut [RowState],
+    row_states: &mut [RowState],
     cursor: u64,
 ) -> Result<u64, PlaceFault>
     requires row { member < length rows.now }
-    requires spot { member < length spots.old }
-    requires room { cursor ≤ site.now.bounds.end }
-    requires order { site.now.bounds.start ≤ site.now.bounds.end }
-    requires small { site.now.bounds.end ≤ 8589934592 }
+    requires spot { member < length row_states.old }
+    requires capacity { cursor ≤ context.now.bounds.end }
+    requires order { context.now.bounds.start ≤ context.now.bounds.end }
+    requires small { context.now.bounds.end ≤ 8589934592 }
     ensures value { (r : SegmentRow) → (s : RowState) →
-        slice_get rows.now member ≡ Some r → slice_get spots.old member ≡ Some s →
-        Refines is_place_system_error (λ end. (spots.new, end)) result
-        (spots_after site.now.place site.now.area.now site.now.bounds r s cursor member spots.old) }
-    ensures bound { IfOk result (λ end. end ≤ site.now.bounds.end) }
+        slice_get rows.now member ≡ Some r → slice_get row_states.old member ≡ Some s →
+        Refines is_place_system_error (λ end. (row_states.new, end)) result
+        (row_states_after context.now.index context.now.area.now context.now.bounds r s cursor member row_states.old) }
+    ensures bound { IfOk result (λ end. end ≤ context.now.bounds.end) }
 {
-    let (spot, end) = site.place_row(alloc, &rows[member], spots[member], cursor)?;
-    spots[member] = spot;
+    let (row_state, end) = context.place_row(alloc, &rows[member], row_states[member], cursor)?;
+    row_states[member] = row_state;
     Ok(end)
 }
 
 // Places the rows of an area, and returns the address after the last one.
 fn place_area(
     alloc: Global,
-    site: &AreaContext,
+    context: &AreaContext,
     rows: &[SegmentRow],
     members: &[usize],
-    spots: &mut [RowState],
+    row_states: &mut [RowState],
 ) -> Result<u64, PlaceFault>
-    requires members { members.now ≡ places_in site.now.place 0 rows.now }
-    requires count { length spots.old ≡ length rows.now }
-    requires order { site.now.bounds.start ≤ site.now.bounds.end }
-    requires small { site.now.bounds.end ≤ 8589934592 }
-    ensures { Refines is_place_system_error (λ last. (spots.new, last)) result
-        (rows_from site.now.place site.now.area.now site.now.bounds rows.now spots.old site.now.bounds.start) }
+    requires members { members.now ≡ row_indices_in context.now.index 0 rows.now }
+    requires count { length row_states.old ≡ length rows.now }
+    requires order { context.now.bounds.start ≤ context.now.bounds.end }
+    requires small { context.now.bounds.end ≤ 8589934592 }
+    ensures { Refines is_place_system_error (λ last. (row_states.new, last)) result
+        (rows_from context.now.index context.now.area.now context.now.bounds rows.now row_states.old context.now.bounds.start) }
 {
-    let mut cursor = site.bounds.start;
+    let mut cursor = context.bounds.start;
     for member in members {
-        cursor = place_member(alloc, site, rows, *member, spots, cursor)?;
+        cursor = place_member(alloc, context, rows, *member, row_states, cursor)?;
     }
     Ok(cursor)
 }
 
-/// Places all areas and their rows, each area with its members, and answers where the areas are.
+/// Places all areas and the rows in them, by the indices in `members`. Returns the placements of
+/// the areas.
 pub fn place_areas(
     alloc: Global,
     areas: &[MemoryArea],
     rows: &[SegmentRow],
     members: &[ListVec<usize>],
-    spots: &mut [RowState],
+    row_states: &mut [RowState],
 ) -> Result<ListVec<AreaPlacement>, PlaceFault>
-    requires members { (k : ℕ) → k < length areas.now → slice_get members.now k ≡ Some (places_in k 0 rows.now) }
-    requires count { length spots.old ≡ length rows.now }
-    ensures { Refines is_place_system_error (λ places. record { areas = places; rows = map row_place spots.new }) result
-        (areas_from 0 areas.now rows.now areas.now [] spots.old) }
+    requires members { (k : ℕ) → k < length areas.now → slice_get members.now k ≡ Some (row_indices_in k 0 rows.now) }
+    requires count { length row_states.old ≡ length rows.now }
+    ensures { Refines is_place_system_error (λ placements. record { areas = placements; rows = map row_placement row_states.new }) result
+        (areas_from 0 areas.now rows.now areas.now [] row_states.old) }
 {
-    let mut places = ListVec::new(alloc);
-    for (place, area) in areas.iter().enumerate() {
+    let mut placements = ListVec::new(alloc);
+    for (index, area) in areas.iter().enumerate() {
         let bounds = SumContext {
-            place,
+            index,
             area,
             areas,
             rows,
-            area_places: places.as_slice(),
-            spots,
+            area_placements: placements.as_slice(),
+            row_states,
             start: None,
         }
         .bounds(alloc)?;
-        let site = AreaContext {
-            place,
+        let context = AreaContext {
+            index,
             area,
             bounds,
         };
-        let last = place_area(alloc, &site, rows, members[place].as_slice(), spots)?;
-        places.push(AreaPlacement {
+        let last = place_area(alloc, &context, rows, members[index].as_slice(), row_states)?;
+        placements.push(AreaPlacement {
             start: bounds.start,
             size: bounds.end - bounds.start,
             last,
         })?;
     }
-    Ok(places)
+    Ok(placements)
 }
 
-/// The places of all rows.
-pub fn row_places(alloc: Global, spots: &[RowState]) -> Result<ListVec<RowPlacement>, AllocError>
-    ensures { IfOk result (λ places. places ≡ map row_place spots.now) }
+/// Returns the placements of all rows.
+pub fn row_placements(
+    alloc: Global,
+    row_states: &[RowState],
+) -> Result<ListVec<RowPlacement>, AllocError>
+    ensures { IfOk result (λ placements. placements ≡ map row_placement row_states.now) }
 {
-    let mut places = ListVec::new(alloc);
-    for spot in spots {
-        places.push(row_place(*spot))?;
+    let mut placements = ListVec::new(alloc);
+    for row_state in row_states {
+        placements.push(row_placement(*row_state))?;
     }
-    Ok(places)
+    Ok(placements)
 }

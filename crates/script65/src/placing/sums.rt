@@ -1,41 +1,41 @@
-//! The values of the sums of areas.
+//! Evaluates the sums of areas.
 
 ghost use Rattle.std.specs.Prelude.{◌≡◌, ◌≤◌, ◌++◌, ◌^◌, IfOk, codes, is_some, map, slice_get};
 ghost use Rattle.script65.specs.declared.script.MemoryArea.{MemoryArea};
 ghost use Rattle.script65.specs.declared.script.SegmentRow.{SegmentRow};
 ghost use Rattle.base65.specs.Outcome.{Refines};
 ghost use Rattle.script65.specs.Faults.{is_place_system_error};
-ghost use Rattle.script65.specs.Internal.Standing.{standing_in};
-ghost use Rattle.script65.specs.Placing.{row_place};
-ghost use Rattle.script65.specs.AreaSums.{bounds_in, is_known, operand_name, operand_value, places_there, sum_by, sum_in, unknown};
+ghost use Rattle.script65.specs.Internal.SumContexts.{sum_context_in};
+ghost use Rattle.script65.specs.Placing.{row_placement};
+ghost use Rattle.script65.specs.AreaSums.{bounds_in, is_known, operand_name, operand_value, known_placements, sum_by, sum_in, first_unknown};
 
 use crate::placement::{AreaPlacement, PlaceFault, RowPlacement};
-use crate::placing::site::{Bounds, RowState};
+use crate::placing::row_placing::{Bounds, RowState};
 use crate::script::{AreaAttribute, MemoryArea, Operand, RowAttribute, SegmentRow, Term};
 use crate::sums::difference;
 use base65::ListVec;
 use std::alloc::{AllocError, Global};
 
-/// Where the sums of an area are asked for: the area and its place in the script, the script's areas and rows, where those
-/// before it are placed, and its own start, once that is found.
+/// The context of an area's sums: the area and its index in the script, the script's areas and rows, the placements of the
+/// areas before it and of the rows, and its own start, once that is known.
 #[derive(Clone, Copy)]
 pub struct SumContext<'a> {
-    pub place: usize,
+    pub index: usize,
     pub area: &'a MemoryArea,
     pub areas: &'a [MemoryArea],
     pub rows: &'a [SegmentRow],
-    pub area_places: &'a [AreaPlacement],
-    pub spots: &'a [RowState],
+    pub area_placements: &'a [AreaPlacement],
+    pub row_states: &'a [RowState],
     pub start: Option<u64>,
 }
 
-pub fn row_place(spot: RowState) -> RowPlacement
-    ensures { result ≡ row_place spot }
+pub fn row_placement(row_state: RowState) -> RowPlacement
+    ensures { result ≡ row_placement row_state }
 {
     RowPlacement {
-        load: spot.load,
-        run: spot.run,
-        size: spot.size.unwrap_or(0),
+        load: row_state.load,
+        run: row_state.run,
+        size: row_state.size.unwrap_or(0),
     }
 }
 
@@ -50,38 +50,38 @@ fn attribute_name(alloc: Global, name: &[u8], ending: &[u8]) -> Result<ListVec<u
 }
 
 impl SumContext<'_> {
-    // Where the area at another place is, as far as that is known.
-    fn area_place(&self, place: usize) -> Option<AreaPlacement>
-        ensures { result ≡ slice_get (places_there (standing_in self.now)) place }
+    // Returns the placement of the area at an index, as far as it is known.
+    fn area_placement(&self, index: usize) -> Option<AreaPlacement>
+        ensures { result ≡ slice_get (known_placements (sum_context_in self.now)) index }
     {
         match self.start {
-            Some(start) if place == self.area_places.len() => Some(AreaPlacement {
+            Some(start) if index == self.area_placements.len() => Some(AreaPlacement {
                 start,
                 size: 0,
                 last: start,
             }),
-            _ => self.area_places.get(place).copied(),
+            _ => self.area_placements.get(index).copied(),
         }
     }
 
     fn operand_value(&self, operand: Operand) -> u64
-        ensures { result ≡ operand_value (places_there (standing_in self.now)) (map row_place self.now.spots.now) operand }
+        ensures { result ≡ operand_value (known_placements (sum_context_in self.now)) (map row_placement self.now.row_states.now) operand }
     {
         match operand {
             Operand::Number(number) => u64::from(number),
-            Operand::Area(place, part) => match self.area_place(place) {
-                Some(place) => match part {
-                    AreaAttribute::Start => place.start,
-                    AreaAttribute::Size => place.size,
-                    AreaAttribute::Last => place.last,
+            Operand::Area(index, part) => match self.area_placement(index) {
+                Some(placement) => match part {
+                    AreaAttribute::Start => placement.start,
+                    AreaAttribute::Size => placement.size,
+                    AreaAttribute::Last => placement.last,
                 },
                 None => 0,
             },
-            Operand::Row(row, part) => match self.spots.get(row) {
-                Some(spot) => match part {
-                    RowAttribute::Load => spot.load,
-                    RowAttribute::Run => spot.run,
-                    RowAttribute::Size => spot.size.unwrap_or(0),
+            Operand::Row(row, part) => match self.row_states.get(row) {
+                Some(row_state) => match part {
+                    RowAttribute::Load => row_state.load,
+                    RowAttribute::Run => row_state.run,
+                    RowAttribute::Size => row_state.size.unwrap_or(0),
                 },
                 None => 0,
             },
@@ -89,20 +89,20 @@ impl SumContext<'_> {
     }
 
     fn is_known(&self, term: Term) -> bool
-        ensures { result ≡ is_known self.now.place (is_some self.now.start) self.now.rows.now term }
+        ensures { result ≡ is_known self.now.index (is_some self.now.start) self.now.rows.now term }
     {
         match term.operand {
             Operand::Number(_) => true,
-            Operand::Area(place, part) => match part {
+            Operand::Area(index, part) => match part {
                 AreaAttribute::Start => {
-                    place < self.place || (self.start.is_some() && place == self.place)
+                    index < self.index || (self.start.is_some() && index == self.index)
                 }
-                AreaAttribute::Size | AreaAttribute::Last => place < self.place,
+                AreaAttribute::Size | AreaAttribute::Last => index < self.index,
             },
             Operand::Row(row, part) => match self.rows.get(row) {
                 Some(row) => match part {
-                    RowAttribute::Load => row.load < self.place,
-                    RowAttribute::Run => row.run < self.place,
+                    RowAttribute::Load => row.load < self.index,
+                    RowAttribute::Run => row.run < self.index,
                     RowAttribute::Size => true,
                 },
                 None => false,
@@ -110,9 +110,9 @@ impl SumContext<'_> {
         }
     }
 
-    // The first term that isn't known.
-    fn unknown(&self, terms: &[Term]) -> Option<Term>
-        ensures { result ≡ unknown (standing_in self.now) terms.now }
+    // Returns the first term whose value isn't known.
+    fn first_unknown(&self, terms: &[Term]) -> Option<Term>
+        ensures { result ≡ first_unknown (sum_context_in self.now) terms.now }
     {
         for term in terms {
             if !self.is_known(*term) {
@@ -122,13 +122,13 @@ impl SumContext<'_> {
         None
     }
 
-    // The name that an operand was written as.
+    // Returns the name of an operand in the script. That of a number is empty.
     fn operand_name(&self, alloc: Global, operand: Operand) -> Result<ListVec<u8>, AllocError>
         ensures { IfOk result (λ name. name ≡ operand_name self.now.areas.now self.now.rows.now operand) }
     {
         match operand {
             Operand::Number(_) => Ok(ListVec::new(alloc)),
-            Operand::Area(place, part) => match self.areas.get(place) {
+            Operand::Area(index, part) => match self.areas.get(index) {
                 Some(area) => attribute_name(alloc, area.name.as_slice(), part.ending()),
                 None => attribute_name(alloc, b"", part.ending()),
             },
@@ -141,26 +141,26 @@ impl SumContext<'_> {
 
     // Returns the sum of the added terms less that of the subtracted ones.
     fn sum_by(&self, terms: &[Term]) -> Option<u32>
-        ensures { result ≡ sum_by (places_there (standing_in self.now)) (map row_place self.now.spots.now) terms.now }
+        ensures { result ≡ sum_by (known_placements (sum_context_in self.now)) (map row_placement self.now.row_states.now) terms.now }
     {
         let mut added = 0u128;
-        let mut taken = 0u128;
+        let mut subtracted = 0u128;
         for term in terms {
             let value = u128::from(self.operand_value(term.operand));
             if term.minus {
-                taken += value;
+                subtracted += value;
             } else {
                 added += value;
             }
         }
-        difference(added, taken)
+        difference(added, subtracted)
     }
 
-    // The sum of terms, or the fault of the first that isn't known, or else that of the sum.
+    // Returns the sum of terms, or an error: of the first term that isn't known, or else of the sum.
     fn sum(&self, alloc: Global, terms: &[Term]) -> Result<u32, PlaceFault>
-        ensures { Refines is_place_system_error (λ n. n) result (sum_in (standing_in self.now) terms.now) }
+        ensures { Refines is_place_system_error (λ n. n) result (sum_in (sum_context_in self.now) terms.now) }
     {
-        if let Some(term) = self.unknown(terms) {
+        if let Some(term) = self.first_unknown(terms) {
             return Err(PlaceFault::NotPlaced(self.operand_name(alloc, term.operand)?));
         }
         match self.sum_by(terms) {
@@ -175,7 +175,7 @@ impl SumContext<'_> {
     /// Returns the first address of the area, and the first address after it.
     pub fn bounds(&self, alloc: Global) -> Result<Bounds, PlaceFault>
         requires { self.now.start ≡ None }
-        ensures value { Refines is_place_system_error (λ b. b) result (bounds_in (standing_in self.now)) }
+        ensures value { Refines is_place_system_error (λ b. b) result (bounds_in (sum_context_in self.now)) }
         ensures order { IfOk result (λ b. b.start ≤ b.end) }
         ensures small { IfOk result (λ b. b.end ≤ 2 ^ 32) }
     {

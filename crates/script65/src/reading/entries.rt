@@ -4,13 +4,13 @@ ghost use Rattle.std.specs.Prelude.{◌≡◌, ◌++◌, ◌∷◌, [], position
 ghost use Rattle.std.specs.List.{list_any};
 ghost use Rattle.std.specs.Option.{option_and_then, option_copied, option_map};
 ghost use Rattle.std.specs.Str.{bytes_eq};
-ghost use Rattle.script65.specs.Entries.{entry_fault, given_for, has_name, is_given, no_entries, number_for, parts_for, role_for, value_for, with_entry};
+ghost use Rattle.script65.specs.Entries.{entry_fault, attribute_for, has_name, has_attribute, no_entries, number_for, terms_for, role_for, value_for, with_entry};
 ghost use Rattle.script65.specs.Scripts.{access_of, as_area, fill_or, number_or, flag_for};
 ghost use Rattle.script65.specs.declared.reading.entries.ConfigEntry.{ConfigEntry};
 
 use crate::fault::Fault;
+use crate::reading::keyword_tables::{Block, KeywordValue, SymbolType};
 use crate::reading::tokens::Bytes;
-use crate::reading::words::{Block, KeywordValue, SymbolType};
 use crate::script::SegmentType;
 use base65::ListVec;
 use indexmap::IndexMap;
@@ -24,7 +24,7 @@ pub enum Value<'a> {
     Number(u32),
     Byte(u8),
     Sum,
-    Said(KeywordValue),
+    Keyword(KeywordValue),
     /// The name of an area.
     Area(Bytes<'a>),
     File(Bytes<'a>),
@@ -32,7 +32,7 @@ pub enum Value<'a> {
     Output,
 }
 
-/// A term of a sum: a number, or else a name, and its place.
+/// A term of a sum: a number or a name, and its offset.
 #[derive(Drop)]
 pub struct ParsedTerm<'a> {
     /// Whether the term has a `-`.
@@ -42,63 +42,63 @@ pub struct ParsedTerm<'a> {
     pub at: usize,
 }
 
-/// An attribute, what is given for it, and of a sum its terms.
+/// An attribute, its value, and the terms if that is a sum.
 #[derive(Drop)]
 pub struct AttributeValue<'a> {
-    pub word: Bytes<'a>,
+    pub identifier: Bytes<'a>,
     pub value: Value<'a>,
-    pub parts: ListVec<ParsedTerm<'a>>,
+    pub parsed_terms: ListVec<ParsedTerm<'a>>,
 }
 
-/// An entry: its name, the place of that, and its attributes.
+/// An entry: its name, the offset of its name, and its attributes.
 #[derive(Drop)]
 pub struct ConfigEntry<'a> {
     pub name: Bytes<'a>,
     pub at: usize,
-    pub given: ListVec<AttributeValue<'a>>,
+    pub assignments: ListVec<AttributeValue<'a>>,
 }
 
 impl<'a> ConfigEntry<'a> {
     /// Returns the value that the entry has for an attribute.
-    pub fn given_for(&self, word: &str) -> Option<&AttributeValue<'a>>
-        ensures { option_map (λ g. g.now) result ≡ given_for word.now self.now }
+    pub fn attribute_for(&self, identifier: &str) -> Option<&AttributeValue<'a>>
+        ensures { option_map (λ g. g.now) result ≡ attribute_for identifier.now self.now }
     {
-        for given in self.given.as_slice() {
-            if word.as_bytes() == given.word.as_slice() {
-                return Some(given);
+        for assignment in self.assignments.as_slice() {
+            if identifier.as_bytes() == assignment.identifier.as_slice() {
+                return Some(assignment);
             }
         }
         None
     }
 
-    pub fn is_given(&self, word: &str) -> bool
-        ensures { result ≡ is_given word.now self.now }
+    pub fn has_attribute(&self, identifier: &str) -> bool
+        ensures { result ≡ has_attribute identifier.now self.now }
     {
-        self.given_for(word).is_some()
+        self.attribute_for(identifier).is_some()
     }
 
-    /// The terms of its sum, if it is one.
-    pub fn parts_for(&self, word: &str) -> &[ParsedTerm<'a>]
-        ensures { result.now ≡ parts_for word.now self.now }
+    /// Returns the terms of an attribute's sum, and none if it isn't a sum.
+    pub fn terms_for(&self, identifier: &str) -> &[ParsedTerm<'a>]
+        ensures { result.now ≡ terms_for identifier.now self.now }
     {
-        for given in self.given.as_slice() {
-            if word.as_bytes() == given.word.as_slice() {
-                return given.parts.as_slice();
+        for assignment in self.assignments.as_slice() {
+            if identifier.as_bytes() == assignment.identifier.as_slice() {
+                return assignment.parsed_terms.as_slice();
             }
         }
         &[]
     }
 
-    pub fn value_for(&self, word: &str) -> Option<&Value<'a>>
-        ensures { option_map (λ v. v.now) result ≡ value_for word.now self.now }
+    pub fn value_for(&self, identifier: &str) -> Option<&Value<'a>>
+        ensures { option_map (λ v. v.now) result ≡ value_for identifier.now self.now }
     {
-        Some(&self.given_for(word)?.value)
+        Some(&self.attribute_for(identifier)?.value)
     }
 
-    pub fn number_for(&self, word: &str) -> Option<u32>
-        ensures { result ≡ number_for word.now self.now }
+    pub fn number_for(&self, identifier: &str) -> Option<u32>
+        ensures { result ≡ number_for identifier.now self.now }
     {
-        match self.value_for(word) {
+        match self.value_for(identifier) {
             Some(Value::Number(n)) => Some(*n),
             _ => None,
         }
@@ -108,29 +108,29 @@ impl<'a> ConfigEntry<'a> {
         ensures { result ≡ role_for self.now }
     {
         match self.value_for("type") {
-            Some(Value::Said(KeywordValue::Role(role))) => Some(*role),
+            Some(Value::Keyword(KeywordValue::Role(role))) => Some(*role),
             _ => None,
         }
     }
 
-    /// The name of the area that an attribute names.
-    pub fn area_for(&self, word: &str) -> Option<&[u8]>
-        ensures { option_copied result ≡ option_and_then as_area (value_for word.now self.now) }
+    /// Returns the name of the area that is an attribute's value.
+    pub fn area_for(&self, identifier: &str) -> Option<&[u8]>
+        ensures { option_copied result ≡ option_and_then as_area (value_for identifier.now self.now) }
     {
-        match self.value_for(word) {
+        match self.value_for(identifier) {
             Some(Value::Area(name)) => Some(name.as_slice()),
             _ => None,
         }
     }
 
-    /// The number given, or another where there is none.
-    pub fn number_or(&self, other: u32, word: &str) -> u32
-        ensures { result ≡ number_or other word.now self.now }
+    /// Returns the number given for an attribute, or `other` if there is none.
+    pub fn number_or(&self, other: u32, identifier: &str) -> u32
+        ensures { result ≡ number_or other identifier.now self.now }
     {
-        self.number_for(word).unwrap_or(other)
+        self.number_for(identifier).unwrap_or(other)
     }
 
-    /// The byte of gaps given, or another where there is none.
+    /// Returns the given byte for gaps, or `other` if there is none.
     pub fn fill_or(&self, other: u8) -> u8
         ensures { result ≡ fill_or other self.now }
     {
@@ -140,12 +140,12 @@ impl<'a> ConfigEntry<'a> {
         }
     }
 
-    /// Returns whether an attribute says yes.
-    pub fn flag_for(&self, word: &str) -> bool
-        ensures { result ≡ flag_for word.now self.now }
+    /// Returns whether an attribute is `yes`.
+    pub fn flag_for(&self, identifier: &str) -> bool
+        ensures { result ≡ flag_for identifier.now self.now }
     {
-        match self.value_for(word) {
-            Some(Value::Said(KeywordValue::Flag(flag))) => *flag,
+        match self.value_for(identifier) {
+            Some(Value::Keyword(KeywordValue::Flag(flag))) => *flag,
             _ => false,
         }
     }
@@ -154,7 +154,7 @@ impl<'a> ConfigEntry<'a> {
         ensures { result ≡ access_of self.now }
     {
         match self.value_for("type") {
-            Some(Value::Said(KeywordValue::Access(access))) => *access,
+            Some(Value::Keyword(KeywordValue::Access(access))) => *access,
             _ => SegmentType::ReadWrite,
         }
     }
@@ -165,24 +165,24 @@ impl<'a> ConfigEntry<'a> {
     {
         match block {
             Block::Memory => {
-                if !(self.is_given("start") && self.is_given("size")) {
+                if !(self.has_attribute("start") && self.has_attribute("size")) {
                     return Some(Fault::AttributeMissing);
                 }
                 let start = self.number_or(0, "start");
                 let size = self.number_or(0, "size");
                 (u64::from(start) + u64::from(size) > 1 << 32).then_some(Fault::OutOfRange)
             }
-            Block::Segments => (!self.is_given("load")).then_some(Fault::AttributeMissing),
+            Block::Segments => (!self.has_attribute("load")).then_some(Fault::AttributeMissing),
             Block::Symbols => match self.role() {
                 None => Some(Fault::AttributeMissing),
-                Some(SymbolType::Import) => self.is_given("value").then_some(Fault::Excluded),
-                Some(_) => (!self.is_given("value")).then_some(Fault::AttributeMissing),
+                Some(SymbolType::Import) => self.has_attribute("value").then_some(Fault::Excluded),
+                Some(_) => (!self.has_attribute("value")).then_some(Fault::AttributeMissing),
             },
         }
     }
 }
 
-/// Entries in their order, each found by its name at once, which contracts see as a list.
+/// Entries in order, with an index by name. Contracts see a list.
 #[derive(Drop)]
 pub struct Table<'a> {
     entries: IndexMap<&'a [u8], ConfigEntry<'a>>,
@@ -217,18 +217,18 @@ impl<'a> Table<'a> {
         self.entries.contains_key(name)
     }
 
-    /// The place of the entry of this name.
-    pub fn place_of(&self, name: &[u8]) -> Option<usize>
+    /// Returns the index of the entry with this name.
+    pub fn index_of(&self, name: &[u8]) -> Option<usize>
         ensures { result ≡ position (λ (e : ConfigEntry). bytes_eq name.now e.name) self.now }
     {
         self.entries.get_index_of(name)
     }
 
-    /// The entry at a place.
-    pub fn get(&self, place: usize) -> Option<&ConfigEntry<'a>>
-        ensures { option_map (λ e. e.now) result ≡ slice_get self.now place }
+    /// Returns the entry at an index.
+    pub fn get(&self, index: usize) -> Option<&ConfigEntry<'a>>
+        ensures { option_map (λ e. e.now) result ≡ slice_get self.now index }
     {
-        let (_, entry) = self.entries.get_index(place)?;
+        let (_, entry) = self.entries.get_index(index)?;
         Some(entry)
     }
 
@@ -272,7 +272,7 @@ impl<'a> Entries<'a> {
         }
     }
 
-    /// Adds an entry of a new name to those of a block's kind.
+    /// Adds an entry with a new name to those of a block's kind.
     pub fn push(&mut self, block: Block, entry: ConfigEntry<'a>) -> Result<(), AllocError>
         requires { has_name entry.name block self.old ≡ false }
         ensures ok { OnOk result (self.new ≡ with_entry block entry.entry self.old) }

@@ -2,9 +2,9 @@
 //! next.
 
 ghost use Rattle.std.specs.Prelude.{◌≡◌, false};
-ghost use Rattle.script65.specs.Tokens.{word};
+ghost use Rattle.script65.specs.Tokens.{identifier};
 ghost use Rattle.base65.specs.Outcome.{RefinesProp};
-ghost use Rattle.script65.specs.SyntaxErrors.{add_part, attribute_or_end, attribute_value, comma_or_next, entry_name, token_move, sign_or_end};
+ghost use Rattle.script65.specs.SyntaxErrors.{add_term, attribute_or_end, attribute_value, comma_or_next, entry_name, token_move, sign_or_end};
 ghost use Rattle.script65.specs.Entries.{has_name};
 ghost use Rattle.script65.specs.Faults.{is_system_error};
 ghost use Rattle.script65.specs.Scripts.{HasEntries};
@@ -13,9 +13,9 @@ ghost use Rattle.script65.specs.Entries.{Entries};
 
 use crate::fault::{Fault, FaultAt};
 use crate::reading::entries::{AttributeValue, ConfigEntry, Entries, ParsedTerm};
+use crate::reading::keyword_tables::{BLOCKS, Block, ValueKind, attributes, find_keyword};
 use crate::reading::tokens::{Bytes, Lexeme, token_at};
-use crate::reading::values::{last_part, sum_of_parts, term_of, value_of};
-use crate::reading::words::{BLOCKS, Block, ValueKind, attributes, find_keyword};
+use crate::reading::values::{last_term_offset, sum_of_terms, term_of, value_of};
 use base65::ListVec;
 use std::alloc::Global;
 
@@ -23,13 +23,13 @@ use std::alloc::Global;
 #[derive(Drop)]
 pub enum ParseState<'a> {
     BetweenBlocks,
-    AfterBlockWord(Block),
+    AfterBlockKeyword(Block),
     BetweenEntries(Block),
     AfterName(Block, ConfigEntry<'a>),
     BetweenAttributes(Block, ConfigEntry<'a>),
-    /// Behind the word of an attribute that takes this.
-    AfterWord(Block, ConfigEntry<'a>, (Bytes<'a>, ValueKind)),
-    /// Behind its `=`.
+    /// After the name of an attribute, with the kind of its value.
+    AfterKeyword(Block, ConfigEntry<'a>, (Bytes<'a>, ValueKind)),
+    /// After its `=`.
     BeforeValue(Block, ConfigEntry<'a>, (Bytes<'a>, ValueKind)),
     /// Before a term of an attribute's sum; true if the term has a `-`.
     BeforeTerm(Block, ConfigEntry<'a>, Bytes<'a>, ListVec<ParsedTerm<'a>>, bool),
@@ -37,7 +37,7 @@ pub enum ParseState<'a> {
     AfterValue(Block, ConfigEntry<'a>),
 }
 
-// An attribute, or the `;` of the entry.
+// Reads the name of an attribute, or the `;` of the entry.
 fn attribute_or_end<'a>(
     entries: &mut Entries<'a>,
     block: Block,
@@ -50,12 +50,18 @@ fn attribute_or_end<'a>(
         (attribute_or_end entries.old block entry.entry lexeme.entry at) }
 {
     match lexeme {
-        Lexeme::Word(word) => match find_keyword(attributes(block), word.as_slice()) {
+        Lexeme::Identifier(identifier) => match find_keyword(
+            attributes(block),
+            identifier.as_slice(),
+        ) {
             None => Err(FaultAt::new(Fault::UnknownAttribute, at)),
-            Some((word, _)) if entry.is_given(word) => Err(FaultAt::new(Fault::AttributeTwice, at)),
-            Some((word, takes)) => {
-                let word = Bytes::of(word.as_bytes());
-                Ok(ParseState::AfterWord(block, entry, (word, takes)))
+            Some((identifier, _)) if entry.has_attribute(identifier) => Err(FaultAt::new(
+                Fault::AttributeTwice,
+                at,
+            )),
+            Some((identifier, value_kind)) => {
+                let identifier = Bytes::of(identifier.as_bytes());
+                Ok(ParseState::AfterKeyword(block, entry, (identifier, value_kind)))
             }
         },
         Lexeme::Semicolon => match entry.entry_fault(block) {
@@ -88,27 +94,27 @@ fn comma_or_next<'a>(
 }
 
 // Adds a term to a sum that has others.
-fn add_part<'a>(
+fn add_term<'a>(
     block: Block,
     entry: ConfigEntry<'a>,
-    word: Bytes<'a>,
-    mut parts: ListVec<ParsedTerm<'a>>,
+    identifier: Bytes<'a>,
+    mut parsed_terms: ListVec<ParsedTerm<'a>>,
     part: Result<ParsedTerm<'a>, Fault>,
     at: usize,
 ) -> Result<ParseState<'a>, FaultAt>
     ensures { (es : Entries) →
-        RefinesMove es result (add_part es block entry.entry word.entry parts.entry at part.entry) }
+        RefinesMove es result (add_term es block entry.entry identifier.entry parsed_terms.entry at part.entry) }
 {
     match part {
         Ok(part) => {
-            parts.push(part)?;
-            Ok(ParseState::AfterTerm(block, entry, word, parts))
+            parsed_terms.push(part)?;
+            Ok(ParseState::AfterTerm(block, entry, identifier, parsed_terms))
         }
         Err(fault) => Err(FaultAt::new(fault, at)),
     }
 }
 
-// The value of an attribute, or the first term of its sum.
+// Reads the value of an attribute, or the first term of its sum.
 fn attribute_value<'a>(
     alloc: Global,
     block: Block,
@@ -121,14 +127,25 @@ fn attribute_value<'a>(
         RefinesMove es result
         (attribute_value es block entry.entry row.entry.0 row.entry.1 lexeme.entry at) }
 {
-    let (word, takes) = row;
-    let parts = ListVec::new(alloc);
-    if let ValueKind::Sum = takes {
-        return add_part(block, entry, word, parts, term_of(false, at, lexeme), at);
+    let (identifier, value_kind) = row;
+    let parsed_terms = ListVec::new(alloc);
+    if let ValueKind::Sum = value_kind {
+        return add_term(
+            block,
+            entry,
+            identifier,
+            parsed_terms,
+            term_of(false, at, lexeme),
+            at,
+        );
     }
-    match value_of(takes, lexeme) {
+    match value_of(value_kind, lexeme) {
         Ok(value) => {
-            entry.given.push(AttributeValue { word, value, parts })?;
+            entry.assignments.push(AttributeValue {
+                identifier,
+                value,
+                parsed_terms,
+            })?;
             Ok(ParseState::AfterValue(block, entry))
         }
         Err(fault) => Err(FaultAt::new(fault, at)),
@@ -148,21 +165,25 @@ fn sign_or_end<'a>(
     ensures { RefinesMove entries.new result
         (sign_or_end entries.old block entry.entry sum.entry.0 sum.entry.1 lexeme.entry at) }
 {
-    let (word, parts) = sum;
+    let (identifier, parsed_terms) = sum;
     match lexeme {
-        Lexeme::Plus => Ok(ParseState::BeforeTerm(block, entry, word, parts, false)),
-        Lexeme::Minus => Ok(ParseState::BeforeTerm(block, entry, word, parts, true)),
-        lexeme => match sum_of_parts(parts.as_slice()) {
+        Lexeme::Plus => Ok(ParseState::BeforeTerm(block, entry, identifier, parsed_terms, false)),
+        Lexeme::Minus => Ok(ParseState::BeforeTerm(block, entry, identifier, parsed_terms, true)),
+        lexeme => match sum_of_terms(parsed_terms.as_slice()) {
             Some(value) => {
-                entry.given.push(AttributeValue { word, value, parts })?;
+                entry.assignments.push(AttributeValue {
+                    identifier,
+                    value,
+                    parsed_terms,
+                })?;
                 comma_or_next(entries, block, entry, lexeme, at)
             }
-            None => Err(FaultAt::new(Fault::OutOfRange, last_part(parts.as_slice()))),
+            None => Err(FaultAt::new(Fault::OutOfRange, last_term_offset(parsed_terms.as_slice()))),
         },
     }
 }
 
-// The name of an entry, which is given once in blocks of a kind.
+// Begins an entry. Its name must be new in blocks of this kind.
 fn entry_name<'a>(
     alloc: Global,
     entries: &Entries<'a>,
@@ -170,41 +191,48 @@ fn entry_name<'a>(
     name: Bytes<'a>,
     at: usize,
 ) -> Result<ParseState<'a>, FaultAt>
-    ensures { RefinesMove entries.now result (entry_name entries.now block (word name.entry) at) }
+    ensures { RefinesMove entries.now result (entry_name entries.now block (identifier name.entry) at) }
 {
     if entries.has(block, name.as_slice()) {
         return Err(FaultAt::new(Fault::NameTwice, at));
     }
-    let given = ListVec::new(alloc);
-    Ok(ParseState::AfterName(block, ConfigEntry { name, at, given }))
+    let assignments = ListVec::new(alloc);
+    Ok(ParseState::AfterName(
+        block,
+        ConfigEntry {
+            name,
+            at,
+            assignments,
+        },
+    ))
 }
 
-// What a token does at a place: the next place, if the script doesn't end.
+// Returns the state after a token, or `None` if the script ends.
 fn step<'a>(
     alloc: Global,
     entries: &mut Entries<'a>,
-    place: ParseState<'a>,
+    state: ParseState<'a>,
     lexeme: Lexeme<'a>,
     at: usize,
 ) -> Result<Option<ParseState<'a>>, FaultAt>
-    requires { IsFresh entries.old place }
-    ensures { RefinesMoveOrEnd entries.new result (token_move entries.old place.entry lexeme.entry at) }
+    requires { IsFresh entries.old state }
+    ensures { RefinesMoveOrEnd entries.new result (token_move entries.old state.entry lexeme.entry at) }
 {
-    let next = match place {
+    let next = match state {
         ParseState::BetweenBlocks => match lexeme {
-            Lexeme::Word(word) => match find_keyword(&BLOCKS, word.as_slice()) {
-                Some((_, block)) => ParseState::AfterBlockWord(block),
+            Lexeme::Identifier(identifier) => match find_keyword(&BLOCKS, identifier.as_slice()) {
+                Some((_, block)) => ParseState::AfterBlockKeyword(block),
                 None => return Err(FaultAt::new(Fault::SyntaxError, at)),
             },
             Lexeme::End => return Ok(None),
             _ => return Err(FaultAt::new(Fault::SyntaxError, at)),
         },
-        ParseState::AfterBlockWord(block) => match lexeme {
+        ParseState::AfterBlockKeyword(block) => match lexeme {
             Lexeme::Open => ParseState::BetweenEntries(block),
             _ => return Err(FaultAt::new(Fault::SyntaxError, at)),
         },
         ParseState::BetweenEntries(block) => match lexeme {
-            Lexeme::Word(name) => entry_name(alloc, entries, block, name, at)?,
+            Lexeme::Identifier(name) => entry_name(alloc, entries, block, name, at)?,
             Lexeme::Close => ParseState::BetweenBlocks,
             _ => return Err(FaultAt::new(Fault::SyntaxError, at)),
         },
@@ -215,25 +243,40 @@ fn step<'a>(
         ParseState::BetweenAttributes(block, entry) => {
             attribute_or_end(entries, block, entry, lexeme, at)?
         }
-        ParseState::AfterWord(block, entry, row) => match lexeme {
+        ParseState::AfterKeyword(block, entry, row) => match lexeme {
             Lexeme::Equals => ParseState::BeforeValue(block, entry, row),
             lexeme => attribute_value(alloc, block, entry, row, lexeme, at)?,
         },
         ParseState::BeforeValue(block, entry, row) => {
             attribute_value(alloc, block, entry, row, lexeme, at)?
         }
-        ParseState::BeforeTerm(block, entry, word, parts, minus) => {
-            add_part(block, entry, word, parts, term_of(minus, at, lexeme), at)?
+        ParseState::BeforeTerm(block, entry, identifier, parsed_terms, minus) => {
+            add_term(
+                block,
+                entry,
+                identifier,
+                parsed_terms,
+                term_of(minus, at, lexeme),
+                at,
+            )?
         }
-        ParseState::AfterTerm(block, entry, word, parts) => {
-            sign_or_end(entries, block, entry, (word, parts), lexeme, at)?
+        ParseState::AfterTerm(block, entry, identifier, parsed_terms) => {
+            sign_or_end(
+                entries,
+                block,
+                entry,
+                (identifier, parsed_terms),
+                lexeme,
+                at,
+            )?
         }
         ParseState::AfterValue(block, entry) => comma_or_next(entries, block, entry, lexeme, at)?,
     };
     Ok(Some(next))
 }
 
-/// The entries of a text, or its first fault before its last byte.
+/// Reads the entries of a text, or returns the first error of its tokens. Names in sums and
+/// areas of rows are checked later.
 pub fn read_entries(alloc: Global, bytes: &[u8]) -> Result<Entries<'_>, FaultAt>
     ensures { RefinesProp is_system_error (HasEntries bytes.now) result }
 {
@@ -241,14 +284,14 @@ pub fn read_entries(alloc: Global, bytes: &[u8]) -> Result<Entries<'_>, FaultAt>
     if bytes.len() > 1_048_576 {
         return Err(FaultAt::new(Fault::TooLong, 0));
     }
-    let mut place = ParseState::BetweenBlocks;
+    let mut state = ParseState::BetweenBlocks;
     let mut at = 0;
     'tokens: loop {
         let token = token_at(bytes, at);
-        let Some(next) = step(alloc, &mut entries, place, token.lexeme, token.at)? else {
+        let Some(next) = step(alloc, &mut entries, state, token.lexeme, token.at)? else {
             return Ok(entries);
         };
-        place = next;
+        state = next;
         at = token.following;
     }
 }

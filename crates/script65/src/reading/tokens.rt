@@ -1,9 +1,9 @@
-//! The tokens of a script, and the one at a place.
+//! Splits a script into tokens.
 
 ghost use Rattle.std.specs.Prelude.{◌≡◌, ◌≢◌, ◌≤◌, ◌<◌, ◌+◌, ◌==◌, false, length};
 ghost use Rattle.std.specs.List.{prefix_len, list_any, take_while};
 ghost use Rattle.std.specs.Char.{is_ascii_digit, is_ascii_hexdigit};
-ghost use Rattle.script65.specs.Tokens.{front, gap, hex_after, is_letter, is_string_byte, is_word_byte, mark, string_after, the_end, token, token_bytes};
+ghost use Rattle.script65.specs.Tokens.{leading_token, gap, hex_after, is_letter, is_string_byte, is_identifier_byte, punctuator, string_after, the_end, token, token_bytes};
 ghost use Rattle.script65.specs.Scripts.{line_at};
 
 use base65::{digits, is_utf8};
@@ -41,10 +41,10 @@ impl<'a> Bytes<'a> {
 }
 
 /// A token: an identifier; a number, with its value if that is below 2 ^ 32; a string, with its
-/// text; `%O`; or a mark. The end of the script and a byte that begins no token are tokens, too.
+/// text; `%O`; or a punctuator. The end of the script and a byte that begins no token are tokens, too.
 #[derive(Drop)]
 pub enum Lexeme<'a> {
-    Word(Bytes<'a>),
+    Identifier(Bytes<'a>),
     Number(Option<u32>),
     StringLiteral(Bytes<'a>),
     Output,
@@ -74,8 +74,8 @@ fn is_letter(b: u8) -> bool
     b.is_ascii_alphabetic() || b == b'_'
 }
 
-fn word_len(bytes: &[u8]) -> usize
-    ensures count { result ≡ prefix_len is_word_byte bytes.now }
+fn identifier_len(bytes: &[u8]) -> usize
+    ensures count { result ≡ prefix_len is_identifier_byte bytes.now }
     ensures within { result ≤ length bytes.now }
 {
     bytes
@@ -108,7 +108,7 @@ fn hex_len(bytes: &[u8]) -> usize
     bytes.iter().take_while(|b| b.is_ascii_hexdigit()).count()
 }
 
-// How many bytes of blanks and comments are at the front.
+// Returns the length of the blanks and comments at the front.
 fn gap_len(bytes: &[u8]) -> usize
     ensures count { result ≡ gap false bytes.now }
     ensures within { result ≤ length bytes.now }
@@ -159,9 +159,9 @@ fn hex(rest: &[u8]) -> (Lexeme<'_>, usize)
     }
 }
 
-// A byte that is a token by itself, or begins none.
-fn mark(b: u8) -> Lexeme<'static>
-    ensures { result ≡ mark b }
+// Returns the token of a single byte, or `Bad`.
+fn punctuator(b: u8) -> Lexeme<'static>
+    ensures { result ≡ punctuator b }
 {
     match b {
         b':' => Lexeme::Colon,
@@ -176,9 +176,9 @@ fn mark(b: u8) -> Lexeme<'static>
     }
 }
 
-// The token at the front, and of how many bytes it is.
-fn front(here: &[u8]) -> (Lexeme<'_>, usize)
-    ensures value { result ≡ front here.now }
+// Returns the token at the front, and its length in bytes.
+fn leading_token(here: &[u8]) -> (Lexeme<'_>, usize)
+    ensures value { result ≡ leading_token here.now }
     ensures within { result.1 ≤ length here.now }
     ensures some { result.0 ≢ the_end → 0 < result.1 }
 {
@@ -186,8 +186,8 @@ fn front(here: &[u8]) -> (Lexeme<'_>, usize)
         return (Lexeme::End, 0);
     };
     if is_letter(*first) {
-        let len = 1 + word_len(rest);
-        return (Lexeme::Word(Bytes::of(&here[..len])), len);
+        let len = 1 + identifier_len(rest);
+        return (Lexeme::Identifier(Bytes::of(&here[..len])), len);
     }
     if first.is_ascii_digit() {
         let len = 1 + decimal_len(rest);
@@ -200,21 +200,21 @@ fn front(here: &[u8]) -> (Lexeme<'_>, usize)
             [b'O', ..] => (Lexeme::Output, 2),
             _ => (Lexeme::Bad, 1),
         },
-        other => (mark(other), 1),
+        other => (punctuator(other), 1),
     }
 }
 
 /// Returns the token at an offset, or the next one after it.
 #[tactic(auto, unfolding(crate::specs::Tokens::token))]
-pub fn token_at(bytes: &[u8], place: usize) -> Token<'_>
-    requires { place ≤ length bytes.now }
-    ensures value { result ≡ token bytes.now place }
+pub fn token_at(bytes: &[u8], offset: usize) -> Token<'_>
+    requires { offset ≤ length bytes.now }
+    ensures value { result ≡ token bytes.now offset }
     ensures within { result.following ≤ length bytes.now }
     ensures order { result.at ≤ result.following }
-    ensures some { result.lexeme ≢ the_end → place < result.following }
+    ensures some { result.lexeme ≢ the_end → offset < result.following }
 {
-    let at = place + gap_len(&bytes[place..]);
-    let (lexeme, len) = front(&bytes[at..]);
+    let at = offset + gap_len(&bytes[offset..]);
+    let (lexeme, len) = leading_token(&bytes[at..]);
     Token {
         lexeme,
         at,
@@ -222,22 +222,22 @@ pub fn token_at(bytes: &[u8], place: usize) -> Token<'_>
     }
 }
 
-/// The bytes of the token at a place.
-#[tactic(auto, using(crate::proofs::Front::none_after))]
-pub fn written(bytes: &[u8], place: usize) -> &[u8]
-    ensures { result.now ≡ token_bytes bytes.now (token bytes.now place) }
+/// Returns the bytes of the token at an offset, or of the next one after it.
+#[tactic(auto, using(crate::proofs::LeadingTokens::none_after))]
+pub fn token_text(bytes: &[u8], offset: usize) -> &[u8]
+    ensures { result.now ≡ token_bytes bytes.now (token bytes.now offset) }
 {
-    if place > bytes.len() {
+    if offset > bytes.len() {
         return &[];
     }
-    let token = token_at(bytes, place);
+    let token = token_at(bytes, offset);
     &bytes[token.at..token.following]
 }
 
-/// The line of a place.
+/// Returns the line of an offset. The first line is 1.
 pub fn line_of(bytes: &[u8], at: usize) -> usize
     ensures { result ≡ line_at bytes.now at }
 {
-    let front = bytes.get(..at).unwrap_or(bytes);
-    1 + front.iter().filter(|b| **b == b'\n').count()
+    let prefix = bytes.get(..at).unwrap_or(bytes);
+    1 + prefix.iter().filter(|b| **b == b'\n').count()
 }

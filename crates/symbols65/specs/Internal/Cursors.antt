@@ -1,4 +1,4 @@
--- The cursor as it lies in memory.
+-- The cursor's fields in memory.
 use Rattle.std.specs.Prelude.{◌≡◌, ◌<◌, ◌≤◌, List, length, map, reverse}
 use Rattle.std.specs.List.{AllByRecursion}
 use Rattle.object65.specs.Objects.{section_limit}
@@ -15,16 +15,17 @@ cursor_of w = record {
   unnamed = w.unnamed;
   segments = w.segments.items;
   current = w.current;
-  kept = reverse w.kept.items;
+  pushed_segments = reverse w.pushed_segments.items;
 }
 
--- no section is longer than sections can be
-abbrev pub AreWithin : List Segment → Type 0
-AreWithin gs = AllByRecursion (λ g. g.end ≤ section_limit) gs
+-- no section is above the size limit
+abbrev pub HaveBoundedSizes : List Segment → Type 0
+HaveBoundedSizes gs = AllByRecursion (λ g. g.end ≤ section_limit) gs
 
--- The current segment is there, and so is each that is kept; none is too long, and each is found by its name.
-pub record IsSoundCursor (w : Inside) : Type 0 where
+-- The current and the saved segments exist, no section is above the size limit, and names are in the order of
+-- the segments.
+pub record IsWellFormedCursor (w : Inside) : Type 0 where
   pub current : w.current < length w.segments.items
-  pub ends : AreWithin w.segments.items
+  pub ends : HaveBoundedSizes w.segments.items
   pub names : map (λ k. k.items) w.names.keys ≡ map (λ g. g.name) w.segments.items
-  pub kept : AllByRecursion (λ k. k < length w.segments.items) w.kept.items
+  pub pushed_segments : AllByRecursion (λ k. k < length w.segments.items) w.pushed_segments.items

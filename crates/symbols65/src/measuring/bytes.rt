@@ -1,26 +1,26 @@
-//! Statements that place bytes which they name, or a part of a file.
+//! The layout of instructions, lists of values and parts of files.
 
 ghost use Rattle.std.specs.Prelude.{◌≡◌, ◌≤◌, IfOk, not, Option, Some, ◌+◌, ◌<◌, MatchOption, sum_by};
 ghost use Rattle.base65.specs.Outcome.{Refines};
 ghost use Rattle.ast65.specs.declared.fault.AsmFault.TheVariants.{BadPart};
-ghost use Rattle.ast65.specs.Faults.{is_memory};
+ghost use Rattle.ast65.specs.Faults.{is_out_of_memory};
 ghost use Rattle.ast65.specs.declared.language.Statement.TheVariants.{Incbin, Instruction, Values};
 ghost use Rattle.semantics65.specs.Contents.{operand_tree};
-ghost use Rattle.semantics65.specs.Layout.{context_of, own_size, when, unless_fault};
-ghost use Rattle.semantics65.specs.Norms.{byte_count, optional_value, item_len, mode_len};
+ghost use Rattle.semantics65.specs.Layout.{context_of, own_size, fault_if, unless_fault};
+ghost use Rattle.semantics65.specs.Norms.{nat_or_zero, optional_value, item_len, mode_len};
 ghost use Rattle.symbols65.specs.Evaluations.{AreEvaluations, IsEvaluated};
 ghost use Rattle.symbols65.specs.Views.{table_of};
-ghost use Rattle.symbols65.specs.Measuring.{IsFound, is_within, layout_or_error, range_in_file, unread_fault};
+ghost use Rattle.symbols65.specs.Measuring.{IsOptionalValue, is_in_range, layout_or_error, range_in_file, unread_fault};
 ghost use Rattle.object65.specs.Objects.{width_len};
 ghost use Rattle.semantics65.specs.Symbols.{Symbols as Table};
-ghost use Rattle.semantics65.specs.declared.laid.Context.{Context};
+ghost use Rattle.semantics65.specs.declared.contexts.Context.{Context};
 ghost use Rattle.syntax65.specs.Trees.{Tree};
 ghost use Rattle.syntax65.specs.declared.lexing.tokens.AddressSize.{AddressSize};
 
 use super::trees::{Evaluations, evaluate_two};
-use crate::constants::{Evaluation, mode, number};
+use crate::constants::{Evaluation, constant_value, mode};
 use crate::cursor::Cursor;
-use crate::measuring::{LineState, StatementLayout, fit, nothing};
+use crate::measuring::{LineState, StatementLayout, fit, layout_without_bytes};
 use ast65::{AsmFault, IncbinRange, Item, Items, ItemsKind, Operand};
 use base65::ListVec;
 use object65::Width;
@@ -28,42 +28,42 @@ use semantics65::EncodingChoice;
 use std::alloc::Global;
 use syntax65::{MAX_FILE, Mnemonic, Mode};
 
-/// The value of an expression that has to be constant, if there is one.
-fn named(found: &Option<Evaluation>) -> Result<Option<i64>, AsmFault>
+/// Returns the value of an optional expression, which must be constant.
+fn optional_constant(found: &Option<Evaluation>) -> Result<Option<i64>, AsmFault>
     ensures { (y : Table) (s : Context) (own : AddressSize) (e : Option Tree) →
-        IsEvaluated y s own e found.now → IsFound (optional_value y s e) result }
+        IsEvaluated y s own e found.now → IsOptionalValue (optional_value y s e) result }
 {
     if found.is_none() {
         return Ok(None);
     }
-    match number(found) {
+    match constant_value(found) {
         Some(value) => Ok(Some(value)),
         None => Err(AsmFault::BadOperand),
     }
 }
 
-/// Refuses a part of a file for what is wrong with it whatever the file has: the file is read where
-/// nothing is.
+/// Checks a part of a file as far as possible without the file, which is read only if there is no
+/// error.
 #[inline(never)]
 pub fn check_unread(
     alloc: Global,
     before: LineState<'_>,
     range: IncbinRange<'_>,
 ) -> Result<(), AsmFault>
-    ensures { Refines is_memory (λ u. u) result (unless_fault (unread_fault
+    ensures { Refines is_out_of_memory (λ u. u) result (unless_fault (unread_fault
         (table_of before.entry.symbols.now) before.entry.cursor.now
         range.entry.start.now range.entry.len.now) tt) }
 {
     let found = evaluate_two(alloc, before, range.start.get(), range.len.get())?;
-    named(&found.first)?;
-    named(&found.second)?;
+    optional_constant(&found.first)?;
+    optional_constant(&found.second)?;
     Ok(())
 }
 
-/// Returns a value as an index up to `count`.
-fn place_in(count: usize, value: i64) -> Result<usize, AsmFault>
-    ensures index { Refines is_memory (λ n. n) result
-        (unless_fault (when (not (is_within count value)) BadPart) (byte_count (Some value))) }
+/// Returns a value as a number of bytes, or an error if it is negative or above `count`.
+fn checked_count(count: usize, value: i64) -> Result<usize, AsmFault>
+    ensures count { Refines is_out_of_memory (λ n. n) result
+        (unless_fault (fault_if (not (is_in_range count value)) BadPart) (nat_or_zero (Some value))) }
     ensures within { IfOk result (λ n. n ≤ count) }
 {
     if 0 <= value && value as u64 <= count as u64 {
@@ -73,17 +73,22 @@ fn place_in(count: usize, value: i64) -> Result<usize, AsmFault>
     }
 }
 
-/// Returns the start and the length of a part of a file of `count` bytes.
-fn ranged(count: usize, start: Option<i64>, len: Option<i64>) -> Result<(usize, usize), AsmFault>
-    ensures part { Refines is_memory (λ p. p) result (range_in_file count start len) }
+/// Returns the start and the length of a part of a file of `count` bytes, or an error if the file
+/// is too large or doesn't contain the part.
+fn file_range(
+    count: usize,
+    start: Option<i64>,
+    len: Option<i64>,
+) -> Result<(usize, usize), AsmFault>
+    ensures part { Refines is_out_of_memory (λ p. p) result (range_in_file count start len) }
     ensures few { IfOk result (λ p. p.0 ≤ 16777216) }
 {
     if count > MAX_FILE as usize {
         return Err(AsmFault::BadPart);
     }
-    let start = place_in(count, start.unwrap_or(0))?;
+    let start = checked_count(count, start.unwrap_or(0))?;
     let left = count - start;
-    let len = place_in(left, len.unwrap_or(left as i64))?;
+    let len = checked_count(left, len.unwrap_or(left as i64))?;
     Ok((start, len))
 }
 
@@ -97,23 +102,23 @@ pub fn file_part(
     ensures { (y : Table) (start len : Option Tree) →
         AreEvaluations y (context_of cursor.now) (own_size cursor.now)
         (Incbin bytes.now start len) found.now →
-        Refines is_memory (λ m. m) result (layout_or_error y cursor.now (Incbin bytes.now start len)) }
+        Refines is_out_of_memory (λ m. m) result (layout_or_error y cursor.now (Incbin bytes.now start len)) }
 {
-    let start = named(&found.first)?;
-    let len = named(&found.second)?;
+    let start = optional_constant(&found.first)?;
+    let len = optional_constant(&found.second)?;
     let Some(bytes) = bytes else {
         return Err(AsmFault::FileNotFound);
     };
-    let (start, len) = ranged(bytes.len(), start, len)?;
+    let (start, len) = file_range(bytes.len(), start, len)?;
     let length = fit(cursor, len)?;
     Ok(StatementLayout {
         length,
-        settled: EncodingChoice::FileOffset(start as u32),
-        ..nothing(cursor)
+        encoding: EncodingChoice::FileOffset(start as u32),
+        ..layout_without_bytes(cursor)
     })
 }
 
-/// How many bytes an instruction of a form takes.
+/// Returns the number of bytes of an instruction with this addressing mode.
 fn mode_len(mode: Mode) -> usize
     ensures { result ≡ mode_len (Some mode) }
 {
@@ -124,7 +129,7 @@ fn mode_len(mode: Mode) -> usize
     }
 }
 
-/// What an instruction places, by the evaluation of its operand.
+/// Lays out an instruction, from the evaluation of its operand.
 pub fn instruction(
     cursor: &Cursor,
     mnemonic: Mnemonic,
@@ -133,7 +138,7 @@ pub fn instruction(
 ) -> Result<StatementLayout, AsmFault>
     ensures { (y : Table) → IsEvaluated y (context_of cursor.now) (own_size cursor.now)
         (operand_tree operand.now) found.now →
-        Refines is_memory (λ m. m) result (layout_or_error y cursor.now (Instruction mnemonic operand.now)) }
+        Refines is_out_of_memory (λ m. m) result (layout_or_error y cursor.now (Instruction mnemonic operand.now)) }
 {
     let Some(mode) = mode(mnemonic, operand, found) else {
         return Err(AsmFault::NoSuchForm);
@@ -143,11 +148,11 @@ pub fn instruction(
         length,
         size: cursor.segment().size,
         alignment: 1,
-        settled: EncodingChoice::InMode(mode),
+        encoding: EncodingChoice::InMode(mode),
     })
 }
 
-/// How many bytes a value takes.
+/// Returns the number of bytes of a value.
 fn width_len(width: Width) -> usize
     ensures { result ≡ width_len width }
 {
@@ -168,7 +173,7 @@ fn item_len(width: Width, item: &Item) -> usize
 }
 
 /// Returns the bytes left after a list of any elements, if there are enough.
-fn room_after_mixed(width: Width, items: &[Item], remaining: usize) -> Option<usize>
+fn remaining_after_mixed(width: Width, items: &[Item], remaining: usize) -> Option<usize>
     ensures { MatchOption result (remaining < sum_by (item_len width) items.now)
         (λ left. left + sum_by (item_len width) items.now ≡ remaining) }
 {
@@ -180,7 +185,7 @@ fn room_after_mixed(width: Width, items: &[Item], remaining: usize) -> Option<us
 }
 
 /// Returns the bytes left after a list, if there are enough.
-fn room_after(width: Width, items: &Items, remaining: usize) -> Option<usize>
+fn remaining_after(width: Width, items: &Items, remaining: usize) -> Option<usize>
     ensures { MatchOption result (remaining < sum_by (item_len width) items.now)
         (λ left. left + sum_by (item_len width) items.now ≡ remaining) }
 {
@@ -189,23 +194,23 @@ fn room_after(width: Width, items: &Items, remaining: usize) -> Option<usize>
             let length = numbers.as_slice().len().checked_mul(width_len(width))?;
             remaining.checked_sub(length)
         }
-        ItemsKind::Mixed(items) => room_after_mixed(width, items.as_slice(), remaining),
+        ItemsKind::Mixed(items) => remaining_after_mixed(width, items.as_slice(), remaining),
     }
 }
 
-/// Returns the length of a list of values, if the section has room for it.
+/// Lays out a list of values. Returns an error if the current section has fewer remaining bytes.
 #[inline(never)]
 #[tactic(auto, using(crate::proofs::Measures::same_test))]
 pub fn values(cursor: &Cursor, width: Width, items: &Items) -> Result<StatementLayout, AsmFault>
-    ensures { (y : Table) → Refines is_memory (λ m. m) result (layout_or_error y
+    ensures { (y : Table) → Refines is_out_of_memory (λ m. m) result (layout_or_error y
         cursor.now (Values width items.now)) }
 {
     let remaining = cursor.remaining_bytes();
-    let Some(left) = room_after(width, items, remaining as usize) else {
+    let Some(left) = remaining_after(width, items, remaining as usize) else {
         return Err(AsmFault::SectionTooLarge);
     };
     Ok(StatementLayout {
         length: remaining - left as u32,
-        ..nothing(cursor)
+        ..layout_without_bytes(cursor)
     })
 }

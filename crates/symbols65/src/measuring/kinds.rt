@@ -1,8 +1,8 @@
-//! What is measured of each kind of statement, and its names.
+//! The checks of a statement's names, and its layout by its kind.
 
 ghost use Rattle.std.specs.Prelude.{◌≡◌, ◌&&◌, true};
 ghost use Rattle.ast65.specs.declared.fault.AsmFault.TheVariants.{DefinedTwice, NotUnderstood, ScopeTwice};
-ghost use Rattle.semantics65.specs.Layout.{context_of, defined_twice, is_open, opened_twice, own_size, scope_name, stands_outside, when, where_there};
+ghost use Rattle.semantics65.specs.Layout.{context_of, defined_twice, is_not_global, opened_twice, own_size, scope_name, is_global_only, fault_if, fault_if_some};
 ghost use Rattle.semantics65.specs.Symbols.{scope_in, definition_index, key_defined, needs_section, has_here};
 ghost use Rattle.symbols65.specs.Tables.{key_of};
 ghost use Rattle.symbols65.specs.Views.{table_of};
@@ -10,10 +10,10 @@ ghost use Rattle.symbols65.specs.Evaluations.{AreEvaluations};
 ghost use Rattle.symbols65.specs.Measuring.{ChecksStatement, LaysOutStatement};
 
 use super::bytes::{file_part, instruction, values};
-use super::rooms::{align, check_segment, is_scope, reserve};
+use super::reserves::{align, check_segment, is_scope, reserve};
 use super::trees::Evaluations;
-use crate::constants::size_found;
-use crate::measuring::{LineState, StatementLayout, nothing};
+use crate::constants::evaluated_size;
+use crate::measuring::{LineState, StatementLayout, layout_without_bytes};
 use crate::table::{Key, Symbols};
 use ast65::{AsmFault, Statement};
 use base65::ListVec;
@@ -21,9 +21,9 @@ use semantics65::Context;
 use std::alloc::Global;
 use syntax65::{Expr, ExprKind};
 
-/// Refuses a statement with names of the global scope where another one is open.
-pub fn check_outside(scope: usize, statement: &Statement) -> Result<(), AsmFault>
-    ensures { ChecksStatement result (when (stands_outside statement.now && is_open scope) NotUnderstood) }
+/// Rejects an import or export of names if a scope other than the global one is open.
+pub fn check_global_only(scope: usize, statement: &Statement) -> Result<(), AsmFault>
+    ensures { ChecksStatement result (fault_if (is_global_only statement.now && is_not_global scope) NotUnderstood) }
 {
     match statement {
         Statement::Import { .. }
@@ -35,7 +35,7 @@ pub fn check_outside(scope: usize, statement: &Statement) -> Result<(), AsmFault
     }
 }
 
-/// Refuses a scope of a name that the scope around it has already.
+/// Rejects a new scope if the enclosing scope already has one with this name.
 #[inline(never)]
 fn check_new_scope(
     alloc: Global,
@@ -43,7 +43,7 @@ fn check_new_scope(
     scope: usize,
     name: &[u8],
 ) -> Result<(), AsmFault>
-    ensures { ChecksStatement result (where_there (scope_in (table_of symbols.now).scopes scope name.now)
+    ensures { ChecksStatement result (fault_if_some (scope_in (table_of symbols.now).scopes scope name.now)
         (ScopeTwice name.now)) }
 {
     match symbols.scope_in(scope, name) {
@@ -55,7 +55,7 @@ fn check_new_scope(
     }
 }
 
-/// Refuses a statement that opens a scope of a name that the scope around it has already.
+/// Rejects a statement that opens a scope if the enclosing scope already has one with its name.
 pub fn check_opened(
     alloc: Global,
     symbols: &Symbols,
@@ -73,10 +73,10 @@ pub fn check_opened(
     }
 }
 
-/// Refuses a name whose key has a definition already.
+/// Rejects a name whose key is already defined.
 #[inline(never)]
 fn check_key(alloc: Global, symbols: &Symbols, key: Key<'_>, name: &[u8]) -> Result<(), AsmFault>
-    ensures { ChecksStatement result (where_there (definition_index (table_of symbols.now) (key_of key.entry))
+    ensures { ChecksStatement result (fault_if_some (definition_index (table_of symbols.now) (key_of key.entry))
         (DefinedTwice name.now)) }
 {
     match symbols.defined(key) {
@@ -88,7 +88,7 @@ fn check_key(alloc: Global, symbols: &Symbols, key: Key<'_>, name: &[u8]) -> Res
     }
 }
 
-/// Refuses a statement that defines what is defined already.
+/// Rejects a statement that defines a symbol that is already defined.
 pub fn check_defined(
     alloc: Global,
     symbols: &Symbols,
@@ -148,7 +148,7 @@ pub fn needs_section(statement: &Statement) -> bool
 
 /// Lays out a statement whose names are checked, from the evaluations of its expressions, or returns
 /// its first error.
-pub fn place(
+pub fn layout_by_kind(
     before: LineState<'_>,
     statement: &Statement,
     found: &Evaluations,
@@ -168,15 +168,15 @@ pub fn place(
         Statement::Align { .. } => align(cursor, found),
         Statement::Incbin { bytes, .. } => file_part(cursor, bytes, found),
         Statement::Constant { .. } => {
-            let size = size_found(&found.first);
+            let size = evaluated_size(&found.first);
             Ok(StatementLayout {
                 size,
-                ..nothing(cursor)
+                ..layout_without_bytes(cursor)
             })
         }
         Statement::Segment { name, size } => {
             check_segment(cursor, name.as_slice(), *size)?;
-            Ok(nothing(cursor))
+            Ok(layout_without_bytes(cursor))
         }
         Statement::PopSegment if !cursor.has_pushed() => Err(AsmFault::PopWithoutPush),
         Statement::CloseScope if scope == 0 || !is_scope(before.symbols, scope) => {
@@ -185,6 +185,6 @@ pub fn place(
         Statement::CloseProc if scope == 0 || is_scope(before.symbols, scope) => {
             Err(AsmFault::BadScope)
         }
-        _ => Ok(nothing(cursor)),
+        _ => Ok(layout_without_bytes(cursor)),
     }
 }

@@ -3,9 +3,9 @@
 ghost use Rattle.std.specs.Prelude.{◌≡◌, IfOk, Option, Some, [], ◌∷◌, ◌++◌};
 ghost use Rattle.std.specs.Option.{option_map};
 ghost use Rattle.base65.specs.Outcome.{Refines};
-ghost use Rattle.ast65.specs.Faults.{is_memory};
+ghost use Rattle.ast65.specs.Faults.{is_out_of_memory};
 ghost use Rattle.semantics65.specs.Contents.{operand_tree};
-ghost use Rattle.semantics65.specs.Layout.{context_of, lost_scopes, item_trees, optional_tree, own_size, trees_of, unless_fault};
+ghost use Rattle.semantics65.specs.Layout.{context_of, missing_scopes_fault, item_trees, optional_tree, own_size, trees_of, unless_fault};
 ghost use Rattle.symbols65.specs.Evaluations.{AreEvaluations, HasFinal, HaveFinals, IsEvaluated, first_tree, item_tree, second_tree};
 ghost use Rattle.symbols65.specs.Views.{table_of};
 
@@ -19,24 +19,25 @@ use semantics65::Context;
 use std::alloc::{AllocError, Global};
 use syntax65::Expr;
 
-/// What is found of the expressions of a statement.
+/// The evaluations of the expressions of a statement.
 #[derive(Drop)]
 pub struct Evaluations {
-    /// Of the first of one or two expressions.
+    /// The evaluation of the first of one or two expressions.
     pub first: Option<Evaluation>,
     pub second: Option<Evaluation>,
-    /// The final forms of the elements of a list, each at the place of its element; none of numbers alone.
+    /// The final forms of the elements of a list, each at the index of its element; empty if all elements are
+    /// numbers.
     pub forms: Vec<Option<Norm>>,
 }
 
-/// The evaluation of an expression that may be left out.
+/// Evaluates an optional expression.
 pub fn evaluate_optional(
     alloc: Global,
     before: LineState<'_>,
     value: Option<&Expr>,
 ) -> Result<Option<Evaluation>, AsmFault>
-    ensures scopes { Refines is_memory (λ _. tt {0}) result (unless_fault
-        (lost_scopes (table_of before.entry.symbols.now).scopes
+    ensures scopes { Refines is_out_of_memory (λ _. tt {0}) result (unless_fault
+        (missing_scopes_fault (table_of before.entry.symbols.now).scopes
         (context_of before.entry.cursor.now).scope
         (optional_tree (option_map (λ e. e.now) value.entry))) tt) }
     ensures found { IfOk result (IsEvaluated (table_of before.entry.symbols.now)
@@ -52,7 +53,7 @@ pub fn evaluate_optional(
     }
 }
 
-/// The expression of an operand, if it has one.
+/// Returns the expression of an operand, if it has one.
 pub fn operand_value(operand: &Operand) -> Option<&Expr>
     ensures { option_map (λ e. e.now) result ≡ operand_tree operand.now }
 {
@@ -66,7 +67,7 @@ pub fn operand_value(operand: &Operand) -> Option<&Expr>
     }
 }
 
-/// The first of the one or two expressions of a statement other than a list.
+/// Returns the first expression of a statement other than a list, if it has one.
 fn first_value(statement: &Statement) -> Option<&Expr>
     ensures { option_map (λ e. e.now) result ≡ first_tree statement.now }
 {
@@ -80,7 +81,7 @@ fn first_value(statement: &Statement) -> Option<&Expr>
     }
 }
 
-/// The second one.
+/// Returns the second expression of a statement other than a list, if it has one.
 fn second_value(statement: &Statement) -> Option<&Expr>
     ensures { option_map (λ e. e.now) result ≡ second_tree statement.now }
 {
@@ -91,14 +92,14 @@ fn second_value(statement: &Statement) -> Option<&Expr>
     }
 }
 
-/// The final form of an element of a list, if it has one that is evident already.
+/// Evaluates an element of a list, and returns its final form, if that is evident already.
 fn evaluate_item(
     alloc: Global,
     before: LineState<'_>,
     item: &Item,
 ) -> Result<Option<Norm>, AsmFault>
-    ensures scopes { Refines is_memory (λ _. tt {0}) result (unless_fault
-        (lost_scopes (table_of before.entry.symbols.now).scopes
+    ensures scopes { Refines is_out_of_memory (λ _. tt {0}) result (unless_fault
+        (missing_scopes_fault (table_of before.entry.symbols.now).scopes
         (context_of before.entry.cursor.now).scope (item_trees (item.now ∷ []))) tt) }
     ensures form { IfOk result (HasFinal (table_of before.entry.symbols.now)
         (context_of before.entry.cursor.now) (item_tree item.now)) }
@@ -112,15 +113,15 @@ fn evaluate_item(
     }
 }
 
-/// The final forms of the elements of a list, one for each.
+/// Evaluates the elements of a list, and returns the final form of each, if it is evident already.
 #[inline(never)]
 fn evaluate_items(
     alloc: Global,
     before: LineState<'_>,
     items: &[Item],
 ) -> Result<Vec<Option<Norm>>, AsmFault>
-    ensures scopes { Refines is_memory (λ _. tt {0}) result (unless_fault
-        (lost_scopes (table_of before.entry.symbols.now).scopes
+    ensures scopes { Refines is_out_of_memory (λ _. tt {0}) result (unless_fault
+        (missing_scopes_fault (table_of before.entry.symbols.now).scopes
         (context_of before.entry.cursor.now).scope (item_trees items.now)) tt) }
     ensures forms { IfOk result (λ forms. HaveFinals (table_of before.entry.symbols.now)
         (context_of before.entry.cursor.now) items.now forms.items) }
@@ -133,14 +134,15 @@ fn evaluate_items(
     Ok(forms)
 }
 
-/// The final forms of the elements of a list; none of numbers alone.
+/// Evaluates a list, and returns the final forms of its elements; an empty vector if all elements are
+/// numbers.
 fn evaluate_list(
     alloc: Global,
     before: LineState<'_>,
     items: &Items,
 ) -> Result<Vec<Option<Norm>>, AsmFault>
-    ensures scopes { Refines is_memory (λ _. tt {0}) result (unless_fault
-        (lost_scopes (table_of before.entry.symbols.now).scopes
+    ensures scopes { Refines is_out_of_memory (λ _. tt {0}) result (unless_fault
+        (missing_scopes_fault (table_of before.entry.symbols.now).scopes
         (context_of before.entry.cursor.now).scope (item_trees items.now)) tt) }
     ensures forms { IfOk result (λ forms. HaveFinals (table_of before.entry.symbols.now)
         (context_of before.entry.cursor.now) items.now forms.items) }
@@ -151,15 +153,15 @@ fn evaluate_list(
     }
 }
 
-/// The evaluations of one expression or two.
+/// Evaluates two optional expressions, in order.
 pub fn evaluate_two(
     alloc: Global,
     before: LineState<'_>,
     first: Option<&Expr>,
     second: Option<&Expr>,
 ) -> Result<Evaluations, AsmFault>
-    ensures scopes { Refines is_memory (λ _. tt {0}) result (unless_fault
-        (lost_scopes (table_of before.entry.symbols.now).scopes
+    ensures scopes { Refines is_out_of_memory (λ _. tt {0}) result (unless_fault
+        (missing_scopes_fault (table_of before.entry.symbols.now).scopes
         (context_of before.entry.cursor.now).scope
         (optional_tree (option_map (λ e. e.now) first.entry)
         ++ optional_tree (option_map (λ e. e.now) second.entry))) tt) }
@@ -180,14 +182,14 @@ pub fn evaluate_two(
     })
 }
 
-/// The evaluations of the expressions of a statement; or the first name in it whose scope isn't there.
+/// Evaluates the expressions of a statement. The error is its first name with `::` whose scope doesn't exist.
 pub fn evaluate_trees(
     alloc: Global,
     before: LineState<'_>,
     statement: &Statement,
 ) -> Result<Evaluations, AsmFault>
-    ensures scopes { Refines is_memory (λ _. tt {0}) result (unless_fault
-        (lost_scopes (table_of before.entry.symbols.now).scopes
+    ensures scopes { Refines is_out_of_memory (λ _. tt {0}) result (unless_fault
+        (missing_scopes_fault (table_of before.entry.symbols.now).scopes
         (context_of before.entry.cursor.now).scope (trees_of statement.now)) tt) }
     ensures found { IfOk result (AreEvaluations (table_of before.entry.symbols.now)
         (context_of before.entry.cursor.now) (own_size before.entry.cursor.now)
@@ -210,7 +212,7 @@ pub fn evaluate_trees(
     }
 }
 
-/// Searches for the constants in the elements of a list.
+/// Searches for the forms of the constants in the elements of a list.
 fn search_items(
     alloc: Global,
     symbols: &mut Symbols,
@@ -227,7 +229,7 @@ fn search_items(
     Ok(())
 }
 
-/// Searches for the constants in an expression that may be left out.
+/// Searches for the forms of the constants in an optional expression.
 fn search_optional(
     alloc: Global,
     symbols: &mut Symbols,
@@ -242,7 +244,7 @@ fn search_optional(
     }
 }
 
-/// Searches for the constants in an instruction's operand, and keeps what is found in the symbol table.
+/// Searches for the forms of the constants in an operand, and stores the results in the symbol table.
 pub fn search_operand(
     alloc: Global,
     symbols: &mut Symbols,
@@ -251,13 +253,13 @@ pub fn search_operand(
 ) -> Result<(), AllocError>
     ensures { table_of symbols.new ≡ table_of symbols.old }
 {
-    if !symbols.has_open {
+    if !symbols.has_unresolved {
         return Ok(());
     }
     search_optional(alloc, symbols, context, operand_value(operand))
 }
 
-/// Searches for the constants in the expressions of a statement, and keeps what is found in the symbol table.
+/// Searches for the forms of the constants in a statement, and stores the results in the symbol table.
 pub fn search_statement(
     alloc: Global,
     symbols: &mut Symbols,
@@ -266,7 +268,7 @@ pub fn search_statement(
 ) -> Result<(), AllocError>
     ensures { table_of symbols.new ≡ table_of symbols.old }
 {
-    if !symbols.has_open {
+    if !symbols.has_unresolved {
         return Ok(());
     }
     match statement {

@@ -6,10 +6,10 @@ ghost use Rattle.indexmap.specs.IndexMap.{get};
 ghost use Rattle.ast65.specs.declared.fault.AsmFault.TheVariants.{OutOfMemory};
 ghost use Rattle.semantics65.specs.Norms.{address_of};
 ghost use Rattle.symbols65.specs.declared.resolving.attempt.AttemptError.TheVariants.{Fault};
-ghost use Rattle.symbols65.specs.Resolving.{attempt_definition, form_attempt, known_form, lacks_memory, meaning_form, meaning_in, tried_at, tried_last};
+ghost use Rattle.symbols65.specs.Resolving.{attempt_definition, form_attempt, known_form, lacks_memory, binding_form, binding_in, constant_attempt, last_attempt};
 ghost use Rattle.symbols65.specs.Views.{entry_form, known_among, table_of};
 
-use super::meaning::{Binding, binding_of, folded};
+use super::bindings::{Binding, binding_of, folded_form};
 use crate::table::{FormCache, SearchEntry, Symbols};
 use ast65::AsmFault;
 use object65::{Node, Norm};
@@ -17,10 +17,10 @@ use semantics65::Context;
 use std::alloc::{AllocError, Global};
 use syntax65::{Expr, ExprKind};
 
-/// Why an attempt stops.
+/// The error of an attempt.
 #[derive(Drop)]
 pub enum AttemptError {
-    /// The form of the constant at this index isn't known.
+    /// The form of the constant at this index is needed, and isn't known.
     Needs(usize),
     Fault(AsmFault),
 }
@@ -41,7 +41,7 @@ impl From<AsmFault> for AttemptError {
     }
 }
 
-/// The address of a statement.
+/// Returns the address of a statement.
 pub fn address(context: Context) -> Norm
     ensures { result ≡ address_of context }
 {
@@ -61,7 +61,7 @@ fn found_form(alloc: Global, known: &FormCache, index: usize) -> Result<Norm, At
 
 /// Returns the form of the definition at an index: that of a constant is final, or a search has
 /// found it.
-fn defined(
+fn attempt_defined(
     alloc: Global,
     symbols: &Symbols,
     known: &FormCache,
@@ -82,19 +82,19 @@ fn defined(
 }
 
 /// Returns the form of the meaning of a name.
-fn meant(
+fn attempt_binding(
     alloc: Global,
     symbols: &Symbols,
     known: &FormCache,
     meaning: Binding,
 ) -> Result<Norm, AttemptError>
-    ensures { Refines lacks_memory (λ f. f) result (meaning_form
+    ensures { Refines lacks_memory (λ f. f) result (binding_form
         (known_among symbols.now known.now)
-        (table_of symbols.now) (meaning_in meaning)) }
+        (table_of symbols.now) (binding_in meaning)) }
 {
     match meaning {
-        Binding::Defined(index) => defined(alloc, symbols, known, index),
-        // No memory holds more imports than have a number.
+        Binding::Defined(index) => attempt_defined(alloc, symbols, known, index),
+        // Memory can't have more imports than 32 bits can number.
         Binding::Imported(key) => match u32::try_from(key) {
             Ok(key) => Ok(Norm::new(Node::ImportedName(key))),
             Err(_) => Err(AttemptError::Fault(AsmFault::OutOfMemory)),
@@ -119,12 +119,12 @@ fn try_norm(
         ExprKind::Here => Ok(address(context)),
         ExprKind::Prefix(op, part) => {
             let part = try_norm(alloc, symbols, known, context, part)?;
-            Ok(folded(Norm::prefix(alloc, *op, part))?)
+            Ok(folded_form(Norm::prefix(alloc, *op, part))?)
         }
         ExprKind::Binary(op, operands) => {
             let left = try_norm(alloc, symbols, known, context, &operands.left)?;
             let right = try_norm(alloc, symbols, known, context, &operands.right)?;
-            Ok(folded(Norm::binary(alloc, *op, left, right))?)
+            Ok(folded_form(Norm::binary(alloc, *op, left, right))?)
         }
         ExprKind::Plain(_)
         | ExprKind::Scoped(_)
@@ -132,7 +132,7 @@ fn try_norm(
         | ExprKind::Forward(_)
         | ExprKind::Backward(_) => {
             let meaning = binding_of(alloc, symbols, context, value)?;
-            meant(alloc, symbols, known, meaning)
+            attempt_binding(alloc, symbols, known, meaning)
         }
     }
 }
@@ -144,7 +144,7 @@ pub fn try_at(
     known: &FormCache,
     index: usize,
 ) -> Result<Norm, AttemptError>
-    ensures { Refines lacks_memory (λ f. f) result (tried_at
+    ensures { Refines lacks_memory (λ f. f) result (constant_attempt
         (known_among symbols.now known.now)
         (table_of symbols.now) index) }
 {
@@ -164,16 +164,16 @@ pub fn try_last(
     known: &FormCache,
     context: Context,
     value: &Expr,
-    waiting: &[usize],
+    pending_constants: &[usize],
 ) -> Result<Norm, AttemptError>
-    ensures { Refines lacks_memory (λ f. f) result (tried_last
-        (tried_at (known_among symbols.now known.now)
+    ensures { Refines lacks_memory (λ f. f) result (last_attempt
+        (constant_attempt (known_among symbols.now known.now)
         (table_of symbols.now))
         (form_attempt (known_among symbols.now known.now)
         (table_of symbols.now) context value.now)
-        waiting.now) }
+        pending_constants.now) }
 {
-    match waiting.last() {
+    match pending_constants.last() {
         None => try_norm(alloc, symbols, known, context, value),
         Some(last) => try_at(alloc, symbols, known, *last),
     }

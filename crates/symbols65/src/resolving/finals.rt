@@ -1,19 +1,19 @@
-//! Operands that mean the same whatever statements follow, blockers of constants, and folding of
-//! forms of which some may be missing.
+//! Operands whose meaning stays whatever statements follow, blockers of constants, and folding of
+//! optional forms.
 
 ghost use Rattle.std.specs.Prelude.{IfSome, ◌≡◌, IfOk, Ok, Result, Some, slice_get, true};
-ghost use Rattle.symbols65.specs.Resolving.{IsBlocked, IsBlockedAt, MeansAlways, attempt_definition, binary_form, known_form, meaning_in, prefix_form};
+ghost use Rattle.symbols65.specs.Resolving.{IsBlocked, IsBlockedAt, HasFinalBinding, attempt_definition, binary_form, known_form, binding_in, prefix_form};
 ghost use Rattle.std.specs.Result.{result_ok};
 ghost use Rattle.base65.specs.Outcome.{Refines};
 ghost use Rattle.object65.specs.Form.{Form};
-ghost use Rattle.object65.specs.Folding.{lacks_memory};
+ghost use Rattle.object65.specs.Folding.{is_form_memory_fault};
 ghost use Rattle.object65.specs.declared.folding.FormFault.{FormFault};
 ghost use Rattle.semantics65.specs.Symbols.{binding_of, defined_at};
 ghost use Rattle.symbols65.specs.Evaluations.{HasFinal};
 ghost use Rattle.symbols65.specs.Views.{final_form, table_of};
 
 use super::attempt::address;
-use super::meaning::{Binding, meaning_at, plain_part};
+use super::bindings::{Binding, binding_at, plain_part};
 use crate::table::Symbols;
 use base65::{Op1, Op2};
 use object65::{FormFault, Norm};
@@ -21,9 +21,9 @@ use semantics65::Context;
 use std::alloc::{AllocError, Global};
 use syntax65::{Expr, ExprKind};
 
-/// What folding gives, if anything.
-fn folded(form: Result<Norm, FormFault>) -> Result<Option<Norm>, AllocError>
-    ensures { (r : Result Form FormFault) → Refines lacks_memory (λ f. f) form r →
+/// Returns a folded form; nothing if it has no value or is too large.
+fn optional_folded_form(form: Result<Norm, FormFault>) -> Result<Option<Norm>, AllocError>
+    ensures { (r : Result Form FormFault) → Refines is_form_memory_fault (λ f. f) form r →
         IfOk result (λ f. f ≡ result_ok r) }
 {
     match form {
@@ -33,17 +33,17 @@ fn folded(form: Result<Norm, FormFault>) -> Result<Option<Norm>, AllocError>
     }
 }
 
-/// The form of a prefix operation, if it and its part have one.
+/// Folds a prefix operation; returns nothing if it or its operand has no form.
 pub fn prefix_form(alloc: Global, op: Op1, part: Option<Norm>) -> Result<Option<Norm>, AllocError>
     ensures { IfOk result (λ f. f ≡ prefix_form op part) }
 {
     match part {
-        Some(part) => folded(Norm::prefix(alloc, op, part)),
+        Some(part) => optional_folded_form(Norm::prefix(alloc, op, part)),
         None => Ok(None),
     }
 }
 
-/// The form of an operation, if it and both its parts have one.
+/// Folds a binary operation; returns nothing if it or one of its operands has no form.
 pub fn binary_form(
     alloc: Global,
     op: Op2,
@@ -53,7 +53,7 @@ pub fn binary_form(
     ensures { IfOk result (λ f. f ≡ binary_form op left right) }
 {
     match (left, right) {
-        (Some(left), Some(right)) => folded(Norm::binary(alloc, op, left, right)),
+        (Some(left), Some(right)) => optional_folded_form(Norm::binary(alloc, op, left, right)),
         _ => Ok(None),
     }
 }
@@ -64,7 +64,7 @@ pub fn binary_form(
 fn is_final(symbols: &Symbols, context: Context, operand: &Expr, index: usize) -> bool
     ensures { result ≡ true →
         binding_of (table_of symbols.now) context operand.now ≡ Ok (defined_at index) →
-        MeansAlways (table_of symbols.now) context operand.now index }
+        HasFinalBinding (table_of symbols.now) context operand.now index }
 {
     match operand.kind() {
         ExprKind::Plain(_) => symbols.is_in(index, context.scope as usize),
@@ -90,8 +90,8 @@ fn blocker_at(symbols: &Symbols, index: usize) -> Option<usize>
     }
 }
 
-/// Returns a constant without whose number or address an expression has none, whatever statements
-/// follow, if one is evident already.
+/// Returns the index of a constant that blocks an expression, if one is evident already: whatever
+/// statements follow, if the constant has no number and no address, the expression has none either.
 pub fn blocker_of(symbols: &Symbols, context: Context, value: &Expr) -> Option<usize>
     ensures { IfSome result (IsBlocked (table_of symbols.now) context value.now) }
 {
@@ -107,7 +107,7 @@ pub fn blocker_of(symbols: &Symbols, context: Context, value: &Expr) -> Option<u
         | ExprKind::Cheap(_)
         | ExprKind::Forward(_)
         | ExprKind::Backward(_) => {
-            let Binding::Defined(index) = meaning_at(symbols, context, value)? else {
+            let Binding::Defined(index) = binding_at(symbols, context, value)? else {
                 return None;
             };
             if !is_final(symbols, context, value, index) {
@@ -135,14 +135,14 @@ fn defined_final(alloc: Global, symbols: &Symbols, index: usize) -> Result<Optio
 }
 
 /// Returns the final form of an operand with this meaning, if that is evident already.
-pub fn final_meaning(
+pub fn final_binding_form(
     alloc: Global,
     symbols: &Symbols,
     context: Context,
     operand: &Expr,
     meaning: Binding,
 ) -> Result<Option<Norm>, AllocError>
-    requires { binding_of (table_of symbols.now) context operand.now ≡ Ok (meaning_in meaning) }
+    requires { binding_of (table_of symbols.now) context operand.now ≡ Ok (binding_in meaning) }
     ensures { IfOk result (HasFinal (table_of symbols.now) context (Some operand.now)) }
 {
     let Binding::Defined(index) = meaning else {

@@ -2,17 +2,17 @@
 //! other form decides an address size.
 
 ghost use Rattle.std.specs.Prelude.{◌≡◌, IfOk, IfSome, IsErrAnd, None, Ok, OnErr, false, true};
-ghost use Rattle.ast65.specs.Faults.{is_memory};
+ghost use Rattle.ast65.specs.Faults.{is_out_of_memory};
 ghost use Rattle.semantics65.specs.Norms.{defined_form, norm_of};
 ghost use Rattle.semantics65.specs.Symbols.{binding_of};
-ghost use Rattle.semantics65.specs.declared.laid.Context.{Context};
+ghost use Rattle.semantics65.specs.declared.contexts.Context.{Context};
 ghost use Rattle.syntax65.specs.Trees.{Tree};
-ghost use Rattle.symbols65.specs.Resolving.{IsBlockedAt, IsEntryOf, meaning_in, plain, plain_in};
+ghost use Rattle.symbols65.specs.Resolving.{IsBlockedAt, IsEntryOf, binding_in, plain_form, plain_result};
 ghost use Rattle.symbols65.specs.Views.{table_of};
 
 use super::attempt::address;
-use super::meaning::{Binding, meaning_at};
-use super::search::{is_met, record, run_search};
+use super::bindings::{Binding, binding_at};
+use super::search::{is_visited, record, run_search};
 use crate::table::{FormCache, SearchEntry, Symbols};
 use ast65::AsmFault;
 use indexmap::IndexMap;
@@ -23,8 +23,8 @@ use std::mem;
 use syntax65::{Expr, ExprKind};
 
 /// Returns a form if it is a number or an address.
-pub fn plain(form: &Norm) -> Option<Norm>
-    ensures { result ≡ plain form.now }
+pub fn plain_form(form: &Norm) -> Option<Norm>
+    ensures { result ≡ plain_form form.now }
 {
     match form.node() {
         Node::NumberNode(value) => Some(Norm::new(Node::NumberNode(*value))),
@@ -35,10 +35,10 @@ pub fn plain(form: &Norm) -> Option<Norm>
     }
 }
 
-/// Returns an error if memory ran out. After any other fault an expression has no form.
+/// Returns an error if memory ran out. After any other error an expression has no form.
 fn check_memory(fault: &AsmFault) -> Result<(), AllocError>
-    ensures form { IfOk result (λ u. is_memory fault.now ≡ false) }
-    ensures memory { OnErr result (is_memory fault.now ≡ true) }
+    ensures form { IfOk result (λ u. is_out_of_memory fault.now ≡ false) }
+    ensures memory { OnErr result (is_out_of_memory fault.now ≡ true) }
 {
     if fault.is_memory() {
         Err(AllocError)
@@ -47,23 +47,23 @@ fn check_memory(fault: &AsmFault) -> Result<(), AllocError>
     }
 }
 
-/// Returns the number or address of the constant at an index, or that it has neither, if an entry
-/// says so.
-fn searched_plain(symbols: &Symbols, index: usize) -> Option<Option<Norm>>
-    ensures { IfSome result (λ f. f ≡ plain_in (defined_form (table_of symbols.now) index)) }
+/// Returns the number or address of the constant at an index, or `Some(None)` if it has neither.
+/// Returns `None` if no entry of a search decides this.
+fn cached_plain_form(symbols: &Symbols, index: usize) -> Option<Option<Norm>>
+    ensures { IfSome result (λ f. f ≡ plain_result (defined_form (table_of symbols.now) index)) }
 {
     match symbols.searched.get(&index) {
-        Some(SearchEntry::KnownForm(form)) => Some(plain(form)),
+        Some(SearchEntry::KnownForm(form)) => Some(plain_form(form)),
         Some(SearchEntry::NoForm(count)) if *count == symbols.definition_count() => Some(None),
         _ => None,
     }
 }
 
-/// Returns whether an entry says that the constant at an index has no number and no address.
-fn has_no_plain(symbols: &Symbols, index: usize) -> bool
-    ensures { result ≡ true → plain_in (defined_form (table_of symbols.now) index) ≡ None }
+/// Returns whether a search has found that the constant at an index has no number and no address.
+fn has_no_plain_form(symbols: &Symbols, index: usize) -> bool
+    ensures { result ≡ true → plain_result (defined_form (table_of symbols.now) index) ≡ None }
 {
-    match searched_plain(symbols, index) {
+    match cached_plain_form(symbols, index) {
         Some(form) => form.is_none(),
         None => false,
     }
@@ -76,29 +76,29 @@ fn blocker_of(symbols: &Symbols, index: usize) -> Option<usize>
     symbols.definition(index)?.blocker
 }
 
-/// Returns whether an entry says that the blocker of the constant at an index has no number and no
-/// address, so that the constant has none.
+/// Returns whether a search has found that the blocker of the constant at an index has no number
+/// and no address, so that the constant has none.
 fn is_blocked(symbols: &Symbols, index: usize) -> bool
-    ensures { result ≡ true → plain_in (defined_form (table_of symbols.now) index) ≡ None }
+    ensures { result ≡ true → plain_result (defined_form (table_of symbols.now) index) ≡ None }
 {
     match blocker_of(symbols, index) {
-        Some(blocker) => has_no_plain(symbols, blocker),
+        Some(blocker) => has_no_plain_form(symbols, blocker),
         None => false,
     }
 }
 
 /// Finds the number or address of an expression by the definitions so far, if it has one.
-pub fn find_plain(
+pub fn find_plain_form(
     alloc: Global,
     symbols: &Symbols,
     context: Context,
     value: &Expr,
 ) -> Result<Option<Norm>, AllocError>
-    ensures { IfOk result (λ f. f ≡ plain_in (norm_of (table_of symbols.now) context value.now)) }
+    ensures { IfOk result (λ f. f ≡ plain_result (norm_of (table_of symbols.now) context value.now)) }
 {
     let mut known: FormCache = IndexMap::new(alloc);
     match run_search(alloc, symbols, &mut known, context, value) {
-        Ok(form) => Ok(plain(&form)),
+        Ok(form) => Ok(plain_form(&form)),
         Err(fault) => {
             check_memory(&fault)?;
             Ok(None)
@@ -108,9 +108,9 @@ pub fn find_plain(
 
 /// Returns the entry of a constant after a search by `count` definitions, or an error if memory ran
 /// out.
-fn entry_of(found: Result<Norm, AsmFault>, count: usize) -> Result<SearchEntry, AllocError>
+fn search_entry_of(found: Result<Norm, AsmFault>, count: usize) -> Result<SearchEntry, AllocError>
     ensures entry { IfOk result (IsEntryOf count found) }
-    ensures memory { OnErr result (IsErrAnd found (λ e. is_memory e ≡ true)) }
+    ensures memory { OnErr result (IsErrAnd found (λ e. is_out_of_memory e ≡ true)) }
 {
     match found {
         Ok(form) => Ok(SearchEntry::KnownForm(form)),
@@ -121,7 +121,7 @@ fn entry_of(found: Result<Norm, AsmFault>, count: usize) -> Result<SearchEntry, 
     }
 }
 
-/// Searches for the form of the constant at an index, and keeps what it finds in the symbol table.
+/// Searches for the form of the constant at an index, and stores the results in the symbol table.
 fn search_constant(alloc: Global, symbols: &mut Symbols, index: usize) -> Result<(), AllocError>
     ensures { table_of symbols.new ≡ table_of symbols.old }
 {
@@ -133,21 +133,21 @@ fn search_constant(alloc: Global, symbols: &mut Symbols, index: usize) -> Result
         return Ok(());
     };
     let found = run_search(alloc, symbols, &mut known, definition.context, value);
-    let entry = entry_of(found, symbols.definition_count())?;
+    let entry = search_entry_of(found, symbols.definition_count())?;
     record(&mut known, index, entry)?;
     symbols.searched = known;
     Ok(())
 }
 
-/// Returns the index of the constant that an operand means, if it has no final form, and nothing is
-/// recorded of it.
+/// Returns the index of the constant that an operand means, if it has no final form and no entry of
+/// a search.
 fn unsearched(symbols: &Symbols, context: Context, operand: &Expr) -> Option<usize> {
-    let Binding::Defined(index) = meaning_at(symbols, context, operand)? else {
+    let Binding::Defined(index) = binding_at(symbols, context, operand)? else {
         return None;
     };
     let definition = symbols.definition(index)?;
     let is_open = definition.value.is_some() && definition.form.is_none();
-    if is_open && !is_met(&symbols.searched, index, symbols.definition_count()) {
+    if is_open && !is_visited(&symbols.searched, index, symbols.definition_count()) {
         Some(index)
     } else {
         None
@@ -164,7 +164,7 @@ fn search_unless_blocked(
     ensures { table_of symbols.new ≡ table_of symbols.old }
 {
     if let Some(blocker) = blocker_of(symbols, index) {
-        if !is_met(&symbols.searched, blocker, symbols.definition_count()) {
+        if !is_visited(&symbols.searched, blocker, symbols.definition_count()) {
             search_constant(alloc, symbols, blocker)?;
         }
     }
@@ -175,8 +175,8 @@ fn search_unless_blocked(
     }
 }
 
-/// Searches for the forms of the constants in an expression, and keeps them in the symbol table, so
-/// that each is searched for once.
+/// Searches for the forms of the constants in an expression, and stores them in the symbol table,
+/// so that each is searched for once.
 pub fn search_constants(
     alloc: Global,
     symbols: &mut Symbols,
@@ -206,14 +206,14 @@ pub fn search_constants(
 }
 
 /// Returns the number or address of a meaning, if it has one.
-pub fn meant_plain(
+pub fn plain_form_of_binding(
     alloc: Global,
     symbols: &Symbols,
     meaning: Binding,
 ) -> Result<Option<Norm>, AllocError>
     ensures { IfOk result (λ f. (s : Context) (e : Tree) →
-        binding_of (table_of symbols.now) s e ≡ Ok (meaning_in meaning) →
-        f ≡ plain_in (norm_of (table_of symbols.now) s e)) }
+        binding_of (table_of symbols.now) s e ≡ Ok (binding_in meaning) →
+        f ≡ plain_result (norm_of (table_of symbols.now) s e)) }
 {
     let Binding::Defined(index) = meaning else {
         return Ok(None);
@@ -223,14 +223,14 @@ pub fn meant_plain(
     };
     match (&definition.value, &definition.form) {
         (None, _) => Ok(Some(address(definition.context))),
-        (Some(_), Some(form)) => Ok(plain(form)),
-        (Some(value), None) => match searched_plain(symbols, index) {
+        (Some(_), Some(form)) => Ok(plain_form(form)),
+        (Some(value), None) => match cached_plain_form(symbols, index) {
             Some(form) => Ok(form),
             None => {
                 if is_blocked(symbols, index) {
                     return Ok(None);
                 }
-                find_plain(alloc, symbols, definition.context, value)
+                find_plain_form(alloc, symbols, definition.context, value)
             }
         },
     }

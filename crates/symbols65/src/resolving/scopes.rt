@@ -1,9 +1,9 @@
-//! Scopes, what is found in them, and names as they are shown.
+//! Lookup of scopes, and of names in them; and the text of a name.
 
 ghost use Rattle.std.specs.Prelude.{◌≡◌, ◌++◌, IfOk, None, OnOk, Some, take, false, ℕ, suc, List, position};
 ghost use Rattle.std.specs.Str.{bytes_eq};
 ghost use Rattle.semantics65.specs.Symbols.{qualified_name, display_name, enclosing, first_found, nested_scope, scope_from, scope_in, scopes_from, definition_index, named};
-ghost use Rattle.symbols65.specs.Views.{table_of, words_of};
+ghost use Rattle.symbols65.specs.Views.{table_of, interned_names_of};
 
 use crate::table::Symbols;
 use base65::ListVec;
@@ -13,8 +13,8 @@ use std::alloc::{AllocError, Global};
 /// The separator between two parts of a name.
 const BETWEEN: &[u8] = b"::";
 
-/// Adds parts with `::` between them.
-fn add_joined(text: &mut ListVec<u8>, parts: &[ListVec<u8>]) -> Result<(), AllocError>
+/// Appends the parts of a name, separated by `::`.
+fn append_name(text: &mut ListVec<u8>, parts: &[ListVec<u8>]) -> Result<(), AllocError>
     ensures { OnOk result (text.new ≡ text.old ++ qualified_name parts.now) }
 {
     let Some((first, following)) = parts.split_first() else {
@@ -28,8 +28,8 @@ fn add_joined(text: &mut ListVec<u8>, parts: &[ListVec<u8>]) -> Result<(), Alloc
     Ok(())
 }
 
-/// The parts of a name with `::` between them, and before them if it begins so.
-pub fn shown(
+/// Returns the text of a name: its parts, separated by `::`, after another `::` if it is global.
+pub fn name_text(
     alloc: Global,
     is_global: bool,
     parts: &[ListVec<u8>],
@@ -40,36 +40,37 @@ pub fn shown(
     if is_global {
         text.extend_from_slice(BETWEEN)?;
     }
-    add_joined(&mut text, parts)?;
+    append_name(&mut text, parts)?;
     Ok(text)
 }
 
 /// The number of the global scope.
 const GLOBAL: usize = GLOBAL_SCOPE as usize;
 
-/// The place of the definition of a word in a scope, where it is known whether only the global one has one.
-fn defined_in(symbols: &Symbols, scope: usize, word: usize, is_inner: bool) -> Option<usize>
-    requires { is_inner ≡ false → (inner : ℕ) (n : List ℕ) → position (bytes_eq n) (words_of symbols.now) ≡ Some word → definition_index (table_of symbols.now) (named (suc inner) n) ≡ None }
-    ensures { (n : List ℕ) → position (bytes_eq n) (words_of symbols.now) ≡ Some word → result ≡ definition_index (table_of symbols.now) (named scope n) }
+/// Returns the index of the definition of an interned name in a scope, if it has one. Unless `is_inner`,
+/// only the global scope defines it.
+fn defined_in(symbols: &Symbols, scope: usize, name_id: usize, is_inner: bool) -> Option<usize>
+    requires { is_inner ≡ false → (inner : ℕ) (n : List ℕ) → position (bytes_eq n) (interned_names_of symbols.now) ≡ Some name_id → definition_index (table_of symbols.now) (named (suc inner) n) ≡ None }
+    ensures { (n : List ℕ) → position (bytes_eq n) (interned_names_of symbols.now) ≡ Some name_id → result ≡ definition_index (table_of symbols.now) (named scope n) }
 {
     if !is_inner && scope != GLOBAL {
         return None;
     }
-    symbols.defined_in(scope, word)
+    symbols.defined_in(scope, name_id)
 }
 
-/// The place of what a name means that is defined: in the innermost scope that defines it, from one outward.
+/// Returns the index of the definition of a name in the innermost scope that defines it, from a scope
+/// outward, if one does.
 pub fn defined_outward(symbols: &Symbols, scope: usize, name: &[u8]) -> Option<usize>
     ensures { result ≡ first_found (λ s. definition_index (table_of symbols.now) (named s name.now)) (scopes_from (table_of symbols.now).scopes scope) }
 {
-    let word = symbols.word(name)?;
-    let is_inner = symbols.is_inner(word);
+    let name_id = symbols.name_id(name)?;
+    let is_inner = symbols.is_inner(name_id);
     let mut scope = scope;
-    // A scope is within scopes that were opened before it, so there are no more of them than its
-    // number.
+    // A scope is nested in scopes that were opened before it, so their number is at most its own.
     let mut left = scope;
     loop {
-        if let Some(index) = defined_in(symbols, scope, word, is_inner) {
+        if let Some(index) = defined_in(symbols, scope, name_id, is_inner) {
             return Some(index);
         }
         if scope == GLOBAL || left == 0 {
@@ -80,7 +81,8 @@ pub fn defined_outward(symbols: &Symbols, scope: usize, name: &[u8]) -> Option<u
     }
 }
 
-/// The scope of a name that was opened directly in a scope, among those that were opened first.
+/// Returns the scope of this name that was opened directly in another scope, if it is one of the first
+/// `opened` scopes.
 fn scope_in(symbols: &Symbols, opened: usize, within: usize, name: &[u8]) -> Option<usize>
     ensures { result ≡ scope_in (take opened (table_of symbols.now).scopes) within name.now }
 {
@@ -90,7 +92,8 @@ fn scope_in(symbols: &Symbols, opened: usize, within: usize, name: &[u8]) -> Opt
     }
 }
 
-/// The scope in which a scope was opened, among those that were opened first.
+/// Returns the scope in which a scope was opened; the global scope if it isn't one of the first `opened`
+/// scopes.
 fn enclosing(symbols: &Symbols, opened: usize, scope: usize) -> usize
     ensures { result ≡ enclosing (take opened (table_of symbols.now).scopes) scope }
 {
@@ -101,7 +104,8 @@ fn enclosing(symbols: &Symbols, opened: usize, scope: usize) -> usize
     }
 }
 
-/// The innermost scope of a name among those that were opened first, from a scope outward.
+/// Searches a scope, and then the enclosing ones, for a scope with this name among the first `opened`
+/// scopes. Returns the first one.
 fn scope_outward(symbols: &Symbols, opened: usize, scope: usize, name: &[u8]) -> Option<usize>
     ensures { result ≡ first_found (λ s. scope_in (take opened (table_of symbols.now).scopes) s name.now) (scopes_from (take opened (table_of symbols.now).scopes) scope) }
 {
@@ -119,7 +123,8 @@ fn scope_outward(symbols: &Symbols, opened: usize, scope: usize, name: &[u8]) ->
     }
 }
 
-/// The scope to which names lead, one inside the other, from a scope.
+/// Returns the scope at the end of a path of names from a scope, if there is one among the first `opened`
+/// scopes.
 fn inner_scope(
     symbols: &Symbols,
     opened: usize,
@@ -135,7 +140,8 @@ fn inner_scope(
     Some(scope)
 }
 
-/// The scope that the parts of a name before its last lead to, among those that were opened first.
+/// Returns the scope that a name with `::` specifies by the parts before its last, `names`, if it is one of
+/// the first `opened` scopes.
 pub fn scope_of(
     symbols: &Symbols,
     opened: usize,

@@ -3,10 +3,10 @@
 ghost use Rattle.std.specs.Prelude.{◌≡◌, IfOk, OnOk, if◌then◌else◌, is_some, nat_eq, slice_get};
 ghost use Rattle.base65.specs.Outcome.{Refines, RefinesProp};
 ghost use Rattle.indexmap.specs.IndexMap.{get};
-ghost use Rattle.ast65.specs.Faults.{is_memory};
+ghost use Rattle.ast65.specs.Faults.{is_out_of_memory};
 ghost use Rattle.semantics65.specs.Norms.{defined_form, norm_of};
 ghost use Rattle.symbols65.specs.Resolving.{FindsForm};
-ghost use Rattle.symbols65.specs.Tables.{IsTable, IsUnmarked, KeepsSearches, entry_at};
+ghost use Rattle.symbols65.specs.Tables.{IsFormCache, IsUnmarked, KeepsSearches, entry_at};
 ghost use Rattle.symbols65.specs.Views.{IsRecorded, table_of};
 
 use super::attempt::{AttemptError, address, try_last};
@@ -20,7 +20,7 @@ use syntax65::Expr;
 
 /// Creates the cache of a symbol table to which nothing is added any more.
 pub fn empty_cache(alloc: Global, symbols: &Symbols) -> FormCache
-    ensures { IsTable (table_of symbols.now) result }
+    ensures { IsFormCache (table_of symbols.now) result }
 {
     IndexMap::new(alloc)
 }
@@ -36,7 +36,7 @@ pub fn record(known: &mut FormCache, index: usize, entry: SearchEntry) -> Result
 }
 
 /// Returns whether a search by `count` definitions has met the constant at an index.
-pub fn is_met(known: &FormCache, index: usize, count: usize) -> bool
+pub fn is_visited(known: &FormCache, index: usize, count: usize) -> bool
     ensures { result ≡ is_some (entry_at count (get nat_eq known.now index)) }
 {
     let entry = known.get(&index);
@@ -59,30 +59,30 @@ pub fn run_search(
 ) -> Result<Norm, AsmFault>
     requires { KeepsSearches (table_of symbols.now) (get nat_eq known.old) }
     ensures form { FindsForm result (norm_of (table_of symbols.now) context value.now) }
-    ensures first { IsUnmarked (table_of symbols.now) known.old → Refines is_memory (λ f. f) result
+    ensures first { IsUnmarked (table_of symbols.now) known.old → Refines is_out_of_memory (λ f. f) result
         (norm_of (table_of symbols.now) context value.now) }
-    ensures entries { RefinesProp is_memory
+    ensures entries { RefinesProp is_out_of_memory
         (λ r. KeepsSearches (table_of symbols.now) (get nat_eq known.new)) result }
     ensures unmarked { OnOk result (IsUnmarked (table_of symbols.now) known.old →
         IsUnmarked (table_of symbols.now) known.new) }
 {
     let count = symbols.definition_count();
-    let mut waiting: Vec<usize> = Vec::new(alloc);
+    let mut pending_constants: Vec<usize> = Vec::new(alloc);
     'find: loop {
-        let attempt = try_last(alloc, symbols, known, context, value, &waiting);
+        let attempt = try_last(alloc, symbols, known, context, value, &pending_constants);
         match attempt {
-            Ok(form) => match waiting.pop() {
+            Ok(form) => match pending_constants.pop() {
                 None => return Ok(form),
                 Some(last) => record(known, last, SearchEntry::KnownForm(form))?,
             },
             Err(AttemptError::Fault(fault)) => return Err(fault),
             Err(AttemptError::Needs(index)) => {
                 // A constant that is needed while its own form is pending is circular.
-                if is_met(known, index, count) {
+                if is_visited(known, index, count) {
                     return Err(AsmFault::Circular);
                 }
                 record(known, index, SearchEntry::NoForm(count))?;
-                waiting.push(index)?;
+                pending_constants.push(index)?;
             }
         }
     }
@@ -97,10 +97,10 @@ pub fn norm(
     context: Context,
     value: &Expr,
 ) -> Result<Norm, AsmFault>
-    requires { IsTable (table_of symbols.now) known.old }
-    ensures form { Refines is_memory (λ f. f) result
+    requires { IsFormCache (table_of symbols.now) known.old }
+    ensures form { Refines is_out_of_memory (λ f. f) result
         (norm_of (table_of symbols.now) context value.now) }
-    ensures table { OnOk result (IsTable (table_of symbols.now) known.new) }
+    ensures table { OnOk result (IsFormCache (table_of symbols.now) known.new) }
 {
     run_search(alloc, symbols, known, context, value)
 }
@@ -112,9 +112,9 @@ pub fn defined_norm(
     known: &mut FormCache,
     index: usize,
 ) -> Result<Norm, AsmFault>
-    requires { IsTable (table_of symbols.now) known.old }
-    ensures form { Refines is_memory (λ f. f) result (defined_form (table_of symbols.now) index) }
-    ensures table { OnOk result (IsTable (table_of symbols.now) known.new) }
+    requires { IsFormCache (table_of symbols.now) known.old }
+    ensures form { Refines is_out_of_memory (λ f. f) result (defined_form (table_of symbols.now) index) }
+    ensures table { OnOk result (IsFormCache (table_of symbols.now) known.new) }
 {
     match symbols.definition(index) {
         None => Err(AsmFault::NoSuchLabel),

@@ -1,11 +1,11 @@
-//! Definitions that are added to a symbol table.
+//! Adds definitions to a symbol table.
 
 ghost use Rattle.std.specs.Prelude.{◌≡◌, ◌++◌, ◌∷◌, [], IfOk, None, OnErr, OnOk, Some, false, length, nat_eq, position, slice_get, true, ℕ};
 ghost use Rattle.indexmap.specs.IndexMap.{get, keys};
 ghost use Rattle.semantics65.specs.Symbols.{Definition as TableDefinition, definition_index};
-ghost use Rattle.symbols65.specs.Resolving.{KeepsMeanings};
-ghost use Rattle.symbols65.specs.Tables.{IsCounted, IsInnerKnown, KeepsFinal, definition_in, definition_seen, entry_of, first_number, key_of, same_entry, word_of};
-ghost use Rattle.symbols65.specs.Views.{table_of, with_definition, words_of};
+ghost use Rattle.symbols65.specs.Resolving.{KeepsBindings};
+ghost use Rattle.symbols65.specs.Tables.{IsCounted, IsInnerKnown, StoresFinalForm, definition_in, definition_view, interned_key_of, first_number, key_of, same_interned_key, key_name_id};
+ghost use Rattle.symbols65.specs.Views.{table_of, with_definition, interned_names_of};
 
 use super::symbols::{Definition, InternedKey, Key, SearchEntry, Symbols};
 use base65::Seed;
@@ -16,33 +16,33 @@ use std::alloc::{AllocError, Global};
 /// The number of the global scope.
 const GLOBAL: usize = GLOBAL_SCOPE as usize;
 
-/// The entry of a key, whose name is put in where it is new.
+/// Interns the name of a key, if it has one, and returns the interned key.
 fn entry(alloc: Global, symbols: &mut Symbols, key: Key<'_>) -> Result<InternedKey, AllocError>
     ensures table { table_of symbols.new ≡ table_of symbols.old }
     ensures definitions { symbols.new.definitions ≡ symbols.old.definitions }
-    ensures entry { IfOk result (λ e. entry_of (words_of symbols.new) (key_of key.entry) ≡ Some e) }
+    ensures entry { IfOk result (λ e. interned_key_of (interned_names_of symbols.new) (key_of key.entry) ≡ Some e) }
     ensures counted { IfOk result IsCounted }
 {
     match key {
         Key::Named { scope, name } => {
-            let word = symbols.number(alloc, name)?;
-            Ok(InternedKey::Named { scope, word })
+            let name_id = symbols.intern_name(alloc, name)?;
+            Ok(InternedKey::Named { scope, name_id })
         }
         Key::Cheap { region, name } => {
-            let word = symbols.number(alloc, name)?;
-            Ok(InternedKey::Cheap { region, word })
+            let name_id = symbols.intern_name(alloc, name)?;
+            Ok(InternedKey::Cheap { region, name_id })
         }
         Key::Unnamed(count) => Ok(InternedKey::Unnamed(count)),
     }
 }
 
-/// Adds a definition, unless there is one by its entry.
+/// Adds a definition whose key isn't in the table.
 fn push(
     definitions: &mut IndexMap<InternedKey, Definition, Seed>,
     entry: InternedKey,
     definition: Definition,
 ) -> Result<(), AllocError>
-    requires { position (same_entry entry) (keys definitions.old) ≡ None }
+    requires { position (same_interned_key entry) (keys definitions.old) ≡ None }
     ensures pushed { OnOk result (definitions.new.entries ≡
         definitions.old.entries ++ (entry, definition) ∷ []) }
     ensures unchanged { OnErr result (definitions.new.entries ≡ definitions.old.entries) }
@@ -53,36 +53,36 @@ fn push(
     }
 }
 
-/// Notes that a scope other than the global one defines a word.
-fn note_inner(inner: &mut Vec<bool>, word: usize) -> Result<(), AllocError>
-    ensures noted { OnOk result (slice_get inner.new.items word ≡ Some true) }
+/// Records that a scope other than the global one defines an interned name.
+fn mark_inner_name(inner: &mut Vec<bool>, name_id: usize) -> Result<(), AllocError>
+    ensures noted { OnOk result (slice_get inner.new.items name_id ≡ Some true) }
     ensures kept { (w : ℕ) → slice_get inner.old.items w ≡ Some true → slice_get inner.new.items w ≡ Some true }
 {
-    while inner.len() <= word {
+    while inner.len() <= name_id {
         inner.push(false)?;
     }
-    inner[word] = true;
+    inner[name_id] = true;
     Ok(())
 }
 
-/// Notes what is known of words by a definition.
-fn note(inner: &mut Vec<bool>, entry: InternedKey) -> Result<(), AllocError>
+/// Records the name of a definition if its scope isn't the global one.
+fn mark_inner(inner: &mut Vec<bool>, entry: InternedKey) -> Result<(), AllocError>
     ensures noted { OnOk result (IsInnerKnown inner.new.items entry) }
     ensures kept { (w : ℕ) → slice_get inner.old.items w ≡ Some true → slice_get inner.new.items w ≡ Some true }
 {
     match entry {
-        InternedKey::Named { scope, word } if scope != GLOBAL => note_inner(inner, word),
+        InternedKey::Named { scope, name_id } if scope != GLOBAL => mark_inner_name(inner, name_id),
         _ => Ok(()),
     }
 }
 
 /// Returns whether a definition is a constant without a final form.
-fn is_open(definition: &Definition) -> bool {
+fn is_unresolved(definition: &Definition) -> bool {
     definition.value.is_some() && definition.form.is_none()
 }
 
-/// Removes the entries of searches, unless they are to be kept.
-fn forget_unless(searched: &mut IndexMap<usize, SearchEntry>, keeps: bool)
+/// Removes the entries of searches, unless `keeps`.
+fn clear_unless(searched: &mut IndexMap<usize, SearchEntry>, keeps: bool)
     ensures kept { keeps ≡ true → (j : ℕ) → get nat_eq searched.new j ≡ get nat_eq searched.old j }
     ensures forgotten { keeps ≡ false → (j : ℕ) → get nat_eq searched.new j ≡ None }
 {
@@ -91,14 +91,14 @@ fn forget_unless(searched: &mut IndexMap<usize, SearchEntry>, keeps: bool)
     }
 }
 
-/// Returns whether each operand keeps its meaning if a key is defined that isn't yet: it does unless the key is a name
-/// that is defined in another scope, or imported.
-fn keeps_meanings(symbols: &Symbols, key: Key<'_>) -> bool
+/// Returns whether each operand keeps its meaning if an undefined key is defined. Each does unless the name of the key
+/// is defined in another scope or imported. Returns false if there are no entries of searches.
+fn keeps_bindings(symbols: &Symbols, key: Key<'_>) -> bool
     ensures { result ≡ true → (d : TableDefinition) → d.key ≡ key_of key.entry →
-        KeepsMeanings (table_of symbols.now) (with_definition (table_of symbols.now) d) }
+        KeepsBindings (table_of symbols.now) (with_definition (table_of symbols.now) d) }
 {
     if symbols.searched.is_empty() {
-        // (nothing is to be kept)
+        // There are no entries to keep.
         return false;
     }
     match key {
@@ -107,26 +107,27 @@ fn keeps_meanings(symbols: &Symbols, key: Key<'_>) -> bool
     }
 }
 
-/// Adds the definition of a key that has none. The entries of searches are kept if operands keep their meanings.
-fn put(
+/// Adds the definition of a key that has none. Keeps the entries of searches if `keeps`: if operands keep their
+/// meanings.
+fn add_definition(
     symbols: &mut Symbols,
     entry: InternedKey,
     definition: Definition,
     keeps: bool,
 ) -> Result<(), AllocError>
-    requires number { first_number (words_of symbols.old) (word_of entry) ≡ word_of entry }
+    requires number { first_number (interned_names_of symbols.old) (key_name_id entry) ≡ key_name_id entry }
     requires counted { IsCounted entry }
-    requires form { KeepsFinal (table_of symbols.old) (length symbols.old.definitions.entries)
-        (definition_in (words_of symbols.old) (entry, definition)) definition }
-    requires meanings { keeps ≡ true → KeepsMeanings (table_of symbols.old) (with_definition
-        (table_of symbols.old) (definition_in (words_of symbols.old) (entry, definition))) }
-    requires new { position (same_entry entry) (keys symbols.old.definitions) ≡ None }
+    requires form { StoresFinalForm (table_of symbols.old) (length symbols.old.definitions.entries)
+        (definition_in (interned_names_of symbols.old) (entry, definition)) definition }
+    requires meanings { keeps ≡ true → KeepsBindings (table_of symbols.old) (with_definition
+        (table_of symbols.old) (definition_in (interned_names_of symbols.old) (entry, definition))) }
+    requires new { position (same_interned_key entry) (keys symbols.old.definitions) ≡ None }
     ensures { OnOk result (table_of symbols.new ≡ with_definition (table_of symbols.old)
-        (definition_in (words_of symbols.old) (entry, definition))) }
+        (definition_in (interned_names_of symbols.old) (entry, definition))) }
 {
-    forget_unless(&mut symbols.searched, keeps);
-    symbols.has_open = symbols.has_open || is_open(&definition);
-    note(&mut symbols.inner, entry)?;
+    clear_unless(&mut symbols.searched, keeps);
+    symbols.has_unresolved = symbols.has_unresolved || is_unresolved(&definition);
+    mark_inner(&mut symbols.inner, entry)?;
     push(&mut symbols.definitions, entry, definition)
 }
 
@@ -138,12 +139,12 @@ pub fn define(
     definition: Definition,
 ) -> Result<(), AllocError>
     requires new { definition_index (table_of symbols.old) (key_of key) ≡ None }
-    requires form { KeepsFinal (table_of symbols.old) (length (table_of symbols.old).definitions)
-        (definition_seen (key_of key) definition) definition }
+    requires form { StoresFinalForm (table_of symbols.old) (length (table_of symbols.old).definitions)
+        (definition_view (key_of key) definition) definition }
     ensures { OnOk result (table_of symbols.new ≡ with_definition (table_of symbols.old)
-        (definition_seen (key_of key.entry) definition)) }
+        (definition_view (key_of key.entry) definition)) }
 {
-    let keeps = keeps_meanings(symbols, key);
+    let keeps = keeps_bindings(symbols, key);
     let entry = entry(alloc, symbols, key)?;
-    put(symbols, entry, definition, keeps)
+    add_definition(symbols, entry, definition, keeps)
 }

@@ -1,17 +1,17 @@
 //! Parses expressions, and names joined by `::`.
 
 ghost use Rattle.std.specs.Prelude.{◌<◌, ◌≤◌, length, IfOk, ◌≡◌};
-ghost use Rattle.syntax65.specs.Expressions.{AreNames, IsLevel, IsParsed, opening_at, leaf_of};
+ghost use Rattle.syntax65.specs.Expressions.{AreNames, IsLevel, IsParsed, operand_start_at, leaf_of};
 ghost use Rattle.syntax65.specs.Tokens.{lexemes};
 ghost use Rattle.syntax65.specs.Faults.{is_expr_system_error};
 ghost use Rattle.base65.specs.Relations.{RefinesRel};
-ghost use Rattle.syntax65.specs.declared.expressions.words.OperandStart.TheVariants as opening;
+ghost use Rattle.syntax65.specs.declared.expressions.operators.OperandStart.TheVariants as opening;
 
-use super::trees::{Expr, ExprKind, Identifier, Name, Operands};
-use super::words::{
-    ExprFault, OperandStart, closes_at, is_name, is_negation, is_scope, opening_at, operator_at,
-    text_at,
+use super::operators::{
+    ExprFault, OperandStart, closes_at, is_name, is_negation, is_scope, operand_start_at,
+    operator_at, text_at,
 };
+use super::trees::{Expr, ExprKind, Identifier, Name, Operands};
 use crate::{ListVec, Op1, Token};
 use std::alloc::{AllocError, Global};
 
@@ -63,16 +63,16 @@ fn read_whole(
     alloc: Global,
     tokens: &[Token<'_>],
     at: usize,
-    room: u8,
+    depth_left: u8,
 ) -> Result<(Expr, usize), ExprFault>
-    ensures phrase { RefinesRel is_expr_system_error (λ r. r) result (IsLevel (lexemes tokens.now) room 6 at) }
+    ensures phrase { RefinesRel is_expr_system_error (λ r. r) result (IsLevel (lexemes tokens.now) depth_left 6 at) }
     ensures further { IfOk result (λ r. at < r.1) }
     ensures inside { IfOk result (λ r. r.1 ≤ length tokens.now) }
 {
     if is_negation(tokens, at) {
-        read_negated(alloc, tokens, at, room)
+        read_negated(alloc, tokens, at, depth_left)
     } else {
-        read_level(alloc, tokens, at, 5, room)
+        read_level(alloc, tokens, at, 5, depth_left)
     }
 }
 
@@ -81,18 +81,18 @@ fn read_negated(
     alloc: Global,
     tokens: &[Token<'_>],
     at: usize,
-    room: u8,
+    depth_left: u8,
 ) -> Result<(Expr, usize), ExprFault>
     requires inside { at < length tokens.now }
-    requires negation { opening_at (lexemes tokens.now) at ≡ opening.Negation }
-    ensures phrase { RefinesRel is_expr_system_error (λ r. r) result (IsLevel (lexemes tokens.now) room 6 at) }
+    requires negation { operand_start_at (lexemes tokens.now) at ≡ opening.Negation }
+    ensures phrase { RefinesRel is_expr_system_error (λ r. r) result (IsLevel (lexemes tokens.now) depth_left 6 at) }
     ensures further { IfOk result (λ r. at < r.1) }
     ensures inside { IfOk result (λ r. r.1 ≤ length tokens.now) }
 {
-    if room == 0 {
+    if depth_left == 0 {
         return Err(ExprFault::TooDeep);
     }
-    let (operand, end) = read_whole(alloc, tokens, at + 1, room - 1)?;
+    let (operand, end) = read_whole(alloc, tokens, at + 1, depth_left - 1)?;
     Ok((
         Expr::new(ExprKind::Prefix(Op1::Not, Box::new(alloc, operand)?)),
         end,
@@ -106,18 +106,18 @@ fn read_level(
     tokens: &[Token<'_>],
     at: usize,
     level: u8,
-    room: u8,
+    depth_left: u8,
 ) -> Result<(Expr, usize), ExprFault>
     requires { level ≤ 5 }
-    ensures phrase { RefinesRel is_expr_system_error (λ r. r) result (IsLevel (lexemes tokens.now) room level at) }
+    ensures phrase { RefinesRel is_expr_system_error (λ r. r) result (IsLevel (lexemes tokens.now) depth_left level at) }
     ensures further { IfOk result (λ r. at < r.1) }
     ensures inside { IfOk result (λ r. r.1 ≤ length tokens.now) }
 {
-    let (mut left, mut end) = read_operand(alloc, tokens, at, room)?;
+    let (mut left, mut end) = read_operand(alloc, tokens, at, depth_left)?;
     // No operator of this level or a tighter one follows the phrase, so the phrase read so far is
     // the left operand of the next operator.
     'operators: while let Some((op, own)) = operator_at(tokens, level, end) {
-        let (right, next) = read_level(alloc, tokens, end + 1, own - 1, room)?;
+        let (right, next) = read_level(alloc, tokens, end + 1, own - 1, depth_left)?;
         let operands = Operands { left, right };
         left = Expr::new(ExprKind::Binary(op, Box::new(alloc, operands)?));
         end = next;
@@ -130,30 +130,30 @@ fn read_operand(
     alloc: Global,
     tokens: &[Token<'_>],
     at: usize,
-    room: u8,
+    depth_left: u8,
 ) -> Result<(Expr, usize), ExprFault>
-    ensures phrase { RefinesRel is_expr_system_error (λ r. r) result (IsLevel (lexemes tokens.now) room 0 at) }
+    ensures phrase { RefinesRel is_expr_system_error (λ r. r) result (IsLevel (lexemes tokens.now) depth_left 0 at) }
     ensures further { IfOk result (λ r. at < r.1) }
     ensures inside { IfOk result (λ r. r.1 ≤ length tokens.now) }
 {
-    let opening = opening_at(tokens, at);
-    if let Some(leaf) = leaf_of(alloc, opening, text_at(tokens, at))? {
+    let start = operand_start_at(tokens, at);
+    if let Some(leaf) = leaf_of(alloc, start, text_at(tokens, at))? {
         return Ok((leaf, at + 1));
     }
-    match opening {
-        OperandStart::Name => read_name(alloc, tokens, at, room),
-        OperandStart::Scope => read_global(alloc, tokens, at, room),
-        OperandStart::Prefix(op) => read_prefixed(alloc, tokens, at, room, op),
-        OperandStart::Parenthesis => read_enclosed(alloc, tokens, at, room),
+    match start {
+        OperandStart::Name => read_name(alloc, tokens, at, depth_left),
+        OperandStart::Scope => read_global(alloc, tokens, at, depth_left),
+        OperandStart::Prefix(op) => read_prefixed(alloc, tokens, at, depth_left, op),
+        OperandStart::Parenthesis => read_enclosed(alloc, tokens, at, depth_left),
         _ => Err(ExprFault::OperandExpected),
     }
 }
 
 /// Returns the operand that consists of one token.
-fn leaf_of(alloc: Global, opening: OperandStart, text: &[u8]) -> Result<Option<Expr>, AllocError>
-    ensures { IfOk result (λ leaf. leaf ≡ leaf_of opening text.now) }
+fn leaf_of(alloc: Global, start: OperandStart, text: &[u8]) -> Result<Option<Expr>, AllocError>
+    ensures { IfOk result (λ leaf. leaf ≡ leaf_of start text.now) }
 {
-    let kind = match opening {
+    let kind = match start {
         OperandStart::Number(value) => ExprKind::Number(value),
         OperandStart::Here => ExprKind::Here,
         OperandStart::Cheap => ExprKind::Cheap(Identifier::copy_of(alloc, text)?),
@@ -168,11 +168,11 @@ fn read_name(
     alloc: Global,
     tokens: &[Token<'_>],
     at: usize,
-    room: u8,
+    depth_left: u8,
 ) -> Result<(Expr, usize), ExprFault>
     requires inside { at < length tokens.now }
-    requires name { opening_at (lexemes tokens.now) at ≡ opening.Name }
-    ensures phrase { RefinesRel is_expr_system_error (λ r. r) result (IsLevel (lexemes tokens.now) room 0 at) }
+    requires name { operand_start_at (lexemes tokens.now) at ≡ opening.Name }
+    ensures phrase { RefinesRel is_expr_system_error (λ r. r) result (IsLevel (lexemes tokens.now) depth_left 0 at) }
     ensures further { IfOk result (λ r. at < r.1) }
     ensures inside { IfOk result (λ r. r.1 ≤ length tokens.now) }
 {
@@ -192,11 +192,11 @@ fn read_global(
     alloc: Global,
     tokens: &[Token<'_>],
     at: usize,
-    room: u8,
+    depth_left: u8,
 ) -> Result<(Expr, usize), ExprFault>
     requires inside { at < length tokens.now }
-    requires scope { opening_at (lexemes tokens.now) at ≡ opening.Scope }
-    ensures phrase { RefinesRel is_expr_system_error (λ r. r) result (IsLevel (lexemes tokens.now) room 0 at) }
+    requires scope { operand_start_at (lexemes tokens.now) at ≡ opening.Scope }
+    ensures phrase { RefinesRel is_expr_system_error (λ r. r) result (IsLevel (lexemes tokens.now) depth_left 0 at) }
     ensures further { IfOk result (λ r. at < r.1) }
     ensures inside { IfOk result (λ r. r.1 ≤ length tokens.now) }
 {
@@ -213,19 +213,19 @@ fn read_prefixed(
     alloc: Global,
     tokens: &[Token<'_>],
     at: usize,
-    room: u8,
+    depth_left: u8,
     op: Op1,
 ) -> Result<(Expr, usize), ExprFault>
     requires inside { at < length tokens.now }
-    requires prefix { opening_at (lexemes tokens.now) at ≡ opening.Prefix op }
-    ensures phrase { RefinesRel is_expr_system_error (λ r. r) result (IsLevel (lexemes tokens.now) room 0 at) }
+    requires prefix { operand_start_at (lexemes tokens.now) at ≡ opening.Prefix op }
+    ensures phrase { RefinesRel is_expr_system_error (λ r. r) result (IsLevel (lexemes tokens.now) depth_left 0 at) }
     ensures further { IfOk result (λ r. at < r.1) }
     ensures inside { IfOk result (λ r. r.1 ≤ length tokens.now) }
 {
-    if room == 0 {
+    if depth_left == 0 {
         return Err(ExprFault::TooDeep);
     }
-    let (operand, end) = read_operand(alloc, tokens, at + 1, room - 1)?;
+    let (operand, end) = read_operand(alloc, tokens, at + 1, depth_left - 1)?;
     Ok((
         Expr::new(ExprKind::Prefix(op, Box::new(alloc, operand)?)),
         end,
@@ -237,18 +237,18 @@ fn read_enclosed(
     alloc: Global,
     tokens: &[Token<'_>],
     at: usize,
-    room: u8,
+    depth_left: u8,
 ) -> Result<(Expr, usize), ExprFault>
     requires inside { at < length tokens.now }
-    requires open { opening_at (lexemes tokens.now) at ≡ opening.Parenthesis }
-    ensures phrase { RefinesRel is_expr_system_error (λ r. r) result (IsLevel (lexemes tokens.now) room 0 at) }
+    requires open { operand_start_at (lexemes tokens.now) at ≡ opening.Parenthesis }
+    ensures phrase { RefinesRel is_expr_system_error (λ r. r) result (IsLevel (lexemes tokens.now) depth_left 0 at) }
     ensures further { IfOk result (λ r. at < r.1) }
     ensures inside { IfOk result (λ r. r.1 ≤ length tokens.now) }
 {
-    if room == 0 {
+    if depth_left == 0 {
         return Err(ExprFault::TooDeep);
     }
-    let (inner, end) = read_whole(alloc, tokens, at + 1, room - 1)?;
+    let (inner, end) = read_whole(alloc, tokens, at + 1, depth_left - 1)?;
     if closes_at(tokens, end) {
         Ok((inner, end + 1))
     } else {

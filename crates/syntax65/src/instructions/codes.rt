@@ -10,7 +10,7 @@ use super::names::Mnemonic;
 pub enum Mode {
     /// No operand.
     Implied,
-    /// `a`, or none where the instruction also takes memory.
+    /// `a`, or no operand, for an instruction that also accepts memory.
     Accumulator,
     /// `#e`: a byte.
     Immediate,
@@ -36,7 +36,8 @@ pub enum Mode {
     Relative,
 }
 
-/// The opcode of a mnemonic with a form of operand, if the instruction has that form.
+/// Returns the opcode of a mnemonic with a form of operand, if the instruction has
+/// it.
 pub fn opcode(mnemonic: Mnemonic, mode: Mode) -> Option<u8>
     ensures { result ≡ opcode_of mnemonic mode }
 {
@@ -92,7 +93,7 @@ pub fn opcode(mnemonic: Mnemonic, mode: Mode) -> Option<u8>
     }
 }
 
-/// Counting: `e` and `e,x` in the zero page, and as words.
+/// Returns the opcode for counting: `e` and `e,x`, in the zero page and as words.
 fn count(mode: Mode, codes: [u8; 4]) -> Option<u8>
     ensures { result ≡ count codes mode }
 {
@@ -105,7 +106,7 @@ fn count(mode: Mode, codes: [u8; 4]) -> Option<u8>
     }
 }
 
-/// Shifts: `a`, and the forms of counting.
+/// Returns the opcode of a shift: `a`, and the forms of counting.
 fn shift(mode: Mode, code: u8, codes: [u8; 4]) -> Option<u8>
     ensures { result ≡ shift code codes mode }
 {
@@ -115,7 +116,7 @@ fn shift(mode: Mode, code: u8, codes: [u8; 4]) -> Option<u8>
     }
 }
 
-/// Stores of `a`: the forms of counting, then `e,y`, `(e,x)` and `(e),y`.
+/// Returns the opcode of a store of `a`: counting, then `e,y`, `(e,x)`, `(e),y`.
 fn store(mode: Mode, codes: [u8; 7]) -> Option<u8>
     ensures { result ≡ store codes mode }
 {
@@ -131,7 +132,8 @@ fn store(mode: Mode, codes: [u8; 7]) -> Option<u8>
     }
 }
 
-/// Arithmetic and loads of `a`: a byte, and the forms of its stores.
+/// Returns the opcode of arithmetic or a load of `a`: a byte, and the forms of
+/// stores.
 fn arithmetic(mode: Mode, code: u8, codes: [u8; 7]) -> Option<u8>
     ensures { result ≡ arithmetic code codes mode }
 {
@@ -141,7 +143,7 @@ fn arithmetic(mode: Mode, code: u8, codes: [u8; 7]) -> Option<u8>
     }
 }
 
-/// Without an operand.
+/// Returns the opcode of an instruction without an operand.
 fn implied(mode: Mode, code: u8) -> Option<u8>
     ensures { result ≡ implied code mode }
 {
@@ -151,7 +153,7 @@ fn implied(mode: Mode, code: u8) -> Option<u8>
     }
 }
 
-/// Branches.
+/// Returns the opcode of a branch.
 fn branch(mode: Mode, code: u8) -> Option<u8>
     ensures { result ≡ branch code mode }
 {
@@ -161,7 +163,7 @@ fn branch(mode: Mode, code: u8) -> Option<u8>
     }
 }
 
-/// Instructions with other forms.
+/// Returns the opcode of an instruction with other forms.
 fn other_opcode(mnemonic: Mnemonic, mode: Mode) -> Option<u8>
     ensures { result ≡ other_opcode mnemonic mode }
 {

@@ -12,7 +12,7 @@ pub fn mnemonic(bytes: &[u8]) -> Option<Mnemonic>
     ensures spelled { IsFound (SpellsMnemonic bytes.now) result }
 {
     match bytes {
-        [first, second, third] => of_letters([
+        [first, second, third] => mnemonic_of_letters([
             first.to_ascii_lowercase(),
             second.to_ascii_lowercase(),
             third.to_ascii_lowercase(),
@@ -22,7 +22,7 @@ pub fn mnemonic(bytes: &[u8]) -> Option<Mnemonic>
 }
 
 /// Returns the mnemonic with this name of three lower-case letters.
-fn of_letters(letters: [u8; 3]) -> Option<Mnemonic>
+fn mnemonic_of_letters(letters: [u8; 3]) -> Option<Mnemonic>
     ensures { IsFound (λ m. letters ≡ name_of m) result }
 {
     Some(match letters {

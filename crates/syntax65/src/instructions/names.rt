@@ -126,7 +126,7 @@ impl Mnemonic {
         Mnemonic::Tya,
     ];
 
-    /// The name in lower case.
+    /// Returns the name in lower case.
     pub fn name(self) -> &'static [u8]
         ensures { result.now ≡ name_of self }
     {

@@ -4,9 +4,9 @@ ghost use Rattle.std.specs.Prelude.{◌≡◌, ◌≤◌, ◌↔◌, ◌++◌, �
 ghost use Rattle.syntax65.specs.declared.lexing.tokens.LexFault.TheVariants.{LineTooLong};
 ghost use Rattle.syntax65.specs.Faults.{is_lex_system_error};
 ghost use Rattle.base65.specs.Relations.{RefinesRel};
-ghost use Rattle.syntax65.specs.Tokens.{ReadsOn, after_blanks, lexeme_of, lexemes, IsEnd, IsRead, IsCutOff, IsNextToken, Lexeme, IsFront, HoldsNothing, stored_lexemes};
+ghost use Rattle.syntax65.specs.Tokens.{ReadsRest, without_leading_blanks, lexeme_of, lexemes, IsEnd, IsRead, IsTokenSplit, IsNextToken, Lexeme, AreFirstTokens, HasNoTokens, stored_lexemes};
 
-use super::places::{blank_len, token_at};
+use super::positions::{blank_len, token_at};
 use super::tokens::{LexFault, Token, TokenKind};
 use std::alloc::{AllocError, Global};
 
@@ -19,7 +19,7 @@ const FEW_TOKENS: usize = 8;
 /// Storage for a few tokens, and how many it contains.
 #[derive(Drop)]
 pub struct FewTokens<'a> {
-    pub room: [Token<'a>; FEW_TOKENS],
+    pub tokens: [Token<'a>; FEW_TOKENS],
     pub count: usize,
 }
 
@@ -34,7 +34,7 @@ impl<'a> LineTokens<'a> {
     /// Returns an empty list of tokens.
     #[inline(always)]
     pub fn new() -> Self
-        ensures { HoldsNothing result }
+        ensures { HasNoTokens result }
     {
         let blank = Token {
             kind: TokenKind::Identifier,
@@ -42,7 +42,7 @@ impl<'a> LineTokens<'a> {
         };
         LineTokens {
             few: FewTokens {
-                room: [blank; FEW_TOKENS],
+                tokens: [blank; FEW_TOKENS],
                 count: 0,
             },
             many: None,
@@ -56,7 +56,7 @@ impl<'a> LineTokens<'a> {
     {
         match &self.many {
             Some(many) => many.as_slice(),
-            None => &self.few.room[..self.few.count],
+            None => &self.few.tokens[..self.few.count],
         }
     }
 
@@ -67,7 +67,7 @@ impl<'a> LineTokens<'a> {
     /// Those of `line_tokens`.
     #[inline(always)]
     pub fn read(&mut self, alloc: Global, line: &'a [u8]) -> Result<(), LexFault>
-        requires { HoldsNothing self.old }
+        requires { HasNoTokens self.old }
         ensures tokens { RefinesRel is_lex_system_error (λ _. stored_lexemes self.new) result (IsRead line.now) }
         ensures within { self.new.few.count ≤ 8 }
     {
@@ -76,11 +76,11 @@ impl<'a> LineTokens<'a> {
             match lexer.next()? {
                 Some(token) => {
                     if self.few.count >= FEW_TOKENS {
-                        let few = self.few.room;
+                        let few = self.few.tokens;
                         self.many = Some(read_many(alloc, few, token, lexer)?);
                         return Ok(());
                     }
-                    self.few.room[self.few.count] = token;
+                    self.few.tokens[self.few.count] = token;
                     self.few.count += 1;
                 }
                 None => return Ok(()),
@@ -97,20 +97,20 @@ fn read_many<'a>(
     token: Token<'a>,
     lexer: Lexer<'a>,
 ) -> Result<Vec<Token<'a>>, LexFault>
-    ensures { ReadsOn lexer.entry (lexemes few.entry ++ lexeme_of token.entry ∷ [])
+    ensures { ReadsRest lexer.entry (lexemes few.entry ++ lexeme_of token.entry ∷ [])
         result (λ many. lexemes many.items) }
 {
     let mut many = Vec::with_capacity(alloc, lexer.rest.len() / 2 + 10)?;
     many.extend_from_slice(&few)?;
     many.push(token)?;
-    read_on(lexer, &mut many)?;
+    read_rest(lexer, &mut many)?;
     Ok(many)
 }
 
 /// Appends the tokens of the rest of a line.
 #[inline(always)]
-fn read_on<'a>(mut lexer: Lexer<'a>, tokens: &mut Vec<Token<'a>>) -> Result<(), LexFault>
-    ensures { ReadsOn lexer.entry (lexemes tokens.old.items) result (λ _. lexemes tokens.new.items) }
+fn read_rest<'a>(mut lexer: Lexer<'a>, tokens: &mut Vec<Token<'a>>) -> Result<(), LexFault>
+    ensures { ReadsRest lexer.entry (lexemes tokens.old.items) result (λ _. lexemes tokens.new.items) }
 {
     'line: loop {
         match lexer.next()? {
@@ -131,13 +131,13 @@ pub fn line_tokens(alloc: Global, line: &[u8]) -> Result<Vec<Token<'_>>, LexFaul
     let lexer = Lexer::new(line)?;
     // A token and its separator take at least two bytes, except in lists of punctuation.
     let mut tokens = Vec::with_capacity(alloc, line.len() / 2 + 1)?;
-    read_on(lexer, &mut tokens)?;
+    read_rest(lexer, &mut tokens)?;
     Ok(tokens)
 }
 
 /// Returns the bytes after leading blanks.
 pub fn skip_blanks(line: &[u8]) -> &[u8]
-    ensures { result.now ≡ after_blanks line.now }
+    ensures { result.now ≡ without_leading_blanks line.now }
 {
     let (_, here) = line.split_at(blank_len(line));
     here
@@ -189,7 +189,7 @@ impl<'a> Lexer<'a> {
     #[inline(always)]
     pub fn next(&mut self) -> Result<Option<Token<'a>>, LexFault>
         ensures next { IsNextToken self.old.first self.old.rest.now result self.new.first self.new.rest.now }
-        ensures cut { IfOk result (λ t. IfSome t (λ t. IsCutOff self.old.rest.now t.text.now self.new.rest.now)) }
+        ensures cut { IfOk result (λ t. IfSome t (λ t. IsTokenSplit self.old.rest.now t.text.now self.new.rest.now)) }
         ensures less { IfOk result (λ t. IfSome t (λ _. length self.new.rest.now < length self.old.rest.now)) }
     {
         let here = skip_blanks(self.rest);
@@ -206,15 +206,15 @@ impl<'a> Lexer<'a> {
 
 /// The first two tokens of a line, if it has them.
 #[derive(Clone, Copy)]
-pub struct LineFront<'a> {
+pub struct FirstTokens<'a> {
     pub first: Option<Token<'a>>,
     pub second: Option<Token<'a>>,
 }
 
-impl<'a> LineFront<'a> {
+impl<'a> FirstTokens<'a> {
     /// Adds the next token of the line.
     fn add(&mut self, token: Token<'a>)
-        ensures { (ts : List Lexeme) → IsFront ts self.old → IsFront (ts ++ lexeme_of token.entry ∷ []) self.new }
+        ensures { (ts : List Lexeme) → AreFirstTokens ts self.old → AreFirstTokens (ts ++ lexeme_of token.entry ∷ []) self.new }
     {
         if self.first.is_none() {
             self.first = Some(token);
@@ -230,20 +230,20 @@ impl<'a> LineFront<'a> {
 /// # Errors
 ///
 /// `LineTooLong`, or the error at the first byte that begins no token.
-pub fn line_front(line: &[u8]) -> Result<LineFront<'_>, LexFault>
+pub fn first_tokens(line: &[u8]) -> Result<FirstTokens<'_>, LexFault>
     ensures { MatchResult result
-        (λ front. (ts : List Lexeme) × IsRead line.now (Ok ts) × IsFront ts front)
+        (λ found. (ts : List Lexeme) × IsRead line.now (Ok ts) × AreFirstTokens ts found)
         (λ fault. IsRead line.now (Err fault)) }
 {
     let mut lexer = Lexer::new(line)?;
-    let mut front = LineFront {
+    let mut found = FirstTokens {
         first: None,
         second: None,
     };
     'line: loop {
         match lexer.next()? {
-            Some(token) => front.add(token),
-            None => return Ok(front),
+            Some(token) => found.add(token),
+            None => return Ok(found),
         }
     }
 }

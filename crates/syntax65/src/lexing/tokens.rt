@@ -18,11 +18,11 @@ pub enum LexFault {
 }
 
 impl LexFault {
-    ghost use Rattle.syntax65.specs.Faults.{lex_fault_words};
+    ghost use Rattle.syntax65.specs.Faults.{lex_fault_message};
 
     /// Returns the text of the message.
-    pub fn words(self) -> &'static str
-        ensures { result.now ≡ lex_fault_words self }
+    pub fn message_text(self) -> &'static str
+        ensures { result.now ≡ lex_fault_message self }
     {
         match self {
             LexFault::OutOfMemory => "out of memory",
@@ -37,12 +37,12 @@ impl LexFault {
 
 impl fmt::Display for LexFault {
     ghost use Rattle.std.specs.Prelude.{Some};
-    ghost use Rattle.syntax65.specs.Faults.{lex_fault_words};
+    ghost use Rattle.syntax65.specs.Faults.{lex_fault_message};
 
-    ghost output = { λ e. Some (lex_fault_words e) };
+    ghost output = { λ e. Some (lex_fault_message e) };
 
     fn fmt<W: fmt::Write>(&self, f: &mut fmt::Formatter<W>) -> fmt::Result {
-        f.write_str(self.words())
+        f.write_str(self.message_text())
     }
 }
 

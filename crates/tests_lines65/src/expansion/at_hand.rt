@@ -26,7 +26,7 @@ fn spell_at_hand(
     let Some(line) = expander.peek(&mut tokens) else {
         return Ok(false);
     };
-    let Some(len) = expander.label_of_given(tokens.as_slice()) else {
+    let Some(len) = expander.unexpanded_label_len(tokens.as_slice()) else {
         return Ok(false);
     };
     let (label, rest) = tokens.as_slice().split_at(len);
@@ -45,7 +45,7 @@ fn spell_at_hand(
         )?;
     }
     drop(tokens);
-    expander.take_peeked(line);
+    expander.consume_peeked(line);
     Ok(true)
 }
 
@@ -77,7 +77,7 @@ fn spell_ahead<S: Store>(
 fn ahead<S: Store>(alloc: Global, store: &mut S, options: &Options) -> Result<Vec<u8>, AllocError> {
     match Expander::open(alloc, store, "b.s", options) {
         Ok(mut expander) => spell_ahead(alloc, store, &mut expander),
-        Err(fault) => Vec::from_slice(alloc, fault.words()),
+        Err(fault) => Vec::from_slice(alloc, fault.message_text()),
     }
 }
 

@@ -2,7 +2,7 @@
 
 use std::alloc::{AllocError, Global};
 use std::test::Fail;
-use syntax65::{AddressSize, LexFault, Lexer, Token, TokenKind, line_front, line_tokens};
+use syntax65::{AddressSize, LexFault, Lexer, Token, TokenKind, first_tokens, line_tokens};
 
 /// A line, an arrow and what it is read as: one of each kind, and lines that no source shows to be read so. Numbers, names,
 /// strings and faults are among the cases.
@@ -107,13 +107,13 @@ fn bytes_of(token: Option<Token<'_>>) -> &[u8] {
 
 #[test]
 fn fronts_of_lines(rt: HostRuntime) -> Result<(), Fail> {
-    let front = line_front(b" @l: lda #1 ; c").ok().ok_or("refused")?;
+    let front = first_tokens(b" @l: lda #1 ; c").ok().ok_or("refused")?;
     assert_eq!(rt; bytes_of(front.first), b"@l".as_slice());
     assert_eq!(rt; bytes_of(front.second), b":".as_slice());
-    let front = line_front(b"\tnop").ok().ok_or("refused")?;
+    let front = first_tokens(b"\tnop").ok().ok_or("refused")?;
     assert_eq!(rt; bytes_of(front.first), b"nop".as_slice());
     assert!(rt; front.second.is_none());
-    assert!(rt; matches!(line_front(b"nop 1 $zz"), Err(LexFault::BadNumber)));
+    assert!(rt; matches!(first_tokens(b"nop 1 $zz"), Err(LexFault::BadNumber)));
     Ok(())
 }
 
@@ -133,5 +133,5 @@ fn token_by_token(rt: HostRuntime) -> Result<(), Fail> {
 #[test]
 fn numbers_of_faults(rt: HostRuntime) {
     assert_eq!(rt; LexFault::NameTooLong as u8, 9);
-    assert_eq!(rt; LexFault::BadNumber.words(), "bad number");
+    assert_eq!(rt; LexFault::BadNumber.message_text(), "bad number");
 }

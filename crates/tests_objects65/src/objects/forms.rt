@@ -1,7 +1,7 @@
 //! Forms that are folded, and the results of folding.
 
 use base65::{Op1, Op2};
-use object65::laws::{binary_keeps_its_value, prefix_keeps_its_value};
+use object65::laws::{binary_fold_preserves_value, prefix_fold_preserves_value};
 use object65::{FormFault, Node, Norm, ObjectFault};
 use std::alloc::{AllocError, Global};
 use std::test::Fail;
@@ -109,7 +109,7 @@ fn copies_are_the_same(rt: HostRuntime) -> Result<(), Fail> {
 
 #[test]
 fn laws_speak_of_any_fault(_rt: HostRuntime) -> Result<(), Fail> {
-    prefix_keeps_its_value::<ObjectFault>();
-    binary_keeps_its_value::<ObjectFault>();
+    prefix_fold_preserves_value::<ObjectFault>();
+    binary_fold_preserves_value::<ObjectFault>();
     Ok(())
 }

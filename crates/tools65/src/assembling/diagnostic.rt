@@ -1,7 +1,7 @@
 //! The message for a source that has no object.
 
 ghost use Rattle.std.specs.Prelude.{◌≡◌, IfOk};
-ghost use Rattle.asm65.specs.Assembly.{placed_of};
+ghost use Rattle.asm65.specs.Assembly.{located_fault};
 ghost use Rattle.tools65.specs.Assembling.{asm_message};
 
 use asm65::Diagnostic;
@@ -13,20 +13,20 @@ use std::alloc::{AllocError, Global};
 pub fn asm_message(
     alloc: Global,
     source: &str,
-    refusal: &Diagnostic,
+    located: &Diagnostic,
 ) -> Result<ListVec<u8>, AllocError>
-    ensures { IfOk result (λ text. text ≡ asm_message source.now (placed_of refusal.now)) }
+    ensures { IfOk result (λ message. message ≡ asm_message source.now (located_fault located.now)) }
 {
-    let mut message = ListVec::new(alloc);
-    message.extend_from_slice(refusal.fault.words().as_bytes())?;
-    message.extend_from_slice(refusal.fault.name())?;
-    if refusal.line == 0 {
-        return file_message(alloc, source.as_bytes(), message.as_slice());
+    let mut text = ListVec::new(alloc);
+    text.extend_from_slice(located.fault.message_text().as_bytes())?;
+    text.extend_from_slice(located.fault.name())?;
+    if located.line == 0 {
+        return file_message(alloc, source.as_bytes(), text.as_slice());
     }
     line_message(
         alloc,
-        refusal.file_name().as_bytes(),
-        refusal.line as usize,
-        message.as_slice(),
+        located.file_name().as_bytes(),
+        located.line as usize,
+        text.as_slice(),
     )
 }

@@ -2,7 +2,7 @@
 
 ghost use Rattle.std.specs.Prelude.{◌≡◌, IfOk, map};
 ghost use Rattle.asm65.specs.Assembly.{define_of};
-ghost use Rattle.cli65.specs.Defining.{defining};
+ghost use Rattle.cli65.specs.Defining.{define_view};
 ghost use Rattle.tools65.specs.Assembling.{define_in};
 
 use asm65::Define;
@@ -23,7 +23,7 @@ pub fn folders_of(alloc: Global, include: &[&str]) -> Result<Vec<PathString>, Al
 
 /// Returns the constants of a line.
 pub fn defines_of<'a>(alloc: Global, defines: &[Given<'a>]) -> Result<Vec<Define<'a>>, AllocError>
-    ensures { IfOk result (λ ds. map define_of ds.items ≡ map define_in (map defining defines.now)) }
+    ensures { IfOk result (λ ds. map define_of ds.items ≡ map define_in (map define_view defines.now)) }
 {
     let mut found = Vec::new(alloc);
     for define in defines {

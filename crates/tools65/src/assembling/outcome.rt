@@ -4,10 +4,10 @@ ghost use Rattle.std.specs.Prelude.{◌≡◌, IfOk, IfSome, true};
 ghost use Rattle.object65.specs.Objects.{is_well_formed_object};
 ghost use Rattle.object65.specs.Spelling.{object_bytes};
 ghost use Rattle.tools65.specs.Assembling.{IsOutputName};
-ghost use Rattle.asm65.specs.Assembly.{answer_of, placed_of};
-ghost use Rattle.tools65.specs.Command.{AssemblesTo, refused_with};
-ghost use Rattle.cli65.specs.Line.{assemble, assembling};
-ghost use Rattle.tools65.specs.Internal.Computing.{ComputesOutcome, ComputeFrame};
+ghost use Rattle.asm65.specs.Assembly.{assembly_outcome, located_fault};
+ghost use Rattle.tools65.specs.Command.{IsAssemblyOutcome, failed_assembly_outcome};
+ghost use Rattle.cli65.specs.Line.{assemble, assemble_view};
+ghost use Rattle.tools65.specs.Internal.ComputedOutcomes.{ComputesOutcome, ComputeFrame};
 
 use crate::assembling::diagnostic::asm_message;
 use crate::assembling::job::{defines_of, folders_of};
@@ -21,7 +21,7 @@ use std::alloc::{AllocError, Global};
 
 /// Returns the name of the object's file.
 fn output_name(alloc: Global, line: &AssembleArgs<'_>) -> Result<PathString, AllocError>
-    ensures { IfOk result (λ name. IsOutputName (assembling line.now).output line.now.source.now name) }
+    ensures { IfOk result (λ name. IsOutputName (assemble_view line.now).output line.now.source.now name) }
 {
     match line.output {
         Some(name) => PathString::copy_of(alloc, name),
@@ -42,15 +42,15 @@ fn object_bytes(alloc: Global, object: &Object) -> Result<ListVec<u8>, AllocErro
 }
 
 /// Returns the outcome without an object: the output so far, and the error.
-fn refused(
+fn failed_outcome(
     alloc: Global,
     source: &str,
     texts: (ListVec<u8>, ListVec<u8>),
-    refusal: &Diagnostic,
+    located: &Diagnostic,
 ) -> Result<Outcome, AllocError>
-    ensures { IfOk result (λ outcome. outcome ≡ refused_with source.now texts.0 texts.1 (placed_of refusal.now)) }
+    ensures { IfOk result (λ outcome. outcome ≡ failed_assembly_outcome source.now texts.0 texts.1 (located_fault located.now)) }
 {
-    if refusal.fault.is_memory() {
+    if located.fault.is_memory() {
         return Ok(Outcome {
             out: ListVec::new(alloc),
             err: join(alloc, &[source.as_bytes(), b": Error: out of memory\n"])?,
@@ -59,7 +59,7 @@ fn refused(
         });
     }
     let (out, mut err) = texts;
-    err.extend_from_slice(asm_message(alloc, source, refusal)?.as_slice())?;
+    err.extend_from_slice(asm_message(alloc, source, located)?.as_slice())?;
     Ok(Outcome {
         out,
         err,
@@ -75,7 +75,7 @@ fn asm_outcome(
     assembly: Assembly,
 ) -> Result<Outcome, AllocError>
     requires { IfOk assembly.result (λ object. is_well_formed_object object ≡ true) }
-    ensures { IfOk result (λ outcome. AssemblesTo (assembling line.now) (answer_of assembly assembly.result) outcome) }
+    ensures { IfOk result (λ outcome. IsAssemblyOutcome (assemble_view line.now) (assembly_outcome assembly assembly.result) outcome) }
 {
     let Assembly { result, out, err } = assembly;
     match result {
@@ -89,7 +89,7 @@ fn asm_outcome(
                 status: Status::Success,
             })
         }
-        Err(refusal) => refused(alloc, line.source, (out, err), &refusal),
+        Err(located) => failed_outcome(alloc, line.source, (out, err), &located),
     }
 }
 
@@ -99,7 +99,7 @@ pub fn compute_assembly<S: Store>(
     line: &AssembleArgs<'_>,
     store: &mut S,
 ) -> Result<Outcome, AllocError>
-    ensures computed { IfSome (S.files store.old) (λ m. IfOk result (ComputesOutcome (assemble (assembling line.now)) m
+    ensures computed { IfSome (S.files store.old) (λ m. IfOk result (ComputesOutcome (assemble (assemble_view line.now)) m
         (S.last_failure store.new) (S.failures store.old) (S.failures store.new))) }
     ensures frame { ComputeFrame S.files S.failures store.old store.new result }
 {

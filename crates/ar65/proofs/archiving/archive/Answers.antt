@@ -3,11 +3,11 @@ use Rattle.std.specs.Prelude.{IfSome}
 use Rattle.std.proofs.lemmas.Result.{err_from_is_err_and}
 use Rattle.base65.specs.Outcome.{Refines}
 use Rattle.cli65.specs.declared.line.Operation.{Operation}
-use Rattle.cli65.specs.Line.{archiving}
-use Rattle.ar65.specs.declared.archiving.Archived.{Archived}
-use Rattle.ar65.specs.declared.archiving.Archived.TheVariants as archived
-use Rattle.ar65.specs.declared.fault.ArchiveFault.TheVariants as refusal
-use Rattle.ar65.specs.Librarian.{done}
+use Rattle.cli65.specs.Line.{archive_view}
+use Rattle.ar65.specs.declared.archiving.ArchiveResult.{ArchiveResult}
+use Rattle.ar65.specs.declared.archiving.ArchiveResult.TheVariants as archived
+use Rattle.ar65.specs.declared.fault.ArchiveFault.TheVariants as error
+use Rattle.ar65.specs.Librarian.{operation_result}
 use Rattle.ar65.specs.Faults.{is_system_error}
 use Rattle.ar65.proofs.Takes.{extracts, not_extracted}
 use Rattle.ar65.proofs.archiving.archive.Goals as goal
@@ -18,11 +18,11 @@ returns-in_err-files-in-Extract-clause-archived g c =
     let e = c.in_err-files-in-Extract.field-0.0 in
     let names = ap (map (λ s. s.now)) c.as_slice-in-Extract.ensures in
     rw (p.1, p.2)
-    (subst (λ (o : Operation). IfSome (g.S.Store.files c.args.store.now) (λ m. Refines is_system_error (λ (a : Archived). a) (Err (refusal.Library e)) (done o m (archiving c.args.line.now)))) (sym c.in-Extract.is)
-    (not_extracted _ (archiving c.args.line.now) c.in_ok-library-in-Extract.library _ e names c.in_ok-library-in-Extract.ensures.read c.in_err-files-in-Extract.ensures.found))
+    (subst (λ (o : Operation). IfSome (g.S.Store.files c.args.store.now) (λ m. Refines is_system_error (λ (a : ArchiveResult). a) (Err (error.Library e)) (operation_result o m (archive_view c.args.line.now)))) (sym c.in-Extract.is)
+    (not_extracted _ (archive_view c.args.line.now) c.in_ok-library-in-Extract.library _ e names c.in_ok-library-in-Extract.ensures.read c.in_err-files-in-Extract.ensures.found))
 
 pub returns-in_ok-files-in-Extract-clause-archived : goal.returns-in_ok-files-in-Extract-clause-archived
 returns-in_ok-files-in-Extract-clause-archived g c =
     let names = ap (map (λ s. s.now)) c.as_slice-in-Extract.ensures in
-    subst (λ (o : Operation). IfSome (g.S.Store.files c.args.store.now) (λ m. Refines is_system_error (λ (a : Archived). a) (Ok (archived.Members c.in_ok-files-in-Extract.files)) (done o m (archiving c.args.line.now)))) (sym c.in-Extract.is)
-    (extracts _ (archiving c.args.line.now) c.in_ok-library-in-Extract.library _ _ names c.in_ok-library-in-Extract.ensures.read c.in_ok-files-in-Extract.ensures.found)
+    subst (λ (o : Operation). IfSome (g.S.Store.files c.args.store.now) (λ m. Refines is_system_error (λ (a : ArchiveResult). a) (Ok (archived.Members c.in_ok-files-in-Extract.files)) (operation_result o m (archive_view c.args.line.now)))) (sym c.in-Extract.is)
+    (extracts _ (archive_view c.args.line.now) c.in_ok-library-in-Extract.library _ _ names c.in_ok-library-in-Extract.ensures.read c.in_ok-files-in-Extract.ensures.found)

@@ -6,13 +6,13 @@ use Rattle.sources65.specs.Reading.{RepresentsOrFails}
 use Rattle.asm65.specs.Assembly.{define_of}
 use Rattle.symbols65.specs.Measuring.{opening_limit}
 use Rattle.asm65.specs.Internal.AssemblerState.{Represents}
-use Rattle.semantics65.specs.Views.{place_in}
+use Rattle.semantics65.specs.Views.{location_in}
 use Rattle.asm65.proofs.Defines.{defines_by}
 use Rattle.asm65.proofs.assembling.define_one.Goals as goal
 
 pub returns-clause-taken : goal.returns-clause-taken
 returns-clause-taken c =
-    let location = place_in c.args.at.file.now c.args.at.line in
+    let location = location_in c.args.at.file.now c.args.at.line in
     let d = c.args.define.now in
     let old = c.args.assembler.now in
     let new = c.assemble_statement.new.self in

@@ -8,38 +8,38 @@ use Rattle.ast65.specs.declared.language.Statement.{Statement}
 use Rattle.ast65.specs.declared.language.Statement.TheVariants.{Instruction}
 use Rattle.symbols65.proofs.Measures.{unless_then}
 use Rattle.ast65.specs.Parsing.{IsOperand}
-use Rattle.asm65.specs.Internal.RunState.{read_bytes, TakesBy}
-use Rattle.semantics65.specs.Views.{place_in}
+use Rattle.asm65.specs.Internal.RunState.{read_bytes, RefinesAllTransitions}
+use Rattle.semantics65.specs.Views.{location_in}
 use Rattle.sources65.specs.Machine.{StepsTo}
-use Rattle.sources65.specs.Reading.{IsRest}
+use Rattle.sources65.specs.Reading.{AssemblesTokens}
 use Rattle.sources65.proofs.Taken.{some_tokens}
 use Rattle.asm65.specs.Assembly.{AnswersWithoutFile}
 use Rattle.asm65.proofs.Runs.{Answer, RestBy, never_stops, rest_leaves, rest_stops, rest_unread, rest_wrong, some_there, sound_leaves, takes_from, told_all}
 use Rattle.asm65.proofs.driver.assemble_rest.Goals as goal
 
-pub returns-in_err-read_part-clause-read : goal.returns-in_err-read_part-clause-read
-returns-in_err-read_part-clause-read g c =
-    let r = c.from_residual-in_err-read_part.result in
-    let p = err_from_is_err_and r c.from_residual-in_err-read_part.ensures.1 in
-    let e = c.in_err-read_part.field-0.0 in
-    let location = place_in c.args.at.file.now c.args.at.line in
+pub returns-in_err-read_incbin-clause-read : goal.returns-in_err-read_incbin-clause-read
+returns-in_err-read_incbin-clause-read g c =
+    let r = c.from_residual-in_err-read_incbin.result in
+    let p = err_from_is_err_and r c.from_residual-in_err-read_incbin.ensures.1 in
+    let e = c.in_err-read_incbin.field-0.0 in
+    let location = location_in c.args.at.file.now c.args.at.line in
     let ts = lexemes c.args.tokens.now in
     let some : ts ≡ [] → ⊥ = some_tokens c.args.tokens.now (some_there (length c.args.tokens.now) c.if-is_empty.ensures) in
-    let P : Answer → Type 0 = TakesBy (AreSymbolNames ts) (RestBy (g.S.Store.files c.args.store.now) location ts) 1 c.args.assembler.now c.read_part.new.assembler in
+    let P : Answer → Type 0 = RefinesAllTransitions (AreSymbolNames ts) (RestBy (g.S.Store.files c.args.store.now) location ts) 1 c.args.assembler.now c.read_incbin.new.assembler in
     record {
-      taken = subst P (sym (p.1 ∙ ap Err p.2)) (rest_unread (g.S.Store.files c.args.store.now) (g.S.Store.last_failure c.read_part.new.store) location c.in_ok-statement.statement c.args.assembler.now c.read_part.new.assembler e c.in_err-read_part.ensures.refused c.in_err-read_part.ensures.texts ts some c.in_ok-statement.ensures.value);
-      stopped = rest_stops (g.S.Store.files c.args.store.now) (g.S.Store.last_failure c.read_part.new.store) location c.in_ok-statement.statement c.args.assembler.now c.read_part.new.assembler e c.in_err-read_part.ensures.refused c.in_err-read_part.ensures.texts ts r some c.in_ok-statement.ensures.value c.in_err-read_part.ensures.failed (p.1 ∙ ap Err p.2);
+      taken = subst P (sym (p.1 ∙ ap Err p.2)) (rest_unread (g.S.Store.files c.args.store.now) (g.S.Store.last_failure c.read_incbin.new.store) location c.in_ok-statement.statement c.args.assembler.now c.read_incbin.new.assembler e c.in_err-read_incbin.ensures.refused c.in_err-read_incbin.ensures.texts ts some c.in_ok-statement.ensures.value);
+      stopped = rest_stops (g.S.Store.files c.args.store.now) (g.S.Store.last_failure c.read_incbin.new.store) location c.in_ok-statement.statement c.args.assembler.now c.read_incbin.new.assembler e c.in_err-read_incbin.ensures.refused c.in_err-read_incbin.ensures.texts ts r some c.in_ok-statement.ensures.value c.in_err-read_incbin.ensures.failed (p.1 ∙ ap Err p.2);
     }
 
 pub returns-in_err-operand-clause-read : goal.returns-in_err-operand-clause-read
 returns-in_err-operand-clause-read g c = record {
   taken = (let p = err_from_is_err_and c.from_residual.result c.from_residual.ensures.1 in
       let e = c.in_err-operand.field-0.0 in
-      let location = place_in c.args.at.file.now c.args.at.line in
+      let location = location_in c.args.at.file.now c.args.at.line in
       let ts = lexemes c.args.tokens.now in
       let some : ts ≡ [] → ⊥ = some_tokens c.args.tokens.now (some_there (length c.args.tokens.now) c.if-is_empty.ensures) in
       let wrong = unless_then (is_system_error e) (λ (i : IsOperand (lexemes c.in-Some.following.now) (Err e)). c.in-Some.ensures (Err e) (Err e, i, refl)) c.in_err-operand.ensures.value in
-      let P : Answer → Type 0 = TakesBy (AreSymbolNames ts) (RestBy (g.S.Store.files c.args.store.now) location ts) 1 c.args.assembler.now c.args.assembler.now in
+      let P : Answer → Type 0 = RefinesAllTransitions (AreSymbolNames ts) (RestBy (g.S.Store.files c.args.store.now) location ts) 1 c.args.assembler.now c.args.assembler.now in
       subst P (sym (p.1 ∙ ap Err p.2)) (rest_wrong (g.S.Store.files c.args.store.now) location ts c.args.assembler.now e some wrong));
   stopped = first_of (search rules, grind (arith, common_steps));
 }
@@ -47,7 +47,7 @@ returns-in_err-operand-clause-read g c = record {
 pub returns-in-Some-clause-read : goal.returns-in-Some-clause-read
 returns-in-Some-clause-read g c = record {
   taken = (let o = g.S.Store.files c.args.store.now in
-      let location = place_in c.args.at.file.now c.args.at.line in
+      let location = location_in c.args.at.file.now c.args.at.line in
       let ts = lexemes c.args.tokens.now in
       let old = c.args.assembler.now in
       let new = c.assemble_instruction.new.self in
@@ -60,22 +60,22 @@ returns-in-Some-clause-read g c = record {
   stopped = first_of (search rules, grind (arith, common_steps));
 }
 
-pub take_sound-requires : goal.take_sound-requires
-take_sound-requires g c =
+pub assemble_well_formed-requires : goal.assemble_well_formed-requires
+assemble_well_formed-requires g c =
     let (count, t, room, h) = c.requires in
-    (count, t, room, c.in_ok-read_part.ensures.held count t h)
+    (count, t, room, c.in_ok-read_incbin.ensures.held count t h)
 
 pub returns-clause-read : goal.returns-clause-read
 returns-clause-read g c = record {
   taken = (let some : lexemes c.args.tokens.now ≡ [] → ⊥ = some_tokens c.args.tokens.now (some_there (length c.args.tokens.now) c.if-is_empty.ensures) in
-      let location = place_in c.args.at.file.now c.args.at.line in
+      let location = location_in c.args.at.file.now c.args.at.line in
       let ts = lexemes c.args.tokens.now in
       let x = c.in_ok-statement.statement in
-      let y = c.read_part.new.statement in
-      takes_from (AreSymbolNames ts) (RestBy (g.S.Store.files c.args.store.now) location ts) 1 c.args.assembler.now c.read_part.new.assembler c.take_sound.new.assembler c.take_sound.result c.in_ok-read_part.ensures.held
-      (rest_leaves (g.S.Store.files c.args.store.now) location ts x y c.read_part.new.assembler c.take_sound.new.assembler c.take_sound.result some c.in_ok-statement.ensures.value c.in_ok-read_part.ensures.bytes c.take_sound.ensures.taken));
-  stopped = (let location = place_in c.args.at.file.now c.args.at.line in
-      never_stops (AnswersWithoutFile (g.S.Store.files c.args.store.now) (g.S.Store.last_failure c.read_part.new.store) (λ m t. IsRest m StepsTo t location (lexemes c.args.tokens.now))) 1 c.args.assembler.now c.take_sound.new.assembler c.take_sound.result c.take_sound.ensures.inside);
+      let y = c.read_incbin.new.statement in
+      takes_from (AreSymbolNames ts) (RestBy (g.S.Store.files c.args.store.now) location ts) 1 c.args.assembler.now c.read_incbin.new.assembler c.assemble_well_formed.new.assembler c.assemble_well_formed.result c.in_ok-read_incbin.ensures.held
+      (rest_leaves (g.S.Store.files c.args.store.now) location ts x y c.read_incbin.new.assembler c.assemble_well_formed.new.assembler c.assemble_well_formed.result some c.in_ok-statement.ensures.value c.in_ok-read_incbin.ensures.bytes c.assemble_well_formed.ensures.taken));
+  stopped = (let location = location_in c.args.at.file.now c.args.at.line in
+      never_stops (AnswersWithoutFile (g.S.Store.files c.args.store.now) (g.S.Store.last_failure c.read_incbin.new.store) (λ m t. AssemblesTokens m StepsTo t location (lexemes c.args.tokens.now))) 1 c.args.assembler.now c.assemble_well_formed.new.assembler c.assemble_well_formed.result c.assemble_well_formed.ensures.inside);
 }
 
 pub assemble_instruction-requires : goal.assemble_instruction-requires
@@ -87,8 +87,8 @@ returns-in-Some-clause-frame g c = grind (arith, common_steps)
 pub returns-clause-frame : goal.returns-clause-frame
 returns-clause-frame g c = grind (arith, common_steps)
 
-pub read_part-requires : goal.read_part-requires
-read_part-requires g c = grind (arith, common_steps)
+pub read_incbin-requires : goal.read_incbin-requires
+read_incbin-requires g c = grind (arith, common_steps)
 
 pub returns-then-is_empty-clause-read : goal.returns-then-is_empty-clause-read
 returns-then-is_empty-clause-read g c = grind (arith, common_steps)

@@ -4,11 +4,11 @@ use Rattle.std.specs.Prelude.{None}
 use Rattle.semantics65.specs.declared.contents.Segment.{Segment}
 use Rattle.sources65.specs.Machine.{State, outcome_of_state}
 use Rattle.semantics65.specs.Module.{Slot}
-use Rattle.semantics65.specs.Numbering.{all_said}
+use Rattle.semantics65.specs.Numbering.{all_declarations}
 use Rattle.emit65.specs.SectionContents.{RepresentsSlots, contents_so_far}
 use Rattle.symbols65.specs.Views.{table_of}
 use Rattle.asm65.specs.Internal.AssemblerState.{Represents}
-use Rattle.asm65.specs.Internal.RunState.{ComesTo}
+use Rattle.asm65.specs.Internal.RunState.{RefinesObject}
 use Rattle.asm65.specs.declared.assembler.Assembler.{Assembler}
 use Rattle.asm65.proofs.Conclusions.{comes_concluded, comes_good}
 use Rattle.asm65.proofs.finish.finish_assembly.Goals as goal
@@ -17,19 +17,19 @@ pub returns-clause-concluded : goal.returns-clause-concluded
 returns-clause-concluded c =
     let a : Assembler = c.args.assembler in
     let r = c.object_of-found.result in
-    let new = c.object_of-found.new.ending.err in
+    let new = c.object_of-found.new.resolve_state.err in
     λ (count : ℕ) (t : State).
     λ (h : Represents count t a).
-    let k : ComesTo (table_of a.symbols) a.cursor.segments t.slots a.texts.err new r = subst (λ (gs : List Segment). ComesTo (table_of a.symbols) gs t.slots a.texts.err new r) c.segments.ensures (c.object_of-found.ensures.found t.slots h.sections h.unsaid) in
-    c.answered.ensures.concluded (outcome_of_state t None) (comes_concluded count t a new r h k)
+    let k : RefinesObject (table_of a.symbols) a.cursor.segments t.slots a.texts.err new r = subst (λ (gs : List Segment). RefinesObject (table_of a.symbols) gs t.slots a.texts.err new r) c.segments.ensures (c.object_of-found.ensures.found t.slots h.sections h.no_declarations) in
+    c.assembly_of.ensures.concluded (outcome_of_state t None) (comes_concluded count t a new r h k)
 
 pub returns-clause-good : goal.returns-clause-good
 returns-clause-good c =
     let a : Assembler = c.args.assembler in
     let r = c.object_of-found.result in
-    let new = c.object_of-found.new.ending.err in
-    comes_good a new r c.answered.result.result c.answered.ensures.answer
-    (λ (xs : List Slot). λ (s : RepresentsSlots xs a.sections). λ (unsaid : all_said (contents_so_far xs) ≡ []). subst (λ (gs : List Segment). ComesTo (table_of a.symbols) gs xs a.texts.err new r) c.segments.ensures (c.object_of-found.ensures.found xs s unsaid))
+    let new = c.object_of-found.new.resolve_state.err in
+    comes_good a new r c.assembly_of.result.result c.assembly_of.ensures.answer
+    (λ (xs : List Slot). λ (s : RepresentsSlots xs a.sections). λ (unsaid : all_declarations (contents_so_far xs) ≡ []). subst (λ (gs : List Segment). RefinesObject (table_of a.symbols) gs xs a.texts.err new r) c.segments.ensures (c.object_of-found.ensures.found xs s unsaid))
 
 pub returns-clause-inside : goal.returns-clause-inside
 returns-clause-inside c = grind (arith, common_steps)

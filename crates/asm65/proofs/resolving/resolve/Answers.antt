@@ -1,24 +1,24 @@
 use Rattle.std.proofs.lemmas.Grind.{common_steps}
 use Rattle.std.proofs.Common.{arith}
-use Rattle.ast65.specs.Faults.{is_memory}
+use Rattle.ast65.specs.Faults.{is_out_of_memory}
 use Rattle.semantics65.specs.Module.{asserted, value_result}
 use Rattle.emit65.specs.SectionContents.{names_of}
-use Rattle.asm65.specs.Internal.RunState.{made_at, place_here}
+use Rattle.asm65.specs.Internal.RunState.{result_of_piece, location_of_fixup}
 use Rattle.asm65.proofs.Exports.{names_stay, none_asserted}
 use Rattle.asm65.proofs.resolving.resolve.Goals as goal
 
 pub returns-in_ok-form-in-Assertion-clause-made : goal.returns-in_ok-form-in-Assertion-clause-made
 returns-in_ok-form-in-Assertion-clause-made c =
-    rw (c.in-Assertion.is, c.in_ok-form-in-Assertion.ensures.form) (c.use_assertion.ensures.made c.args.fixup.context)
+    rw (c.in-Assertion.is, c.in_ok-form-in-Assertion.ensures.form) (c.resolve_assertion.ensures.made c.args.fixup.context)
 
 pub returns-in_ok-form-in-Assertion-clause-more : goal.returns-in_ok-form-in-Assertion-clause-more
 returns-in_ok-form-in-Assertion-clause-more c =
-    let location = place_here c.args.spot in
+    let location = location_of_fixup c.args.fixup_location in
     let s = c.args.fixup.context in
-    let act = c.in-Assertion.action in
-    let message = c.in-Assertion.text in
+    let action = c.in-Assertion.action in
+    let text = c.in-Assertion.text in
     let f = c.in_ok-form-in-Assertion.form in
-    names_stay is_memory (made_at c.args.spot) (names_of c.args.exported.now) c.use_assertion.result (value_result location s (asserted act message) f) (none_asserted location s act message f) (c.use_assertion.ensures.made s)
+    names_stay is_out_of_memory (result_of_piece c.args.fixup_location) (names_of c.args.exported.now) c.resolve_assertion.result (value_result location s (asserted action text) f) (none_asserted location s action text f) (c.resolve_assertion.ensures.made s)
 
 pub returns-in-Some-defined-clause-made : goal.returns-in-Some-defined-clause-made
 returns-in-Some-defined-clause-made c = rw c.in-Export.is (c.resolve_export.ensures.made c.in-Export.must c.args.fixup.context)
@@ -35,5 +35,5 @@ returns-in_ok-norm-in-Constant-clause-made c = grind (arith, common_steps)
 pub returns-in-Some-clause-made : goal.returns-in-Some-clause-made
 returns-in-Some-clause-made c = grind (arith, common_steps)
 
-pub returns-in_ok-told-in-ForcedImport-clause-made : goal.returns-in_ok-told-in-ForcedImport-clause-made
-returns-in_ok-told-in-ForcedImport-clause-made c = grind (arith, common_steps)
+pub returns-in_ok-declaration_piece-in-ForcedImport-clause-made : goal.returns-in_ok-declaration_piece-in-ForcedImport-clause-made
+returns-in_ok-declaration_piece-in-ForcedImport-clause-made c = grind (arith, common_steps)

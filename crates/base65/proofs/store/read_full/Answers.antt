@@ -1,5 +1,5 @@
 use Rattle.std.proofs.Common.{◌≡◌, ◌+◌, ◌-◌, ◌≤◌, ◌∙◌, length, arith, rules, length-drop}
-use Rattle.base65.proofs.Filling.{told_more, told_full, length-put_mid}
+use Rattle.base65.proofs.BufferFill.{told_more, told_full, length-put_mid}
 use Rattle.base65.proofs.store.read_full.Goals as goal
 
 pub fill-preserved : goal.fill-preserved

@@ -1,7 +1,7 @@
 use Rattle.std.proofs.Common.{map, rules}
 use Rattle.std.proofs.lemmas.Result.{err_from_is_err_and}
 use Rattle.cli65.specs.Line.{line_of}
-use Rattle.cli65.proofs.Taken.{refused_line, refuses_words, takes_words}
+use Rattle.cli65.proofs.ClapClauses.{refused_line, refuses_words, takes_words}
 use Rattle.cli65.proofs.reading.read_line.Goals as goal
 
 pub returns-in_err-found : goal.returns-in_err-found

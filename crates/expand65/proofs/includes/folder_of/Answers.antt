@@ -1,7 +1,7 @@
-use Rattle.expand65.proofs.Seeking.{folder_next}
+use Rattle.expand65.proofs.FileSearch.{folder_next}
 use Rattle.expand65.proofs.includes.folder_of.Goals as goal
 
-pub loop-place-preserved : goal.loop-place-preserved
-loop-place-preserved c =
-    let h = folder_next c.args.file.now c.loop-place.place c.loop-place.len c.folder_len-len.result _ c.loop-place-test.true c.loop-place.invariant.so_far c.loop-place.invariant.within c.folder_len-len.ensures in
+pub loop-offset-preserved : goal.loop-offset-preserved
+loop-offset-preserved c =
+    let h = folder_next c.args.file.now c.loop-offset.offset c.loop-offset.len c.folder_len-len.result _ c.loop-offset-test.true c.loop-offset.invariant.so_far c.loop-offset.invariant.within c.folder_len-len.ensures in
     record { so_far = h.0; within = h.1 }

@@ -1,5 +1,5 @@
 use Rattle.std.proofs.lemmas.Str.{is_utf8-from_IsUtf8}
-use Rattle.expand65.proofs.Seeking.{not_utf8}
+use Rattle.expand65.proofs.FileSearch.{not_utf8}
 use Rattle.expand65.proofs.includes.text_of.Goals as goal
 
 pub returns-in-Ok-clause-text : goal.returns-in-Ok-clause-text

@@ -2,7 +2,7 @@ use Rattle.std.proofs.Common.{◌∷◌, [], Some, true, length, ◌+◌, ◌<�
 use Rattle.std.proofs.lemmas.List.{map-append, length-map}
 use Rattle.std.specs.Option.{option_map}
 use Rattle.syntax65.specs.Tokens.{lexeme_of, lexemes}
-use Rattle.expand65.specs.Fronts.{names_from}
+use Rattle.expand65.specs.LineStart.{names_from}
 use Rattle.expand65.proofs.Names.{no_name, last_name, name_alone, name_and_comma, found_none, found_last, found_next}
 use Rattle.expand65.proofs.macros.names_of.Goals as goal
 

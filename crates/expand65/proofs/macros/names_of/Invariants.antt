@@ -1,6 +1,6 @@
 use Rattle.std.proofs.Common.{◌≡◌, ◌-◌, ◌++◌, drop, map, true, Some, length}
 use Rattle.syntax65.specs.Tokens.{lexemes}
-use Rattle.expand65.specs.Fronts.{names_from, ◌>=>◌}
+use Rattle.expand65.specs.LineStart.{names_from, ◌>=>◌}
 use Rattle.expand65.proofs.macros.names_of.Given as goal
 
 abbrev pub invariant-names : goal.invariant-names

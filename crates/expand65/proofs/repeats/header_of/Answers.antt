@@ -1,7 +1,7 @@
 use Rattle.std.proofs.lemmas.Result.{err_from_is_err_and}
 use Rattle.std.proofs.Common.{map}
 use Rattle.syntax65.specs.Tokens.{lexemes}
-use Rattle.expand65.proofs.Defining.{a_header, no_expression, no_variable}
+use Rattle.expand65.proofs.Definitions.{a_header, no_expression, no_variable}
 use Rattle.expand65.proofs.repeats.header_of.Goals as goal
 
 pub returns-in_err-count-clause-header : goal.returns-in_err-count-clause-header

@@ -1,4 +1,4 @@
-use Rattle.ld65.proofs.OneNaming.{one_naming}
+use Rattle.ld65.proofs.NamingUniqueness.{one_naming}
 use Rattle.ld65.proofs.laws.link_naming_is_unique.Goals as goal
 
 pub returns : goal.returns

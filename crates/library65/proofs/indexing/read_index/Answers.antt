@@ -1,6 +1,6 @@
 use Rattle.std.proofs.Common.{Err, ap, refl}
 use Rattle.std.proofs.lemmas.Result.{err_from_is_err_and}
-use Rattle.library65.proofs.Asking.{fault_of, list_failed}
+use Rattle.library65.proofs.FailedRequests.{fault_of, list_failed}
 use Rattle.library65.proofs.Steps.{kept_on}
 use Rattle.library65.proofs.indexing.read_index.Goals as goal
 

@@ -1,4 +1,4 @@
-use Rattle.library65.proofs.SomeSelection.{some_selection}
+use Rattle.library65.proofs.SelectionExistence.{some_selection}
 use Rattle.library65.proofs.laws.selection_exists.Goals as goal
 
 pub returns : goal.returns

@@ -11,15 +11,15 @@ loop-next-preserved c =
     let es = c.args.exporters.now.entries.now in
     let wanted = map (λ n. n.items) c.args.wanted.now.keys in
     let defined = map (λ n. n.items) c.args.defined.now.keys in
-    let found = c.loop-next.found.places.items in
-    let new = c.find_imports.new.found.places.items in
+    let found = c.loop-next.found.indices.items in
+    let new = c.find_imports.new.found.indices.items in
     let next = c.loop-next.next in
-    let place = c.index.result.now in
+    let index = c.index.result.now in
     let lt : next < length found = omega arith in
-    let at : slice_get found next ≡ Some place = slice_get_read found (length found) next place refl lt c.index.ensures in
-    let finds : MarksExporters es defined (imports_at es place) found new = subst (λ ns. MarksExporters es defined ns found new) c.imports-imports.ensures c.in_ok-find_imports.ensures.found in
+    let at : slice_get found next ≡ Some index = slice_get_read found (length found) next index refl lt c.index.ensures in
+    let finds : MarksExporters es defined (imports_at es index) found new = subst (λ ns. MarksExporters es defined ns found new) c.imports-imports.ensures c.in_ok-find_imports.ensures.found in
     record {
       stands = c.in_ok-find_imports.ensures.stands;
       within = omega (arith, ap (length {A = ℕ}) finds.more, length-append found finds.following);
-      found = search_goes_on es wanted defined found new next place lt at c.loop-next.invariant.found finds;
+      found = search_goes_on es wanted defined found new next index lt at c.loop-next.invariant.found finds;
     }

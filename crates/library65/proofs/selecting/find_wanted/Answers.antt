@@ -9,9 +9,9 @@ pub loop-name-preserved : goal.loop-name-preserved
 loop-name-preserved c =
     let es = c.args.exporters.now.entries.now in
     let defined = map (λ n. n.items) c.args.defined.now.keys in
-    let old = c.args.found.now.places.items in
-    let mid = c.loop-name.found.places.items in
-    let new = c.find_name.new.found.places.items in
+    let old = c.args.found.now.indices.items in
+    let mid = c.loop-name.found.indices.items in
+    let new = c.find_name.new.found.indices.items in
     let i = c.loop-name.name-index in
     let last = subst (λ n. MarksExporters es defined (n ∷ []) mid new) c.as_slice.ensures.value c.in_ok-find_name.ensures.found in
     record {

@@ -1,6 +1,6 @@
 use Rattle.std.proofs.Common.{map, take}
-use Rattle.library65.specs.Internal.Searching.{FindsMore}
+use Rattle.library65.specs.Internal.Searching.{ExtendsSearch}
 use Rattle.library65.proofs.selecting.find_wanted.Given as goal
 
 abbrev pub invariant-loop-name : goal.invariant-loop-name
-invariant-loop-name l = FindsMore l.exporters (map (λ n. n.items) l.defined.keys) (map (λ n. n.items) (take l.name-index l.names)) l.fn.found l.found
+invariant-loop-name l = ExtendsSearch l.exporters (map (λ n. n.items) l.defined.keys) (map (λ n. n.items) (take l.name-index l.names)) l.fn.found l.found

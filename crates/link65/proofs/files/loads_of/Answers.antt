@@ -13,11 +13,11 @@ loop-i-init c = record {
 
 pub loop-i-preserved : goal.loop-i-preserved
 loop-i-preserved c = record {
-  rest = λ j le. c.take_at-bytes.ensures.others j (omega arith) ∙ c.loop-i.invariant.rest j (omega arith);
+  rest = λ j le. c.move_out-bytes.ensures.others j (omega arith) ∙ c.loop-i.invariant.rest j (omega arith);
   each = λ bytes are k lt.
       let rows = c.args.rows.now in
       let placements = c.args.placements.now in
-      let own = taken_bytes bytes rows c.args.contents.items c.loop-i.i c.index-rows-i.result c.take_at-bytes.result are c.loop-i-test.true c.index-rows-i.is (λ x e. c.take_at-bytes.ensures.taken x (c.loop-i.invariant.rest c.loop-i.i (omega arith) ∙ e)) in
+      let own = taken_bytes bytes rows c.args.contents.items c.loop-i.i c.index-rows-i.result c.move_out-bytes.result are c.loop-i-test.true c.index-rows-i.is (λ x e. c.move_out-bytes.ensures.accepted x (c.loop-i.invariant.rest c.loop-i.i (omega arith) ∙ e)) in
       let there : slice_get placements c.loop-i.i ≡ c.copied.result = grind (arith, common_steps, gets) in
       elim c.match-copied.branch [
         | in-Some+in_ok-add_row-in-Some w ↦ rw w.loads-is (collects_more bytes k rows placements c.loop-i.i _ _ _ c.loop-i-test.true c.index-rows-i.is (there ∙ w.in-Some.is) own (w.in_ok-add_row-in-Some.ensures k) (c.loop-i.invariant.each bytes are k lt))

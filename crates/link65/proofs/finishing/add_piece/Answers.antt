@@ -2,7 +2,7 @@ use Rattle.std.proofs.Common.{◌≡◌, ◌∙◌, ◌++◌, ap, arith}
 use Rattle.std.proofs.lemmas.Grind.{common_steps}
 use Rattle.std.specs.Prelude.{replicate}
 use Rattle.link65.specs.Placed.{check_in, exports_in, linkage_in}
-use Rattle.link65.proofs.Passes.{filled_passes, known_passes, filled_piece, known_piece}
+use Rattle.link65.proofs.Checks.{filled_passes, known_passes, filled_piece, known_piece}
 use Rattle.link65.proofs.finishing.add_piece.Goals as goal
 
 pub returns-in_ok-extend_from_slice-in-Known-clause-checked : goal.returns-in_ok-extend_from_slice-in-Known-clause-checked

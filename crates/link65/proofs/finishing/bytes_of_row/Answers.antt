@@ -5,13 +5,13 @@ use Rattle.std.specs.List.{flat_map}
 use Rattle.base65.specs.Outcome.{RefinesErr}
 use Rattle.link65.specs.declared.fault.LinkFault.{LinkFault}
 use Rattle.link65.specs.declared.parts.SegmentPiece.{SegmentPiece}
-use Rattle.link65.specs.Links.{each_passes}
+use Rattle.link65.specs.Links.{check_each}
 use Rattle.link65.specs.Faults.{is_memory}
 use Rattle.link65.specs.CodeInvariants.{cells_of, piece_fixups}
 use Rattle.link65.specs.Placed.{bytes_in, cell_in, check_in, exports_in, linkage_in, segments_in}
 use Rattle.link65.specs.Values.{segment_bytes}
 use Rattle.link65.specs.Programs.{segment_of}
-use Rattle.link65.proofs.Passes.{content_waits, flat_next, flat_stops, next_piece}
+use Rattle.link65.proofs.Checks.{content_waits, flat_next, flat_stops, next_piece}
 use Rattle.link65.proofs.finishing.bytes_of_row.Goals as goal
 
 pub returns-in_err-check_pieces-clause-checked : goal.returns-in_err-check_pieces-clause-checked
@@ -44,7 +44,7 @@ loop-piece-preserved c =
     let pieces = c.as_slice-pieces.result.now in
     let i = c.loop-piece.piece-index in
     record {
-      checked = flat_next check piece_fixups pieces i c.piece-item.result tt (each_passes check (flat_map piece_fixups pieces)) c.loop-piece-test.true c.piece-item.is c.in_ok-add_piece.ensures.checked c.loop-piece.invariant.checked;
+      checked = flat_next check piece_fixups pieces i c.piece-item.result tt (check_each check (flat_map piece_fixups pieces)) c.loop-piece-test.true c.piece-item.is c.in_ok-add_piece.ensures.checked c.loop-piece.invariant.checked;
       bytes = next_piece (linkage_in program) (exports_in program) c.args.row.now.fill_value pieces i c.piece-item.result c.loop-piece.bytes.items c.add_piece.new.bytes.items _ c.loop-piece-test.true c.piece-item.is c.in_ok-add_piece.ensures.bytes c.loop-piece.invariant.bytes;
     }
 
@@ -58,7 +58,7 @@ returns c =
     let there = c.in-Some.ensures ∙ ap (segment_of (segments_in program)) c.as_slice.ensures in
     let end : drop c.loop-piece.piece-index pieces ≡ [] = drop_all c.loop-piece.piece-index pieces c.loop-piece-test.false in
     record {
-      checked = content_waits check _ c.in-Some.content.now pieces there c.as_slice-pieces.ensures ∙ sym c.loop-piece.invariant.checked ∙ ap (λ (ps : List SegmentPiece). each_passes check (flat_map piece_fixups ps)) end;
+      checked = content_waits check _ c.in-Some.content.now pieces there c.as_slice-pieces.ensures ∙ sym c.loop-piece.invariant.checked ∙ ap (λ (ps : List SegmentPiece). check_each check (flat_map piece_fixups ps)) end;
       bytes =
           c.from_vec.ensures
           ∙ sym (append-nil c.loop-piece.bytes.items)

@@ -1,4 +1,4 @@
-use Rattle.link65.proofs.SomeOutcome.{some_files}
+use Rattle.link65.proofs.OutcomeExistence.{some_files}
 use Rattle.link65.proofs.laws.files_exist.Goals as goal
 
 pub returns : goal.returns

@@ -1,4 +1,4 @@
-use Rattle.link65.proofs.SomeOutcome.{some_outcome}
+use Rattle.link65.proofs.OutcomeExistence.{some_outcome}
 use Rattle.link65.proofs.laws.link_outcome_exists.Goals as goal
 
 pub returns : goal.returns

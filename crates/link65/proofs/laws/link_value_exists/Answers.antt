@@ -1,4 +1,4 @@
-use Rattle.link65.proofs.SomeOutcome.{some_value}
+use Rattle.link65.proofs.OutcomeExistence.{some_value}
 use Rattle.link65.proofs.laws.link_value_exists.Goals as goal
 
 pub returns : goal.returns

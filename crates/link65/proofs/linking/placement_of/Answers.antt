@@ -14,7 +14,7 @@ use Rattle.script65.specs.Placing.{place_of}
 use Rattle.link65.specs.declared.fault.LinkFault.{LinkFault}
 use Rattle.link65.specs.Faults.{is_memory, of_place}
 use Rattle.link65.specs.CodeInvariants.{program_in, segments_from}
-use Rattle.link65.specs.Links.{as_placement, names_given, placement_result}
+use Rattle.link65.specs.Links.{as_placement, check_imports_defined, placement_result}
 use Rattle.link65.specs.Values.{need_of, needs_of}
 use Rattle.link65.proofs.linking.placement_of.Goals as goal
 
@@ -23,11 +23,11 @@ returns-in_err-check_names-clause-placed c = λ is.
     let p = err_from_is_err_and c.from_residual.result c.from_residual.ensures.1 in
     let s = c.args.script.now in
     let program = program_in c.args.program.now in
-    rw (p.1, p.2) (refused-then is_memory c.in_err-check_names.field-0.0 (names_given s program) (λ u. as_placement (place_of s (needs_of program))) (c.in_err-check_names.ensures.given program is (sym c.as_slice.ensures)))
+    rw (p.1, p.2) (refused-then is_memory c.in_err-check_names.field-0.0 (check_imports_defined s program) (λ u. as_placement (place_of s (needs_of program))) (c.in_err-check_names.ensures.given program is (sym c.as_slice.ensures)))
 
--- where the names are given, what is placed is
-placed_so : (s : Script) (p : Program) (needs : List SegmentNeed) → names_given s p ≡ Ok tt → needs ≡ needs_of p → as_placement (place_of s needs) ≡ placement_result s p
-placed_so s p needs given same = ap (λ ns. as_placement (place_of s ns)) same ∙ sym (ap (λ (r : Result (Unit {0}) LinkFault). r >>= (λ u. as_placement (place_of s (needs_of p)))) given)
+-- if names are defined, the placement is this
+placed_so : (s : Script) (p : Program) (needs : List SegmentNeed) → check_imports_defined s p ≡ Ok tt → needs ≡ needs_of p → as_placement (place_of s needs) ≡ placement_result s p
+placed_so s p needs provided same = ap (λ ns. as_placement (place_of s ns)) same ∙ sym (ap (λ (r : Result (Unit {0}) LinkFault). r >>= (λ u. as_placement (place_of s (needs_of p)))) provided)
 
 placed_refused : (f : PlaceFault) (r : Result Placement PlaceFault) → RefinesErr is_place_system_error f r → RefinesErr is_memory (of_place f) (as_placement r)
 placed_refused f x h = grind (arith, common_steps)

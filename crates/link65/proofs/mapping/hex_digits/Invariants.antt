@@ -4,9 +4,9 @@ use Rattle.link65.proofs.mapping.hex_digits.Given as goal
 
 abbrev pub invariant-digits : goal.invariant-digits
 invariant-digits l = record {
-  within : l.left ≤ l.count;
-  before : IsBefore l.count l.number l.left l.digits.items;
+  within : l.remaining ≤ l.count;
+  before : IsBefore l.count l.number l.remaining l.digits.items;
 }
 
 abbrev pub decreases-digits : goal.decreases-digits
-decreases-digits l = l.left
+decreases-digits l = l.remaining

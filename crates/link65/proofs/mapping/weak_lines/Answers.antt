@@ -10,7 +10,7 @@ use Rattle.link65.proofs.mapping.weak_lines.Goals.{then-not-contains_key+in_ok-a
 pub loop-weak-preserved : goal.loop-weak-preserved
 loop-weak-preserved c =
     let names = c.args.names.now in
-    let line = weak_line names.own.now names.exports.now in
+    let line = weak_line names.script_symbols.now names.exports.now in
     let weak = c.weak-item.result in
     let test = sym (c.requires.defined weak.name) ∙ ap (λ n. is_some (provider_found names.defined n)) (sym c.as_slice.ensures) ∙ sym c.contains_key.ensures in
     let is : (b : Bool) → c.contains_key.result ≡ b → (if b then [] else definition_line weak) ≡ line weak = λ b e. sym (ap (λ (d : Bool). if d then [] else definition_line weak) (test ∙ e)) in

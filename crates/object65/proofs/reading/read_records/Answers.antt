@@ -2,7 +2,7 @@ use Rattle.std.proofs.Common.{◌≡◌, ◌∙◌, refl, sym, arith}
 use Rattle.std.proofs.lemmas.Result.{err_from_is_err_and}
 use Rattle.std.specs.FinMap.{get}
 use Rattle.object65.specs.Reading.{in_file, record_at}
-use Rattle.object65.specs.Record.{entry_of}
+use Rattle.object65.specs.Record.{raw_record}
 use Rattle.object65.specs.declared.fault.ObjectFault.TheVariants.{FileError}
 use Rattle.object65.proofs.Records.{fresh, stays_ahead, where_ahead, begins_in, seen, reading_stops, taking_stops, ends_in, goes_on_in, memory_outside, kept_count, none_passed, not_stored}
 use Rattle.object65.proofs.Stores.{answers_on, after_same, refuses_on}
@@ -31,7 +31,7 @@ pub returns-in_err-take-clause-read : goal.returns-in_err-take-clause-read
 returns-in_err-take-clause-read g c =
     let p = err_from_is_err_and c.from_residual-in_err-take.result c.from_residual-in_err-take.ensures.1 in
     let e = c.in_err-take.field-0.0 in
-    rw (p.1, p.2) (taking_stops c.args.head.0 c.args.limit c.args.head.1 c.records.next _ _ c.args.name.now c.records.builder (entry_of c.record.result.now, c.in_ok-next.next) e c.records.invariant.files c.records.invariant.read (seen _ (λ m. in_file (get m c.args.name.now) (record_at c.args.head.0 c.records.next c.args.limit)) _ _ c.in_ok-next.next c.record.ensures (where_ahead _ c.args.name.now c.records.reader _ c.records.invariant.ahead c.in_ok-next.ensures.read)) (memory_outside e _ c.in_err-take.ensures.taken))
+    rw (p.1, p.2) (taking_stops c.args.head.0 c.args.limit c.args.head.1 c.records.next _ _ c.args.name.now c.records.builder (raw_record c.record.result.now, c.in_ok-next.next) e c.records.invariant.files c.records.invariant.read (seen _ (λ m. in_file (get m c.args.name.now) (record_at c.args.head.0 c.records.next c.args.limit)) _ _ c.in_ok-next.next c.record.ensures (where_ahead _ c.args.name.now c.records.reader _ c.records.invariant.ahead c.in_ok-next.ensures.read)) (memory_outside e _ c.in_err-take.ensures.taken))
 
 pub returns-in_err-take-clause-frame : goal.returns-in_err-take-clause-frame
 returns-in_err-take-clause-frame g c =
@@ -39,7 +39,7 @@ returns-in_err-take-clause-frame g c =
     let e = c.in_err-take.field-0.0 in
     let taken = c.in_err-take.ensures.taken in
     let same = kept_count _ _ _ c.in_ok-next.ensures.frame.count ∙ c.records.invariant.count in
-    let entry = entry_of c.record.result.now in
+    let entry = raw_record c.record.result.now in
     rw (p.1, p.2) (record {
       files = c.in_ok-next.ensures.frame.files ∙ c.records.invariant.files;
       count = none_passed _ _ e same (not_stored c.records.builder entry e taken);
@@ -48,7 +48,7 @@ returns-in_err-take-clause-frame g c =
 
 pub returns-then-is_ended-clause-read : goal.returns-then-is_ended-clause-read
 returns-then-is_ended-clause-read g c =
-    ends_in c.args.head.0 c.args.limit c.args.head.1 c.records.next _ _ c.args.name.now c.records.builder c.take.new.self (entry_of c.record.result.now, c.in_ok-next.next) c.records.invariant.files c.records.invariant.read (seen _ (λ m. in_file (get m c.args.name.now) (record_at c.args.head.0 c.records.next c.args.limit)) _ _ c.in_ok-next.next c.record.ensures (where_ahead _ c.args.name.now c.records.reader _ c.records.invariant.ahead c.in_ok-next.ensures.read)) c.in_ok-take.ensures.taken (sym c.is_ended.ensures ∙ c.if-is_ended.true)
+    ends_in c.args.head.0 c.args.limit c.args.head.1 c.records.next _ _ c.args.name.now c.records.builder c.take.new.self (raw_record c.record.result.now, c.in_ok-next.next) c.records.invariant.files c.records.invariant.read (seen _ (λ m. in_file (get m c.args.name.now) (record_at c.args.head.0 c.records.next c.args.limit)) _ _ c.in_ok-next.next c.record.ensures (where_ahead _ c.args.name.now c.records.reader _ c.records.invariant.ahead c.in_ok-next.ensures.read)) c.in_ok-take.ensures.taken (sym c.is_ended.ensures ∙ c.if-is_ended.true)
 
 pub returns-then-is_ended-clause-frame : goal.returns-then-is_ended-clause-frame
 returns-then-is_ended-clause-frame g c =
@@ -61,5 +61,5 @@ records-preserved g c =
       files = c.in_ok-next.ensures.frame.files ∙ c.records.invariant.files;
       ahead = stays_ahead _ _ c.args.name.now c.records.reader c.read.new.self c.in_ok-next.ensures.frame.files c.records.invariant.ahead c.in_ok-next.ensures.ahead;
       count = kept_count _ _ _ c.in_ok-next.ensures.frame.count ∙ c.records.invariant.count;
-      read = goes_on_in c.args.head.0 c.args.limit c.args.head.1 c.records.next _ _ c.args.name.now c.records.builder c.take.new.self (entry_of c.record.result.now, c.in_ok-next.next) c.records.invariant.files c.records.invariant.read (seen _ (λ m. in_file (get m c.args.name.now) (record_at c.args.head.0 c.records.next c.args.limit)) _ _ c.in_ok-next.next c.record.ensures (where_ahead _ c.args.name.now c.records.reader _ c.records.invariant.ahead c.in_ok-next.ensures.read)) (omega (arith, c.in_ok-next.ensures.bound.0)) c.in_ok-take.ensures.taken (sym c.is_ended.ensures ∙ c.if-is_ended.false);
+      read = goes_on_in c.args.head.0 c.args.limit c.args.head.1 c.records.next _ _ c.args.name.now c.records.builder c.take.new.self (raw_record c.record.result.now, c.in_ok-next.next) c.records.invariant.files c.records.invariant.read (seen _ (λ m. in_file (get m c.args.name.now) (record_at c.args.head.0 c.records.next c.args.limit)) _ _ c.in_ok-next.next c.record.ensures (where_ahead _ c.args.name.now c.records.reader _ c.records.invariant.ahead c.in_ok-next.ensures.read)) (omega (arith, c.in_ok-next.ensures.bound.0)) c.in_ok-take.ensures.taken (sym c.is_ended.ensures ∙ c.if-is_ended.false);
     }

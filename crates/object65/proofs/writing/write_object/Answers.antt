@@ -1,10 +1,10 @@
 use Rattle.std.proofs.lemmas.Grind.{common_steps}
 use Rattle.std.proofs.Common.{arith}
-use Rattle.object65.proofs.Goods.{good_files, good_imports, good_sections, good_exports, good_asserts}
+use Rattle.object65.proofs.SmallParts.{good_files, good_imports, good_sections, good_exports, good_asserts}
 use Rattle.object65.proofs.writing.write_object.Goals as goal
 
-pub put_object-requires : goal.put_object-requires
-put_object-requires c =
+pub encode_object-requires : goal.encode_object-requires
+encode_object-requires c =
     let o = c.args.object.now in
     record {
       files = good_files o c.requires;

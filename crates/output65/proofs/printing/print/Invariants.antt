@@ -7,7 +7,7 @@ invariant-printing g l = record {
   within : length l.rest ≤ length l.text;
   done : Printing (g.W.Write.contents l.fn.stream.writer.now) (g.W.Write.contents l.stream.writer.now) l.text l.rest;
   same : l.stream.writer.ghost_name ≡ l.fn.stream.writer.ghost_name;
-  asked : l.stream.has_failed ≡ false;
+  requested : l.stream.has_failed ≡ false;
 }
 
 abbrev pub decreases-printing : goal.decreases-printing

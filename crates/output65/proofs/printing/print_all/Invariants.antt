@@ -7,5 +7,5 @@ abbrev pub invariant-loop-part : goal.invariant-loop-part
 invariant-loop-part g l = record {
   printed : PrintsText (g.W.Write.contents l.fn.stream.writer.now) (g.W.Write.contents l.stream.writer.now) (concat_texts (map (λ p. p.now) (take l.part-index l.parts))) true;
   same : l.stream.writer.ghost_name ≡ l.fn.stream.writer.ghost_name;
-  asked : l.stream.has_failed ≡ false;
+  requested : l.stream.has_failed ≡ false;
 }

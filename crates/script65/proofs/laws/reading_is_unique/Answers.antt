@@ -1,4 +1,4 @@
-use Rattle.script65.proofs.OneReading.{one_reading}
+use Rattle.script65.proofs.ReadingUniqueness.{one_reading}
 use Rattle.script65.proofs.laws.reading_is_unique.Goals as goal
 
 pub returns : goal.returns

@@ -1,7 +1,7 @@
 use Rattle.std.proofs.Common.{rules, arith, Ok}
 use Rattle.std.proofs.lemmas.Grind.{common_steps}
 use Rattle.script65.specs.declared.placement.Placement.{Placement}
-use Rattle.script65.proofs.Stood.{placed_so}
+use Rattle.script65.proofs.PlacementCorrectness.{placed_so}
 use Rattle.script65.proofs.placing.place.Goals as goal
 
 pub returns-in_err-check_rows-clause-stands : goal.returns-in_err-check_rows-clause-stands
@@ -12,7 +12,7 @@ returns-in_err-areas-clause-stands c = placed_so c.args.script.now c.args.needs.
 
 pub returns-clause-stands : goal.returns-clause-stands
 returns-clause-stands c =
-    let p : Placement = record { areas = c.in_ok-areas.areas; rows = c.in_ok-row_places.field-0 } in
+    let p : Placement = record { areas = c.in_ok-areas.areas; rows = c.in_ok-row_placements.field-0 } in
     placed_so c.args.script.now c.args.needs.now (Ok p) (grind (arith, common_steps))
 
 pub returns-clause-value : goal.returns-clause-value

@@ -4,8 +4,8 @@ use Rattle.std.specs.Prelude.{Ok, Err}
 use Rattle.base65.specs.Outcome.{Unless}
 use Rattle.syntax65.specs.Kinds.{tree_of}
 use Rattle.syntax65.specs.Trees.{Tree, binary, name}
-use Rattle.ast65.specs.Faults.{is_memory}
-use Rattle.semantics65.specs.Layout.{context_of, lost_scope, own_size, unless_fault}
+use Rattle.ast65.specs.Faults.{is_out_of_memory}
+use Rattle.semantics65.specs.Layout.{context_of, missing_scope_fault, own_size, unless_fault}
 use Rattle.symbols65.specs.Evaluations.{EvaluatesTree}
 use Rattle.symbols65.specs.Views.{table_of}
 use Rattle.symbols65.proofs.Evaluations.{name_lost, none_lost}
@@ -21,7 +21,7 @@ returns-in_err-check_name-in-Scoped t c =
     let whole : written ≡ c.args.value.now = sym (sym c.kind.ensures ∙ ap tree_of c.in-Scoped.is) in
     rw (p.1, p.2) (subst (λ (v : Tree). EvaluatesTree y (context_of w) (own_size w) v (Err c.in_err-check_name-in-Scoped.field-0.0)) whole
     (name_lost y (context_of w) (own_size w) written e
-    (subst (λ (k : ℕ). Unless (is_memory e) (unless_fault {A = Unit {0}} (lost_scope y.scopes k written) tt ≡ Err e)) c.scope.ensures c.in_err-check_name-in-Scoped.ensures)))
+    (subst (λ (k : ℕ). Unless (is_out_of_memory e) (unless_fault {A = Unit {0}} (missing_scope_fault y.scopes k written) tt ≡ Err e)) c.scope.ensures c.in_err-check_name-in-Scoped.ensures)))
 
 pub returns-in_ok-evaluate_binary-in-Binary : goal.returns-in_ok-evaluate_binary-in-Binary
 returns-in_ok-evaluate_binary-in-Binary t c =

@@ -4,19 +4,19 @@ use Rattle.std.proofs.lemmas.Result.{err_from_is_err_and}
 use Rattle.ast65.specs.declared.fault.AsmFault.{AsmFault}
 use Rattle.ast65.specs.declared.fault.AsmFault.TheVariants.{NotUnderstood}
 use Rattle.ast65.specs.declared.language.Statement.{Statement}
-use Rattle.semantics65.specs.declared.laid.Context.{Context}
+use Rattle.semantics65.specs.declared.contexts.Context.{Context}
 use Rattle.semantics65.specs.Symbols.{Symbols, key_defined}
-use Rattle.semantics65.specs.Layout.{context_of, defined_twice, is_open, lost_scopes, opened_twice, or_then, scope_name, stands_outside, trees_of, when}
+use Rattle.semantics65.specs.Layout.{context_of, defined_twice, is_not_global, missing_scopes_fault, opened_twice, or_then, scope_name, is_global_only, trees_of, fault_if}
 use Rattle.symbols65.specs.Measuring.{ChecksStatement, naming_fault}
 use Rattle.symbols65.specs.Views.{table_of}
 use Rattle.symbols65.proofs.Measures.{checked_next, refused_first}
 use Rattle.symbols65.proofs.measuring.check_naming.Goals as goal
 
 abbrev outside : Context → Statement → Option AsmFault
-outside s x = when (stands_outside x && is_open s.scope) NotUnderstood
+outside s x = fault_if (is_global_only x && is_not_global s.scope) NotUnderstood
 
 abbrev lost : Symbols → Context → Statement → Option AsmFault
-lost y s x = lost_scopes y.scopes s.scope (trees_of x)
+lost y s x = missing_scopes_fault y.scopes s.scope (trees_of x)
 
 abbrev opened : Symbols → Context → Statement → Option AsmFault
 opened y s x = opened_twice y.scopes s.scope (scope_name x)
@@ -30,13 +30,13 @@ after_outside y s x r h k = checked_next (outside s x) (or_then (lost y s x) (or
 after_trees : (y : Symbols) (s : Context) (x : Statement) (r : Result (Unit {0}) AsmFault) → ChecksStatement (Ok tt) (outside s x) → ChecksStatement (Ok tt) (lost y s x) → ChecksStatement r (or_then (opened y s x) (twice y s x)) → ChecksStatement r (naming_fault y s x)
 after_trees y s x r h k j = after_outside y s x r h (checked_next (lost y s x) (or_then (opened y s x) (twice y s x)) r k j)
 
-pub returns-in_err-check_outside-clause-naming : goal.returns-in_err-check_outside-clause-naming
-returns-in_err-check_outside-clause-naming c =
+pub returns-in_err-check_global_only-clause-naming : goal.returns-in_err-check_global_only-clause-naming
+returns-in_err-check_global_only-clause-naming c =
     let p = err_from_is_err_and c.from_residual.result c.from_residual.ensures.1 in
-    let e = c.in_err-check_outside.field-0.0 in
+    let e = c.in_err-check_global_only.field-0.0 in
     let y = table_of c.args.before.symbols.now in
     let x = c.args.statement.now in
-    rw (p.1, p.2) (subst (λ (s : Context). ChecksStatement (Err e) (naming_fault y s x)) c.context-context.ensures (refused_first e _ _ tt c.in_err-check_outside.ensures))
+    rw (p.1, p.2) (subst (λ (s : Context). ChecksStatement (Err e) (naming_fault y s x)) c.context-context.ensures (refused_first e _ _ tt c.in_err-check_global_only.ensures))
 
 pub returns-in_err-found-clause-naming : goal.returns-in_err-found-clause-naming
 returns-in_err-found-clause-naming c =
@@ -45,7 +45,7 @@ returns-in_err-found-clause-naming c =
     let y = table_of c.args.before.symbols.now in
     let s = context_of c.args.before.cursor.now in
     let x = c.args.statement.now in
-    let first = subst (λ (s : Context). ChecksStatement (Ok tt) (outside s x)) c.context-context.ensures c.in_ok-check_outside.ensures in
+    let first = subst (λ (s : Context). ChecksStatement (Ok tt) (outside s x)) c.context-context.ensures c.in_ok-check_global_only.ensures in
     rw (p.1, p.2) (after_outside y s x (Err e) first (refused_first e (lost y s x) (or_then (opened y s x) (twice y s x)) tt c.in_err-found.ensures.scopes))
 
 pub returns-in_err-check_opened-clause-naming : goal.returns-in_err-check_opened-clause-naming
@@ -55,7 +55,7 @@ returns-in_err-check_opened-clause-naming c =
     let y = table_of c.args.before.symbols.now in
     let s = context_of c.args.before.cursor.now in
     let x = c.args.statement.now in
-    let first = subst (λ (s : Context). ChecksStatement (Ok tt) (outside s x)) c.context-context.ensures c.in_ok-check_outside.ensures in
+    let first = subst (λ (s : Context). ChecksStatement (Ok tt) (outside s x)) c.context-context.ensures c.in_ok-check_global_only.ensures in
     let third = subst (λ (s : Context). ChecksStatement (Err e) (opened y s x)) c.context-context.ensures c.in_err-check_opened.ensures in
     rw (p.1, p.2) (after_trees y s x (Err e) first c.in_ok-found.ensures.scopes (refused_first e (opened y s x) (twice y s x) tt third))
 
@@ -66,7 +66,7 @@ returns-in_err-check_defined-clause-naming c =
     let y = table_of c.args.before.symbols.now in
     let s = context_of c.args.before.cursor.now in
     let x = c.args.statement.now in
-    let first = subst (λ (s : Context). ChecksStatement (Ok tt) (outside s x)) c.context-context.ensures c.in_ok-check_outside.ensures in
+    let first = subst (λ (s : Context). ChecksStatement (Ok tt) (outside s x)) c.context-context.ensures c.in_ok-check_global_only.ensures in
     let third = subst (λ (s : Context). ChecksStatement (Ok tt) (opened y s x)) c.context-context.ensures c.in_ok-check_opened.ensures in
     let last = subst (λ (s : Context). ChecksStatement (Err e) (twice y s x)) c.context-context.ensures c.in_err-check_defined.ensures in
     rw (p.1, p.2) (after_trees y s x (Err e) first c.in_ok-found.ensures.scopes (checked_next (opened y s x) (twice y s x) (Err e) third last))
@@ -76,7 +76,7 @@ returns-clause-naming c =
     let y = table_of c.args.before.symbols.now in
     let s = context_of c.args.before.cursor.now in
     let x = c.args.statement.now in
-    let first = subst (λ (s : Context). ChecksStatement (Ok tt) (outside s x)) c.context-context.ensures c.in_ok-check_outside.ensures in
+    let first = subst (λ (s : Context). ChecksStatement (Ok tt) (outside s x)) c.context-context.ensures c.in_ok-check_global_only.ensures in
     let third = subst (λ (s : Context). ChecksStatement (Ok tt) (opened y s x)) c.context-context.ensures c.in_ok-check_opened.ensures in
     let last = subst (λ (s : Context). ChecksStatement (Ok tt) (twice y s x)) c.context-context.ensures c.in_ok-check_defined.ensures in
     after_trees y s x (Ok tt) first c.in_ok-found.ensures.scopes (checked_next (opened y s x) (twice y s x) (Ok tt) third last)

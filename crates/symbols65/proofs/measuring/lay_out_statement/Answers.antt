@@ -19,8 +19,8 @@ returns-in_err-measured-clause-measured c =
 pub returns-clause-measured : goal.returns-clause-measured
 returns-clause-measured c = measured_named (table_of c.args.before.symbols.now) c.args.before.cursor.now c.args.statement.now c.in_ok-found.ensures.naming ∙ c.in_ok-measured.ensures
 
-pub returns-clause-capacity : goal.returns-clause-capacity
-returns-clause-capacity c = room_of (table_of c.args.before.symbols.now) c.args.before.cursor.now c.args.statement.now (Ok c.in_ok-measured.measured) c.in_ok-measured.ensures
+pub returns-clause-fits : goal.returns-clause-fits
+returns-clause-fits c = room_of (table_of c.args.before.symbols.now) c.args.before.cursor.now c.args.statement.now (Ok c.in_ok-measured.measured) c.in_ok-measured.ensures
 
 pub returns-clause-form : goal.returns-clause-form
 returns-clause-form c =

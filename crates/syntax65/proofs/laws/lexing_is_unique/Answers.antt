@@ -1,4 +1,4 @@
-use Rattle.syntax65.proofs.Readings as readings
+use Rattle.syntax65.proofs.UniqueLexing as readings
 use Rattle.syntax65.proofs.laws.lexing_is_unique.Goals as goal
 
 pub returns : goal.returns

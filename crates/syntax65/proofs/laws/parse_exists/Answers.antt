@@ -1,4 +1,4 @@
-use Rattle.syntax65.proofs.SomeParse.{some_parse}
+use Rattle.syntax65.proofs.ParseTotality.{some_parse}
 use Rattle.syntax65.proofs.laws.parse_exists.Goals as goal
 
 pub returns : goal.returns

@@ -1,4 +1,4 @@
-use Rattle.syntax65.proofs.Parses as parses
+use Rattle.syntax65.proofs.UniqueParse as parses
 use Rattle.syntax65.proofs.laws.parse_is_unique.Goals as goal
 
 pub returns : goal.returns

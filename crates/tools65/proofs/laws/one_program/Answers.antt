@@ -1,4 +1,4 @@
-use Rattle.tools65.proofs.Wholes.{one_program}
+use Rattle.tools65.proofs.WholePrograms.{one_program}
 use Rattle.tools65.proofs.laws.one_program.Goals as goal
 
 pub returns : goal.returns

@@ -1,4 +1,4 @@
-use Rattle.tools65.proofs.SomeOutcomes.{an_outcome_exists}
+use Rattle.tools65.proofs.OutcomeTotality.{an_outcome_exists}
 use Rattle.tools65.proofs.laws.outcome_exists.Goals as goal
 
 pub returns : goal.returns

@@ -1,4 +1,4 @@
-use Rattle.tools65.proofs.OneOutcomes.{one_outcome}
+use Rattle.tools65.proofs.UniqueOutcome.{one_outcome}
 use Rattle.tools65.proofs.laws.outcome_is_unique.Goals as goal
 
 pub returns : goal.returns

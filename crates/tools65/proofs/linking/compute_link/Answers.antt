@@ -1,14 +1,14 @@
-use Rattle.cli65.specs.Line.{linking}
-use Rattle.tools65.proofs.Computed.{computes_link, link_fails_so}
+use Rattle.cli65.specs.Line.{link_view}
+use Rattle.tools65.proofs.ComputedOutcomes.{computes_link, link_fails_so}
 use Rattle.tools65.proofs.linking.compute_link.Goals as goal
 
 pub returns-clause-computed : goal.returns-clause-computed
 returns-clause-computed g c =
-    computes_link (linking c.args.line.now) _ _ _ _ c.link_files-linked.result c.link_outcome.result c.link_files-linked.ensures.count c.link_files-linked.ensures.at_last_count c.link_files-linked.ensures.named c.link_files-linked.ensures.linked c.link_outcome.ensures
+    computes_link (link_view c.args.line.now) _ _ _ _ c.link_files-linked.result c.link_outcome.result c.link_files-linked.ensures.count c.link_files-linked.ensures.at_last_count c.link_files-linked.ensures.named c.link_files-linked.ensures.linked c.link_outcome.ensures
 
 pub returns-clause-frame : goal.returns-clause-frame
 returns-clause-frame g c = record {
   files = c.link_files-linked.ensures.files;
-  later = c.link_files-linked.ensures.count.later;
-  failing = link_fails_so (linking c.args.line.now) _ _ c.link_files-linked.result c.link_outcome.result c.link_files-linked.ensures.count c.link_files-linked.ensures.at_last_count c.link_outcome.ensures;
+  monotone = c.link_files-linked.ensures.count.monotone;
+  failing = link_fails_so (link_view c.args.line.now) _ _ c.link_files-linked.result c.link_outcome.result c.link_files-linked.ensures.count c.link_files-linked.ensures.at_last_count c.link_outcome.ensures;
 }

@@ -1,6 +1,6 @@
 use Rattle.std.proofs.Common.{refl, map}
-use Rattle.tools65.proofs.Failing.{failed_words, refused_fails}
-use Rattle.tools65.proofs.Fitting.{refused_fit, words_fit}
+use Rattle.tools65.proofs.Failures.{failed_words, refused_fails}
+use Rattle.tools65.proofs.ObjectFits.{refused_fit, words_fit}
 use Rattle.tools65.proofs.Runs.{line_run, refused_words}
 use Rattle.tools65.proofs.WholeRuns.{words_whole}
 use Rattle.tools65.proofs.running.run_with_streams.Goals as goal

@@ -1,5 +1,5 @@
 use Rattle.ast65.specs.Faults.{is_system_error}
-use Rattle.semantics65.specs.Views.{place_in}
+use Rattle.semantics65.specs.Views.{location_in}
 use Rattle.symbols65.proofs.Measures.{unless_then}
 use Rattle.asm65.specs.declared.assembler.Assembler.{Assembler}
 use Rattle.asm65.specs.Internal.AssemblerState.{Represents}
@@ -12,12 +12,12 @@ lay_out-requires c = (let (count, t, h, few) = c.requires in (count, t, represen
 pub returns-in-Err-clause-taken : goal.returns-in-Err-clause-taken
 returns-in-Err-clause-taken c = λ count t h few.
     (let e = c.in-Err.fault in
-    let location = place_in c.args.at.file.now c.args.at.line in
-    rw c.refused.ensures (unless_then (is_system_error e) (takes_refused t location c.args.statement e) (c.in-Err.ensures.refused count t (represents_searched count t c.args.self.now c.search_statement.new.symbols c.search_statement.ensures h))))
+    let location = location_in c.args.at.file.now c.args.at.line in
+    rw c.reject_statement.ensures (unless_then (is_system_error e) (takes_refused t location c.args.statement e) (c.in-Err.ensures.refused count t (represents_searched count t c.args.self.now c.search_statement.new.symbols c.search_statement.ensures h))))
 
 pub returns-in_ok-emit_statement-in-Ok-clause-taken : goal.returns-in_ok-emit_statement-in-Ok-clause-taken
 returns-in_ok-emit_statement-in-Ok-clause-taken c = λ count t h few.
     (let found = c.in-Ok.field-0 in
     let searched : Assembler = record c.args.self.now { symbols = c.search_statement.new.symbols } in
     let held : Represents count t searched = represents_searched count t c.args.self.now c.search_statement.new.symbols c.search_statement.ensures h in
-    takes_entered count t (place_in c.args.at.file.now c.args.at.line) c.args.statement found.context found.analysis.measured searched c.lay_out.new.self c.emit_statement.new.self held (c.in-Ok.ensures.placed count t held) (c.in-Ok.ensures.holds count t held) c.in_ok-emit_statement-in-Ok.ensures)
+    takes_entered count t (location_in c.args.at.file.now c.args.at.line) c.args.statement found.context found.analysis.measured searched c.lay_out.new.self c.emit_statement.new.self held (c.in-Ok.ensures.placed count t held) (c.in-Ok.ensures.holds count t held) c.in_ok-emit_statement-in-Ok.ensures)

@@ -1,11 +1,11 @@
 use Rattle.std.proofs.Common.{◌≡◌, [], ◌∷◌, ℕ, IfSome, Option, None, Some, length, subst, sym, ap}
 use Rattle.syntax65.specs.declared.source_location.SourceLocation.{SourceLocation}
-use Rattle.semantics65.specs.declared.laid.Context.{Context}
+use Rattle.semantics65.specs.declared.contexts.Context.{Context}
 use Rattle.object65.specs.Form.{Form}
 use Rattle.syntax65.specs.Trees.{Tree}
 use Rattle.semantics65.specs.Symbols.{Definition, Symbols, named}
-use Rattle.semantics65.specs.Views.{place_in}
-use Rattle.semantics65.specs.Module.{equated, valued}
+use Rattle.semantics65.specs.Views.{location_in}
+use Rattle.semantics65.specs.Module.{constant_definition, expression_value}
 use Rattle.std.specs.Result.{result_ok}
 use Rattle.symbols65.specs.Evaluations.{HasFinal}
 use Rattle.symbols65.specs.Resolving.{IsBlocked, IsFinalWithin}
@@ -27,18 +27,18 @@ pub define-requires-clause-form : goal.define-requires-clause-form
 define-requires-clause-form c = (
   (λ f e z more.
       ap result_ok
-      (subst (λ (y : held.Symbols). IsFinalWithin (length (table_of y).definitions) (table_of y) c.args.site.context c.args.value f) (sym c.in_ok-enter_constant.ensures.tables.symbols)
+      (subst (λ (y : held.Symbols). IsFinalWithin (length (table_of y).definitions) (table_of y) c.args.site.context c.args.value f) (sym c.in_ok-defer_constant.ensures.tables.symbols)
       (held_final (table_of c.args.self.now.symbols) c.args.site.context c.args.value c.args.form f e c.requires.form) z more)),
-  (λ r is z more none. blocks (IsBlocked (table_of c.enter_constant.new.self.symbols) c.args.site.context c.args.value) c.blocker-blocker.result r is c.blocker-blocker.ensures z more none),
+  (λ r is z more none. blocks (IsBlocked (table_of c.defer_constant.new.self.symbols) c.args.site.context c.args.value) c.blocker-blocker.result r is c.blocker-blocker.ensures z more none),
 )
 
 pub returns : goal.returns
 returns c =
     let old : Assembler = c.args.self.now in
-    let mid : Assembler = c.enter_constant.new.self in
-    let location : SourceLocation = place_in c.args.site.at.file.now c.args.site.at.line in
+    let mid : Assembler = c.defer_constant.new.self in
+    let location : SourceLocation = location_in c.args.site.at.file.now c.args.site.at.line in
     let s : Context = c.args.site.context in
     let d : Definition = record { key = named s.scope c.args.name.now; value = Some c.args.value; context = s; size = c.args.size } in
     where_ok c.define.result (λ table.
-    turns_after location s (valued equated c.args.value ∷ []) (λ y. with_definition y d) old mid c.define.new.self c.in_ok-enter_constant.ensures.entered c.define.ensures.keeps table)
+    turns_after location s (expression_value constant_definition c.args.value ∷ []) (λ y. with_definition y d) old mid c.define.new.self c.in_ok-defer_constant.ensures.entered c.define.ensures.keeps table)
     c.define.ensures.table

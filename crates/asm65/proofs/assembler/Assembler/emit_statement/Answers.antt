@@ -1,8 +1,8 @@
 use Rattle.std.proofs.Common.{Ok, subst, sym}
 use Rattle.ast65.specs.declared.language.Statement.{Statement}
 use Rattle.ast65.specs.declared.language.Statement.TheVariants as statement
-use Rattle.semantics65.specs.Views.{place_in}
-use Rattle.semantics65.specs.Module.{asserted, valued}
+use Rattle.semantics65.specs.Views.{location_in}
+use Rattle.semantics65.specs.Module.{asserted, expression_value}
 use Rattle.symbols65.specs.Evaluations.{HasFinal, first_tree}
 use Rattle.symbols65.specs.Views.{table_of}
 use Rattle.symbols65.proofs.Measures.{ok_then}
@@ -12,17 +12,17 @@ use Rattle.asm65.proofs.assembler.Assembler.emit_statement.Goals as goal
 
 pub returns-in-Instruction : goal.returns-in-Instruction
 returns-in-Instruction c =
-    let location = place_in c.args.site.at.file.now c.args.site.at.line in
+    let location = location_in c.args.site.at.file.now c.args.site.at.line in
     let s = c.args.site.context in
     let m = c.args.analysis.measured in
     let old = c.args.self.now in
-    let new = c.enter_settled.new.self in
+    let new = c.emit_encoded.new.self in
     let x : Statement = statement.Instruction c.in-Instruction.mnemonic c.in-Instruction.operand in
-    taken_as location s m old new c.enter_settled.result x c.args.statement (sym c.in-Instruction.is) (λ h. adds_pieces location s m old new x (λ y. nothing_follows y) h) c.enter_settled.ensures
+    taken_as location s m old new c.emit_encoded.result x c.args.statement (sym c.in-Instruction.is) (λ h. adds_pieces location s m old new x (λ y. nothing_follows y) h) c.emit_encoded.ensures
 
 pub returns-in-Values : goal.returns-in-Values
 returns-in-Values c =
-    let location = place_in c.args.site.at.file.now c.args.site.at.line in
+    let location = location_in c.args.site.at.file.now c.args.site.at.line in
     let s = c.args.site.context in
     let m = c.args.analysis.measured in
     let old = c.args.self.now in
@@ -32,7 +32,7 @@ returns-in-Values c =
 
 pub returns-in-Reserve : goal.returns-in-Reserve
 returns-in-Reserve c =
-    let location = place_in c.args.site.at.file.now c.args.site.at.line in
+    let location = location_in c.args.site.at.file.now c.args.site.at.line in
     let s = c.args.site.context in
     let m = c.args.analysis.measured in
     let old = c.args.self.now in
@@ -42,7 +42,7 @@ returns-in-Reserve c =
 
 pub returns-in-Align : goal.returns-in-Align
 returns-in-Align c =
-    let location = place_in c.args.site.at.file.now c.args.site.at.line in
+    let location = location_in c.args.site.at.file.now c.args.site.at.line in
     let s = c.args.site.context in
     let m = c.args.analysis.measured in
     let old = c.args.self.now in
@@ -52,7 +52,7 @@ returns-in-Align c =
 
 pub returns-in-Incbin : goal.returns-in-Incbin
 returns-in-Incbin c =
-    let location = place_in c.args.site.at.file.now c.args.site.at.line in
+    let location = location_in c.args.site.at.file.now c.args.site.at.line in
     let s = c.args.site.context in
     let m = c.args.analysis.measured in
     let old = c.args.self.now in
@@ -62,32 +62,32 @@ returns-in-Incbin c =
 
 pub returns-then-branch : goal.returns-then-branch
 returns-then-branch c =
-    let location = place_in c.args.site.at.file.now c.args.site.at.line in
+    let location = location_in c.args.site.at.file.now c.args.site.at.line in
     let s = c.args.site.context in
     let m = c.args.analysis.measured in
     let old = c.args.self.now in
-    let new = c.put_value.new.assembler in
+    let new = c.emit_value.new.assembler in
     let x : Statement = statement.Assert c.in-Assert.value c.in-Assert.action c.in-Assert.text in
     let final = subst (λ (z : Statement). HasFinal (table_of old.symbols) s (first_tree z) c.args.analysis.form) c.in-Assert.is c.requires.form in
-    let put = c.in_ok-put_value-in-Assert.ensures.put c.in-Assert.value c.in-Assert.action c.in-Assert.text final in
-    let holds = emitted_at_once old new location s (valued (asserted c.in-Assert.action c.in-Assert.text) c.in-Assert.value) _ put c.if-branch.true in
+    let put = c.in_ok-emit_value-in-Assert.ensures.put c.in-Assert.value c.in-Assert.action c.in-Assert.text final in
+    let holds = emitted_at_once old new location s (expression_value (asserted c.in-Assert.action c.in-Assert.text) c.in-Assert.value) _ put c.if-branch.true in
     taken_as location s m old new (Ok tt) x c.args.statement (sym c.in-Assert.is) (λ h. adds_pieces location s m old new x (λ y. nothing_follows y) h) holds
 
 pub returns-else-branch : goal.returns-else-branch
 returns-else-branch c =
-    let location = place_in c.args.site.at.file.now c.args.site.at.line in
+    let location = location_in c.args.site.at.file.now c.args.site.at.line in
     let s = c.args.site.context in
     let m = c.args.analysis.measured in
     let old = c.args.self.now in
-    let mid = c.put_value.new.assembler in
+    let mid = c.emit_value.new.assembler in
     let new = c.defer.new.assembler in
     let x : Statement = statement.Assert c.in-Assert.value c.in-Assert.action c.in-Assert.text in
     let final = subst (λ (z : Statement). HasFinal (table_of old.symbols) s (first_tree z) c.args.analysis.form) c.in-Assert.is c.requires.form in
-    let put = c.in_ok-put_value-in-Assert.ensures.put c.in-Assert.value c.in-Assert.action c.in-Assert.text final in
-    let entered = ok_then c.defer.result (λ waits. tried_waits old mid new location s (valued (asserted c.in-Assert.action c.in-Assert.text) c.in-Assert.value) _ put c.if-branch.false waits) c.defer.ensures.waits in
+    let put = c.in_ok-emit_value-in-Assert.ensures.put c.in-Assert.value c.in-Assert.action c.in-Assert.text final in
+    let entered = ok_then c.defer.result (λ waits. tried_waits old mid new location s (expression_value (asserted c.in-Assert.action c.in-Assert.text) c.in-Assert.value) _ put c.if-branch.false waits) c.defer.ensures.waits in
     taken_as location s m old new c.defer.result x c.args.statement (sym c.in-Assert.is) (λ h. adds_pieces location s m old new x (λ y. nothing_follows y) h) entered
 
-pub enter_names-requires-clause-named : goal.enter_names-requires-clause-named
-enter_names-requires-clause-named c =
+pub define_names-requires-clause-named : goal.define_names-requires-clause-named
+define_names-requires-clause-named c =
     let x = c.in_default in
     puts_nothing c.args.statement x.not-Instruction x.not-Values x.not-Reserve x.not-Align x.not-Incbin x.not-Assert

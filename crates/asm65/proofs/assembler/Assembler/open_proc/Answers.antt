@@ -3,7 +3,7 @@ use Rattle.std.specs.Prelude.{true}
 use Rattle.semantics65.specs.Symbols.{Definition, Scope, Symbols, named}
 use Rattle.symbols65.specs.Views.{table_of, with_definition, with_scope}
 use Rattle.asm65.specs.declared.assembler.Assembler.{Assembler}
-use Rattle.asm65.specs.Internal.AssemblerState.{label_at}
+use Rattle.asm65.specs.Internal.AssemblerState.{label_definition}
 use Rattle.asm65.proofs.Namings.{holds_grown, where_ok}
 use Rattle.asm65.proofs.assembler.Assembler.open_proc.Goals as goal
 
@@ -13,7 +13,7 @@ returns c =
     let mid : Assembler = c.define.new.self in
     let new : Assembler = c.open_scope.new.self in
     let key = named c.args.context.scope c.args.name.now in
-    let d : Definition = label_at key c.args.context c.args.size in
+    let d : Definition = label_definition key c.args.context c.args.size in
     let b : Scope = record { within = c.args.context.scope; name = Some c.args.name.now; is_proc = true } in
     let first : table_of mid.symbols ≡ with_definition (table_of old.symbols) d = c.in_ok-define.ensures.table ∙ ap (with_definition (table_of old.symbols)) (c.label.ensures.seen key) in
     where_ok c.open_scope.result (λ table location count t h inside unnamed.

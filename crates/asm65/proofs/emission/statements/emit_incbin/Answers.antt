@@ -5,4 +5,4 @@ use Rattle.symbols65.proofs.Measures.{ok_then}
 use Rattle.asm65.proofs.emission.statements.emit_incbin.Goals as goal
 
 pub returns : goal.returns
-returns c = ok_then c.append.result (λ feeds location. given_enters c.args.assembler.now c.append.new.self location c.args.context (Known (file_bytes c.args.count c.args.bytes c.args.settled)) (rw (sym c.file_bytes-part.ensures) feeds)) c.append.ensures
+returns c = ok_then c.append.result (λ feeds location. given_enters c.args.assembler.now c.append.new.self location c.args.context (Known (file_bytes c.args.count c.args.bytes c.args.encoding)) (rw (sym c.file_bytes-part.ensures) feeds)) c.append.ensures

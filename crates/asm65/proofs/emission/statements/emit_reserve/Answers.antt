@@ -1,12 +1,12 @@
-use Rattle.semantics65.specs.Contents.{room_part}
-use Rattle.semantics65.specs.declared.laid.EncodingChoice.TheVariants.{FillByte}
+use Rattle.semantics65.specs.Contents.{reserve_part}
+use Rattle.semantics65.specs.declared.contexts.EncodingChoice.TheVariants.{FillByte}
 use Rattle.asm65.proofs.Enterings.{given_enters}
 use Rattle.asm65.proofs.Puttings.{other_room}
 use Rattle.symbols65.proofs.Measures.{ok_then}
 use Rattle.asm65.proofs.emission.statements.emit_reserve.Goals as goal
 
 pub returns-in-FillByte : goal.returns-in-FillByte
-returns-in-FillByte c = rw c.in-FillByte.is (ok_then c.fill.result (λ feeds location. given_enters c.args.assembler.now c.fill.new.self location c.args.context (room_part c.args.count (FillByte c.in-FillByte.byte)) feeds) c.fill.ensures)
+returns-in-FillByte c = rw c.in-FillByte.is (ok_then c.fill.result (λ feeds location. given_enters c.args.assembler.now c.fill.new.self location c.args.context (reserve_part c.args.count (FillByte c.in-FillByte.byte)) feeds) c.fill.ensures)
 
 pub returns-in_default : goal.returns-in_default
-returns-in_default c = ok_then c.reserve_bytes.result (λ feeds location. given_enters c.args.assembler.now c.reserve_bytes.new.self location c.args.context (room_part c.args.count c.args.settled) (rw (other_room c.args.count c.args.settled c.in_default.not-FillByte) feeds)) c.reserve_bytes.ensures
+returns-in_default c = ok_then c.reserve_bytes.result (λ feeds location. given_enters c.args.assembler.now c.reserve_bytes.new.self location c.args.context (reserve_part c.args.count c.args.encoding) (rw (other_room c.args.count c.args.encoding c.in_default.not-FillByte) feeds)) c.reserve_bytes.ensures

@@ -1,6 +1,6 @@
 use Rattle.std.proofs.Common.{rules}
 use Rattle.std.proofs.Output.{has_written_append, has_written_of_eq}
-use Rattle.ast65.proofs.Shown.{encode-more}
+use Rattle.ast65.proofs.DisplayedNames.{encode-more}
 use Rattle.ast65.proofs.fault.ByteDisplayDisplay.fmt.Goals as goal
 
 pub loop-byte-preserved : goal.loop-byte-preserved

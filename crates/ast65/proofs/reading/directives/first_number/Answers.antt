@@ -1,4 +1,4 @@
-use Rattle.ast65.proofs.Lone.{number_item}
+use Rattle.ast65.proofs.SingleNumber.{number_item}
 use Rattle.ast65.proofs.reading.directives.first_number.Goals as goal
 
 pub returns-in-None-clause-item : goal.returns-in-None-clause-item

@@ -1,5 +1,5 @@
 use Rattle.ast65.proofs.Each.{some_range}
-use Rattle.ast65.proofs.Parts.{then_fault, parses_fault}
+use Rattle.ast65.proofs.CommaLists.{then_fault, parses_fault}
 use Rattle.ast65.proofs.reading.directives.range.Goals as goal
 
 pub returns-in_err-start : goal.returns-in_err-start

@@ -1,7 +1,7 @@
 use Rattle.syntax65.specs.Tokens.{lexemes}
 use Rattle.ast65.specs.Parsing.{index_of}
 use Rattle.ast65.specs.declared.language.Operand.TheVariants.{Address}
-use Rattle.ast65.proofs.Parts.{end_fault, front_fault, is_ended, index_inside}
+use Rattle.ast65.proofs.CommaLists.{end_fault, front_fault, is_ended, index_inside}
 use Rattle.ast65.proofs.reading.operands.address.Goals as goal
 
 pub returns-in_err-value : goal.returns-in_err-value

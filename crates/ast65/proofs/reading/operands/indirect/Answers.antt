@@ -1,6 +1,6 @@
 use Rattle.syntax65.specs.Tokens.{lexemes}
 use Rattle.ast65.specs.Parsing.{closing_of, indirect_by}
-use Rattle.ast65.proofs.Parts.{end_fault, front_fault, is_ended, closing_inside}
+use Rattle.ast65.proofs.CommaLists.{end_fault, front_fault, is_ended, closing_inside}
 use Rattle.ast65.proofs.reading.operands.indirect.Goals as goal
 
 pub returns-in_err-value : goal.returns-in_err-value

@@ -1,8 +1,8 @@
 use Rattle.emit65.proofs.Standings.{closed_entries}
 use Rattle.emit65.proofs.entries.Entries.into_list.Goals as goal
 
-pub returns-clause-alike : goal.returns-clause-alike
-returns-clause-alike c = λ files. closed_entries files c.args.self _ (c.in_ok-close.ensures.same files) c.in_ok-close.ensures.bytes c.in_ok-close.ensures.room
+pub returns-clause-equivalent : goal.returns-clause-equivalent
+returns-clause-equivalent c = λ files. closed_entries files c.args.self _ (c.in_ok-close.ensures.same files) c.in_ok-close.ensures.bytes c.in_ok-close.ensures.reserve
 
 pub returns-clause-standing : goal.returns-clause-standing
 returns-clause-standing c = λ files. (c.in_ok-close.ensures.same files).standing

@@ -6,4 +6,4 @@ use Rattle.emit65.proofs.entries.Entries.push.Goals as goal
 pub returns : goal.returns
 returns c =
     let closed = c.in_ok-close.ensures in
-    λ files standing. takes_both files c.args.self.now _ _ [] (slot_of files c.args.entry ∷ []) (closed.same files) (takes_pushed files _ _ c.args.entry standing closed.bytes closed.room c.in_ok-add.ensures)
+    λ files standing. takes_both files c.args.self.now _ _ [] (slot_of files c.args.entry ∷ []) (closed.same files) (takes_pushed files _ _ c.args.entry standing closed.bytes closed.reserve c.in_ok-add.ensures)

@@ -2,7 +2,7 @@ use Rattle.std.proofs.Common.{◌≡◌, ◌∙◌, [], ◌++◌, append_assoc, 
 use Rattle.std.specs.List.{flat_map}
 use Rattle.std.specs.Vec.Iter.{into_iter_items}
 use Rattle.std.proofs.lemmas.Grind.{common_steps}
-use Rattle.emit65.specs.Internal.Drafts.{draft_of, sayings_of}
+use Rattle.emit65.specs.Internal.Drafts.{draft_of, declarations_of}
 use Rattle.emit65.specs.declared.numbering.drafts.SectionDraft.{SectionDraft}
 use Rattle.emit65.proofs.Drafting.{all_after, following, none_after, one_after, segments_begin, segments_stay}
 use Rattle.emit65.proofs.numbering.drafts.group_by_section.Goals as goal
@@ -16,13 +16,13 @@ loop-entry-init c =
     record {
       keys = ap (map (λ (d : SectionDraft). d.segment)) begun ∙ segments_begin s;
       drafts = (λ n. map (following (first n)) (begun n)) ∙ all_after es s;
-      declarations = (λ n. c.new.ensures n ++ flat_map sayings_of (first n));
+      declarations = (λ n. c.new.ensures n ++ flat_map declarations_of (first n));
     }
 
 pub loop-entry-preserved : goal.loop-entry-preserved
 loop-entry-preserved c =
-    let ds = c.loop-entry.parted.drafts.items in
-    let ts = c.loop-entry.parted.declarations in
+    let ds = c.loop-entry.by_section.drafts.items in
+    let ts = c.loop-entry.by_section.declarations in
     let e = c.in-Some.entry in
     let rest = into_iter_items c.next.new.self in
     let step = c.in_ok-add_entry.ensures in
@@ -33,13 +33,13 @@ loop-entry-preserved c =
           ∙ sym (ap (λ es. map (following es) ds) c.in-Some.ensures.steps.0)
           ∙ c.loop-entry.invariant.drafts;
       declarations =
-          ap (λ made. made ++ flat_map sayings_of rest) step.declarations ∙ append_assoc ts (sayings_of e) (flat_map sayings_of rest)
-          ∙ sym (ap (λ es. ts ++ flat_map sayings_of es) c.in-Some.ensures.steps.0)
+          ap (λ made. made ++ flat_map declarations_of rest) step.declarations ∙ append_assoc ts (declarations_of e) (flat_map declarations_of rest)
+          ∙ sym (ap (λ es. ts ++ flat_map declarations_of es) c.in-Some.ensures.steps.0)
           ∙ c.loop-entry.invariant.declarations;
     }
 
 pub returns-clause-drafts : goal.returns-clause-drafts
 returns-clause-drafts c =
-    let ds = c.loop-entry.parted.drafts.items in
+    let ds = c.loop-entry.by_section.drafts.items in
     let none : into_iter_items c.loop-entry.entry-iterator ≡ [] = grind (arith, common_steps) in
     none_after ds ∙ sym (ap (λ es. map (following es) ds) none) ∙ c.loop-entry.invariant.drafts

@@ -11,7 +11,7 @@ returns-in-Some-clause-text c = IfOk-weaker c.copy_of.result _ _ (λ name is. ap
 
 pub returns-in-None-clause-name : goal.returns-in-None-clause-name
 returns-in-None-clause-name c =
-    let none = slice_get-map string_bytes c.args.table.now c.args.place ∙ ap (option_map string_bytes) (slice_get_past c.args.table.now c.args.place c.in-None.ensures.lookup.3) in
+    let none = slice_get-map string_bytes c.args.table.now c.args.index ∙ ap (option_map string_bytes) (slice_get_past c.args.table.now c.args.index c.in-None.ensures.lookup.3) in
     c.new.ensures ∙ sym (ap (λ o. unwrap_or o []) none)
 
 pub returns-in-None-clause-text : goal.returns-in-None-clause-text

@@ -1,7 +1,7 @@
 use Rattle.std.proofs.Common.{◌≡◌, ◌∙◌, ap, length, refl, rules, true}
 use Rattle.std.specs.Prelude.{nat_lt}
 use Rattle.semantics65.specs.Module.{deferred}
-use Rattle.emit65.specs.SectionContents.{fixup_of, names_in, piece_of, stands_in}
+use Rattle.emit65.specs.SectionContents.{fixup_of, names_in, piece_of, has_file_below}
 use Rattle.emit65.specs.declared.entries.SectionEntry.TheVariants.{FixupEntry}
 use Rattle.emit65.specs.declared.fixups.Fixup.{Fixup}
 use Rattle.emit65.proofs.Standings.{stands_put}
@@ -15,7 +15,7 @@ returns c = λ xs h.
     let fixup : Fixup = record { pos = c.in_ok-pos.pos; context = c.args.context; piece = c.args.piece } in
     let held : box.value ≡ fixup = c.in_ok-fixup.ensures.ok in
     let there : nat_lt c.in_ok-pos.pos.file (length names) ≡ true = search rules in
-    let listed : stands_in (length names) (FixupEntry box) ≡ true = ap (λ (w : Fixup). nat_lt w.pos.file (length names)) held ∙ there in
+    let listed : has_file_below (length names) (FixupEntry box) ≡ true = ap (λ (w : Fixup). nat_lt w.pos.file (length names)) held ∙ there in
     stands_put c.args.self.now _ (FixupEntry box) _ xs refl refl refl pos.more
-    (ap (λ (w : Fixup). deferred (fixup_of names w)) held ∙ ap (λ p. deferred (record { place = p; context = c.args.context; piece = piece_of c.args.piece })) pos.place)
+    (ap (λ (w : Fixup). deferred (fixup_of names w)) held ∙ ap (λ p. deferred (record { place = p; context = c.args.context; piece = piece_of c.args.piece })) pos.location)
     (c.in_ok-push.ensures names listed) h

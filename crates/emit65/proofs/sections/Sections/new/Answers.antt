@@ -4,8 +4,8 @@ use Rattle.emit65.proofs.sections.Sections.new.Goals as goal
 
 pub returns : goal.returns
 returns c = record {
-  asked = sym c.new.ensures.empty;
+  requested = sym c.new.ensures.empty;
   latest = tt;
-  alike = c.new-3.ensures.none (names_in c.new-2.result);
+  equivalent = c.new-3.ensures.none (names_in c.new-2.result);
   standing = c.new-3.ensures.standing (length (names_in c.new-2.result));
 }

@@ -4,4 +4,4 @@ use Rattle.emit65.proofs.Standings.{begins_same, stands_taken}
 use Rattle.emit65.proofs.sections.Sections.reserve_bytes.Goals as goal
 
 pub returns : goal.returns
-returns c = λ xs h. stands_taken c.args.self.now _ _ xs refl refl refl (begins_same (names_in c.args.self.now.files)) (c.in_ok-add_room.ensures (names_in c.args.self.now.files)) h
+returns c = λ xs h. stands_taken c.args.self.now _ _ xs refl refl refl (begins_same (names_in c.args.self.now.files)) (c.in_ok-add_reserved.ensures (names_in c.args.self.now.files)) h

@@ -1,5 +1,5 @@
 use Rattle.expand65.specs.Replay.{tokens_in}
-use Rattle.expand65.proofs.Plainly.{plain_judged}
+use Rattle.expand65.proofs.PlainLines.{plain_judged}
 use Rattle.expand65.proofs.blocks.BlockKind.step.Goals as goal
 
 pub returns-then-is_plain-clause-step : goal.returns-then-is_plain-clause-step

@@ -3,73 +3,73 @@ use Rattle.std.proofs.Common.{◌∙◌, Err, ap, arith, refl, subst, sym, rules
 use Rattle.std.proofs.lemmas.Result.{err_from_is_err_and}
 use Rattle.base65.specs.Outcome.{Unless}
 use Rattle.syntax65.specs.Faults.{is_system_error}
-use Rattle.expand65.specs.Representation.{StandsIn, state_of, outcome_of_line, step_of, place_of, state_in, mark_of}
-use Rattle.expand65.specs.State.{stops}
+use Rattle.expand65.specs.Representation.{IsStackPositionedIfKnown, state_of, outcome_of_line, step_of, location_of, state_in, end_mark_of}
+use Rattle.expand65.specs.State.{raises}
 use Rattle.expand65.specs.Expansion.{IsStep}
-use Rattle.expand65.specs.Failing.{StopsReading}
+use Rattle.expand65.specs.Failures.{HasFailureWhileReading}
 use Rattle.expand65.specs.declared.preprocessor.Preprocessor.{Preprocessor}
 use Rattle.expand65.specs.declared.preprocessor.LineOutcome.{LineOutcome}
 use Rattle.expand65.proofs.Lines.{moved_to}
-use Rattle.expand65.proofs.Going.{came_to_end, came_to_fault, gave, goes_on, none_led}
-use Rattle.expand65.proofs.Placed.{stands_back, stands_where}
-use Rattle.expand65.proofs.Stopping.{gone_on, none_gone, stops_later}
+use Rattle.expand65.proofs.StepSequences.{came_to_end, came_to_fault, gave, goes_on, none_led}
+use Rattle.expand65.proofs.FilePositions.{stands_back, stands_where}
+use Rattle.expand65.proofs.ExpansionFailures.{gone_on, none_gone, stops_later}
 use Rattle.expand65.proofs.expander.Expander.advance.Goals as goal
 
-pub returns-then-is_end-clause-comes : goal.returns-then-is_end-clause-comes
-returns-then-is_end-clause-comes g c =
+pub returns-then-is_end-clause-next_item : goal.returns-then-is_end-clause-next_item
+returns-then-is_end-clause-next_item g c =
     came_to_end (g.S.Store.files c.args.store.now) (g.K.Knows.meaning c.args.knows.now) c.args.self.now c.steps.self c.steps.invariant.so_far (sym c.is_end.ensures ∙ c.if-is_end.true)
 
-pub returns-in_err-turn-clause-comes : goal.returns-in_err-turn-clause-comes
-returns-in_err-turn-clause-comes g c =
+pub returns-in_err-line_outcome-clause-next_item : goal.returns-in_err-line_outcome-clause-next_item
+returns-in_err-line_outcome-clause-next_item g c =
     let p = err_from_is_err_and c.from_residual.result c.from_residual.ensures.1 in
     let o = g.S.Store.files c.args.store.now in
     let k = g.K.Knows.meaning c.args.knows.now in
-    let f = c.in_err-turn.field-0.0 in
-    let new = c.turn.new.self in
-    let step = moved_to (λ m. Unless (is_system_error f) (IsStep m k (state_in m c.steps.self) (stops (f, place_of new)))) o (g.S.Store.files c.steps.store) c.steps.invariant.files c.in_err-turn.ensures.turns in
+    let f = c.in_err-line_outcome.field-0.0 in
+    let new = c.line_outcome.new.self in
+    let step = moved_to (λ m. Unless (is_system_error f) (IsStep m k (state_in m c.steps.self) (raises (f, location_of new)))) o (g.S.Store.files c.steps.store) c.steps.invariant.files c.in_err-line_outcome.ensures.turns in
     rw (p.1, p.2) (came_to_fault o k c.args.self.now c.steps.self new f c.steps.invariant.so_far step)
 
-pub returns-in-Some-clause-comes : goal.returns-in-Some-clause-comes
-returns-in-Some-clause-comes g c =
+pub returns-in-Some-clause-next_item : goal.returns-in-Some-clause-next_item
+returns-in-Some-clause-next_item g c =
     let o = g.S.Store.files c.args.store.now in
     let k = g.K.Knows.meaning c.args.knows.now in
-    let mid = c.turn.new.self in
-    let new = c.follow.new.self in
-    let t = c.in_ok-turn.turn in
-    let step = moved_to (λ m. IsStep m k (state_in m c.steps.self) (outcome_of_line (state_of m mid.rewriter) t)) o (g.S.Store.files c.steps.store) c.steps.invariant.files c.in_ok-turn.ensures.turns in
-    gave o k c.args.self.now c.steps.self mid new t c.in-Some.statement c.steps.invariant.so_far step (λ m. c.follow.ensures.led m ∙ ap (step_of (state_in m new)) c.in-Some.is)
+    let mid = c.line_outcome.new.self in
+    let new = c.apply_outcome.new.self in
+    let t = c.in_ok-line_outcome.line_outcome in
+    let step = moved_to (λ m. IsStep m k (state_in m c.steps.self) (outcome_of_line (state_of m mid.processor) t)) o (g.S.Store.files c.steps.store) c.steps.invariant.files c.in_ok-line_outcome.ensures.turns in
+    gave o k c.args.self.now c.steps.self mid new t c.in-Some.statement c.steps.invariant.so_far step (λ m. c.apply_outcome.ensures.led m ∙ ap (step_of (state_in m new)) c.in-Some.is)
 
 pub returns-in-Some-clause-size : goal.returns-in-Some-clause-size
-returns-in-Some-clause-size g c = omega (arith, c.steps.invariant.size, c.in_ok-turn.ensures.size, c.follow.ensures.size)
+returns-in-Some-clause-size g c = omega (arith, c.steps.invariant.size, c.in_ok-line_outcome.ensures.size, c.apply_outcome.ensures.size)
 
 pub steps-preserved : goal.steps-preserved
 steps-preserved g c =
     let o = g.S.Store.files c.args.store.now in
     let k = g.K.Knows.meaning c.args.knows.now in
-    let mid = c.turn.new.self in
-    let new = c.follow.new.self in
-    let t = c.in_ok-turn.turn in
-    let step = moved_to (λ m. IsStep m k (state_in m c.steps.self) (outcome_of_line (state_of m mid.rewriter) t)) o (g.S.Store.files c.steps.store) c.steps.invariant.files c.in_ok-turn.ensures.turns in
-    let moves : StandsIn o mid.rewriter.reader → StandsIn o new.rewriter.reader = subst (λ (r : Preprocessor). StandsIn o r.reader) (sym c.follow.ensures.stands) in
+    let mid = c.line_outcome.new.self in
+    let new = c.apply_outcome.new.self in
+    let t = c.in_ok-line_outcome.line_outcome in
+    let step = moved_to (λ m. IsStep m k (state_in m c.steps.self) (outcome_of_line (state_of m mid.processor) t)) o (g.S.Store.files c.steps.store) c.steps.invariant.files c.in_ok-line_outcome.ensures.turns in
+    let moves : IsStackPositionedIfKnown o mid.processor.stack → IsStackPositionedIfKnown o new.processor.stack = subst (λ (r : Preprocessor). IsStackPositionedIfKnown o r.stack) (sym c.apply_outcome.ensures.stands) in
     record {
-      files = c.in_ok-turn.ensures.frame.files ∙ c.steps.invariant.files;
+      files = c.in_ok-line_outcome.ensures.frame.files ∙ c.steps.invariant.files;
       count = search rules;
-      size = omega (arith, c.steps.invariant.size, c.in_ok-turn.ensures.size, c.follow.ensures.size);
-      stands = λ h. moves (stands_back o (g.S.Store.files c.steps.store) c.steps.self.rewriter.reader mid.rewriter.reader c.steps.invariant.files c.in_ok-turn.ensures.stands (c.steps.invariant.stands h));
-      gone = gone_on o k c.args.self.now c.steps.self mid new t c.steps.invariant.gone step (λ m. c.follow.ensures.led m ∙ ap (step_of (state_in m new)) c.in_default.is);
-      so_far = goes_on o k c.args.self.now c.steps.self mid new t c.steps.invariant.so_far step (λ m. c.follow.ensures.led m ∙ ap (step_of (state_in m new)) c.in_default.is);
+      size = omega (arith, c.steps.invariant.size, c.in_ok-line_outcome.ensures.size, c.apply_outcome.ensures.size);
+      stands = λ h. moves (stands_back o (g.S.Store.files c.steps.store) c.steps.self.processor.stack mid.processor.stack c.steps.invariant.files c.in_ok-line_outcome.ensures.stands (c.steps.invariant.stands h));
+      gone = gone_on o k c.args.self.now c.steps.self mid new t c.steps.invariant.gone step (λ m. c.apply_outcome.ensures.led m ∙ ap (step_of (state_in m new)) c.in_default.is);
+      so_far = goes_on o k c.args.self.now c.steps.self mid new t c.steps.invariant.so_far step (λ m. c.apply_outcome.ensures.led m ∙ ap (step_of (state_in m new)) c.in_default.is);
     }
 
-pub returns-in_err-turn-clause-stopped : goal.returns-in_err-turn-clause-stopped
-returns-in_err-turn-clause-stopped g c = λ names.
+pub returns-in_err-line_outcome-clause-stopped : goal.returns-in_err-line_outcome-clause-stopped
+returns-in_err-line_outcome-clause-stopped g c = λ names.
     (let p = err_from_is_err_and c.from_residual.result c.from_residual.ensures.1 in
     let o = g.S.Store.files c.args.store.now in
     let k = g.K.Knows.meaning c.args.knows.now in
-    let f = c.in_err-turn.field-0.0 in
-    let new = c.turn.new.self in
-    let last_failure = g.S.Store.last_failure c.turn.new.store in
-    let stopped = moved_to (λ m. StopsReading {A = LineOutcome} m last_failure k (state_in m c.steps.self) (Err f) (mark_of new.rewriter.reader.top) (place_of new)) o (g.S.Store.files c.steps.store) c.steps.invariant.files (c.in_err-turn.ensures.stopped (stands_where o (g.S.Store.files c.steps.store) c.steps.self.rewriter.reader c.steps.invariant.files (c.steps.invariant.stands names))) in
-    stops_later LineOutcome o last_failure k c.args.self.now c.steps.self (mark_of new.rewriter.reader.top) (place_of new) c.from_residual.result f (p.1 ∙ ap Err p.2) c.steps.invariant.gone stopped)
+    let f = c.in_err-line_outcome.field-0.0 in
+    let new = c.line_outcome.new.self in
+    let last_failure = g.S.Store.last_failure c.line_outcome.new.store in
+    let stopped = moved_to (λ m. HasFailureWhileReading {A = LineOutcome} m last_failure k (state_in m c.steps.self) (Err f) (end_mark_of new.processor.stack.top) (location_of new)) o (g.S.Store.files c.steps.store) c.steps.invariant.files (c.in_err-line_outcome.ensures.stopped (stands_where o (g.S.Store.files c.steps.store) c.steps.self.processor.stack c.steps.invariant.files (c.steps.invariant.stands names))) in
+    stops_later LineOutcome o last_failure k c.args.self.now c.steps.self (end_mark_of new.processor.stack.top) (location_of new) c.from_residual.result f (p.1 ∙ ap Err p.2) c.steps.invariant.gone stopped)
 
 pub steps-init : goal.steps-init
 steps-init g c =
@@ -87,9 +87,9 @@ steps-init g c =
 pub returns-in-Some-clause-stands : goal.returns-in-Some-clause-stands
 returns-in-Some-clause-stands g c = λ stands.
     (let o = g.S.Store.files c.args.store.now in
-    let old = c.steps.self.rewriter.reader in
-    let mid = c.turn.new.self.rewriter.reader in
-    subst (λ (r : Preprocessor). StandsIn o r.reader) (sym c.follow.ensures.stands) (stands_back o (g.S.Store.files c.steps.store) old mid c.steps.invariant.files c.in_ok-turn.ensures.stands (c.steps.invariant.stands stands)))
+    let old = c.steps.self.processor.stack in
+    let mid = c.line_outcome.new.self.processor.stack in
+    subst (λ (r : Preprocessor). IsStackPositionedIfKnown o r.stack) (sym c.apply_outcome.ensures.stands) (stands_back o (g.S.Store.files c.steps.store) old mid c.steps.invariant.files c.in_ok-line_outcome.ensures.stands (c.steps.invariant.stands stands)))
 
 pub returns-in-Some-clause-stopped : goal.returns-in-Some-clause-stopped
 returns-in-Some-clause-stopped g c = grind (arith, common_steps)

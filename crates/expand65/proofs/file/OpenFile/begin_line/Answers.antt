@@ -1,12 +1,12 @@
 use Rattle.std.proofs.Common.{◌+◌, ◌∙◌, ap, sym}
 use Rattle.std.proofs.lemmas.Result.{err_from_is_err_and}
 use Rattle.expand65.specs.Lines.{IsFileAt, IsReadingAt, location_at}
-use Rattle.expand65.proofs.Counting.{reads_on_at, stops_before, where_failed_at}
-use Rattle.expand65.proofs.Opening.{file_begins}
+use Rattle.expand65.proofs.LineCounts.{reads_on_at, stops_before, where_failed_at}
+use Rattle.expand65.proofs.LineReads.{file_begins}
 use Rattle.expand65.proofs.file.OpenFile.begin_line.Goals as goal
 
-pub returns-in-Some-clause-comes : goal.returns-in-Some-clause-comes
-returns-in-Some-clause-comes g c =
+pub returns-in-Some-clause-next_item : goal.returns-in-Some-clause-next_item
+returns-in-Some-clause-next_item g c =
     file_begins (g.S.Store.files c.args.store.now) c.has_more.new.self c.in-Some.number (c.in_ok-has_more.ensures.more c.if-not-branch.false) c.in-Some.ensures.1
 
 pub returns-in-Some-clause-onward : goal.returns-in-Some-clause-onward

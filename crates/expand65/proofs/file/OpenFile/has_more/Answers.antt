@@ -1,5 +1,5 @@
 use Rattle.std.proofs.Common.{◌≤◌, arith, length}
-use Rattle.expand65.proofs.Counting.{none_left}
+use Rattle.expand65.proofs.LineCounts.{none_left}
 use Rattle.expand65.proofs.file.OpenFile.has_more.Goals as goal
 
 pub returns-then-self-ge-MAX_FILE-clause-none : goal.returns-then-self-ge-MAX_FILE-clause-none

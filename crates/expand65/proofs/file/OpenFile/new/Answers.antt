@@ -1,5 +1,5 @@
-use Rattle.expand65.proofs.Counting.{opens_after}
-use Rattle.expand65.proofs.Opening.{opens}
+use Rattle.expand65.proofs.LineCounts.{opens_after}
+use Rattle.expand65.proofs.LineReads.{opens}
 use Rattle.expand65.proofs.file.OpenFile.new.Goals as goal
 
 pub returns-clause-lines : goal.returns-clause-lines

@@ -3,7 +3,7 @@ use Rattle.std.specs.Option.{option_map}
 use Rattle.std.specs.Prelude.{is_some, option_copied}
 use Rattle.std.specs.declared.rc.Rc.{Rc}
 use Rattle.expand65.specs.declared.macro_replay.Body.{Body}
-use Rattle.expand65.proofs.Defining.{named, shared}
+use Rattle.expand65.proofs.Definitions.{named, shared}
 use Rattle.expand65.proofs.preprocessor.Preprocessor.has_macro.Goals as goal
 
 some_shared : (o : Option (Bor (Rc Body Global))) → is_some o ≡ is_some (option_map shared (option_copied o))

@@ -5,7 +5,7 @@ use Rattle.expand65.specs.Macros.{macro_at}
 use Rattle.expand65.specs.Replay.{definition_of}
 use Rattle.expand65.specs.Representation.{macros_of}
 use Rattle.expand65.specs.declared.macro_replay.Body.{Body}
-use Rattle.expand65.proofs.Defining.{named, shared}
+use Rattle.expand65.proofs.Definitions.{named, shared}
 use Rattle.expand65.proofs.preprocessor.Preprocessor.macro_at.Goals as goal
 
 pub returns-in_ok-clone-in-Some : goal.returns-in_ok-clone-in-Some

@@ -1,6 +1,6 @@
 use Rattle.std.proofs.Common.{rules}
 use Rattle.std.proofs.Output.{has_written_append, has_written_of_eq}
-use Rattle.library65.proofs.Shown.{encode-more}
+use Rattle.library65.proofs.DisplayNames.{encode-more}
 use Rattle.library65.proofs.fault.CodesDisplay.fmt.Goals as goal
 
 pub loop-byte-preserved : goal.loop-byte-preserved

@@ -1,6 +1,6 @@
 use Rattle.std.proofs.Common.{◌≡◌, ◌∙◌, List, Ok, true, false, map, refl, sym, subst, ap}
 use Rattle.std.specs.List.{AllByRecursion}
-use Rattle.library65.specs.Libraries.{member_names, IsStored, member_of}
+use Rattle.library65.specs.Libraries.{member_names, HasMatchingContents, member_of}
 use Rattle.library65.specs.Spelling.{are_member_names, is_among, Member}
 use Rattle.library65.proofs.Edits.{known, remove_stored, removed, without_good}
 use Rattle.library65.proofs.library.Library.delete.Goals as goal
@@ -15,7 +15,7 @@ invariant_of-self c =
     let made = ap (map member_of) c.shift_remove.ensures.entries ∙ removed c.self.inside.members.entries c.args.name.now in
     record {
       names = ap (λ (ms : List Member). are_member_names (member_names ms)) made ∙ without_good (map member_of c.self.inside.members.entries) c.args.name.now c.self.invariant.names;
-      stored = subst (AllByRecursion IsStored) (sym c.shift_remove.ensures.entries) (remove_stored c.self.inside.members.entries c.args.name.now c.self.invariant.stored);
+      stored = subst (AllByRecursion HasMatchingContents) (sym c.shift_remove.ensures.entries) (remove_stored c.self.inside.members.entries c.args.name.now c.self.invariant.stored);
     }
 
 pub returns-clause-deleted : goal.returns-clause-deleted

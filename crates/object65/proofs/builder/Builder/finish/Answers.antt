@@ -3,7 +3,7 @@ use Rattle.std.specs.List.{AllByRecursion}
 use Rattle.object65.specs.Objects.{is_well_formed_object, section_len, section_limit}
 use Rattle.object65.specs.Internal.Sound.{state_in, state_of}
 use Rattle.object65.specs.Scanning.{object_from}
-use Rattle.object65.proofs.Withins.{reached_good, good_sized, if_given}
+use Rattle.object65.proofs.ItemLimits.{reached_good, good_sized, if_given}
 use Rattle.object65.proofs.builder.Builder.finish.Goals as goal
 
 pub returns-clause-good : goal.returns-clause-good

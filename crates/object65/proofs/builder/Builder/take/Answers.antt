@@ -1,22 +1,22 @@
-use Rattle.object65.specs.Scanning.{after, scan_step}
+use Rattle.object65.specs.Scanning.{state_after_record, scan_step}
 use Rattle.std.proofs.lemmas.Grind.{common_steps}
 use Rattle.std.proofs.Common.{arith}
-use Rattle.object65.specs.Record.{entry_of}
+use Rattle.object65.specs.Record.{raw_record}
 use Rattle.object65.specs.Internal.Sound.{state_in}
-use Rattle.object65.proofs.Withins.{room_next, whole_next}
+use Rattle.object65.proofs.ItemLimits.{room_next, whole_next}
 use Rattle.object65.proofs.builder.Builder.take.Goals as goal
 
 pub add_item-requires : goal.add_item-requires
 add_item-requires c =
     let b = c.self.inside in
     let whole = c.self.invariant c.if-self.false in
-    room_next (state_in b.parts b.scan) b.scan (entry_of c.args.next.now) (c.take.new.self, c.in_ok-item.item) whole.reached whole.scanned c.in_ok-item.ensures.scanned
+    room_next (state_in b.parts b.scan) b.scan (raw_record c.args.next.now) (c.take.new.self, c.in_ok-item.item) whole.reached whole.scanned c.in_ok-item.ensures.scanned
 
 pub invariant_of-self-2 : goal.invariant_of-self-2
 invariant_of-self-2 c = λ running.
     let b = c.self.inside in
-    whole_next b.parts c.add_item.new.parts b.scan c.take.new.self (entry_of c.args.next.now) c.in_ok-item.item (c.self.invariant c.if-self.false) c.in_ok-item.ensures.scanned c.in_ok-item.ensures.within c.in_ok-add_item.ensures
+    whole_next b.parts c.add_item.new.parts b.scan c.take.new.self (raw_record c.args.next.now) c.in_ok-item.item (c.self.invariant c.if-self.false) c.in_ok-item.ensures.scanned c.in_ok-item.ensures.within c.in_ok-add_item.ensures
 
 pub returns-clause-taken : goal.returns-clause-taken
-unfolding after scan_step
+unfolding state_after_record scan_step
 returns-clause-taken c = grind (arith, common_steps)

@@ -1,6 +1,6 @@
 use Rattle.std.proofs.Common.{rules}
 use Rattle.std.proofs.Output.{has_written_append, has_written_of_eq}
-use Rattle.script65.proofs.Printed.{encode-more}
+use Rattle.script65.proofs.DisplayNames.{encode-more}
 use Rattle.script65.proofs.fault.ByteDisplayDisplay.fmt.Goals as goal
 
 pub loop-byte-preserved : goal.loop-byte-preserved

@@ -9,8 +9,8 @@ use Rattle.script65.proofs.reading.grammar.read_entries.Given as goal
 abbrev pub invariant-tokens : goal.invariant-tokens
 invariant-tokens l = record {
   inside : l.at ≤ length l.bytes;
-  new : IsFresh l.entries l.place;
-  so_far : (r : Result Entries FaultAt) → Reads l.bytes l.entries l.place l.at r → ReadsText l.bytes r;
+  new : IsFresh l.entries l.state;
+  so_far : (r : Result Entries FaultAt) → Reads l.bytes l.entries l.state l.at r → ReadsText l.bytes r;
 }
 
 abbrev pub decreases-tokens : goal.decreases-tokens

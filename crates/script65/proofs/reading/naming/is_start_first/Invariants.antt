@@ -6,8 +6,8 @@ use Rattle.script65.specs.Entries.{AttributeValue}
 use Rattle.script65.specs.Scripts.{is_start_first}
 use Rattle.script65.proofs.reading.naming.is_start_first.Given as goal
 
-abbrev pub invariant-loop-given : goal.invariant-loop-given
-invariant-loop-given l =
-    option_map_or (λ (g : AttributeValue). bytes_eq (codes "start") g.word)
-    (find (λ (g : AttributeValue). bytes_eq (codes "start") g.word || bytes_eq (codes "size") g.word) (drop l.given-index l.entry.given)) true
+abbrev pub invariant-loop-assignment : goal.invariant-loop-assignment
+invariant-loop-assignment l =
+    option_map_or (λ (g : AttributeValue). bytes_eq (codes "start") g.identifier)
+    (find (λ (g : AttributeValue). bytes_eq (codes "start") g.identifier || bytes_eq (codes "size") g.identifier) (drop l.assignment-index l.entry.assignments)) true
     ≡ is_start_first l.entry

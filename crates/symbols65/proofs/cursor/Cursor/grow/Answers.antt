@@ -8,6 +8,6 @@ pub invariant_of-self : goal.invariant_of-self
 invariant_of-self c =
     let w = c.self.inside in
     let gs = w.segments in
-    let capacity = subst (λ (v : Cursor). (context_of v).offset + c.args.count ≤ section_limit) (sym c.self.view_is) c.requires in
+    let fits = subst (λ (v : Cursor). (context_of v).offset + c.args.count ≤ section_limit) (sym c.self.view_is) c.requires in
     let e = written_grown gs.len c.grow.new.segments c.deref_mut.result.now gs.items w.current c.args.count c.args.alignment c.deref_mut.ensures.value c.deref_mut.ensures.len c.grow.auto.segments c.grow.ensures in
-    sound_grown w _ c.args.count c.args.alignment c.self.invariant capacity e refl refl refl
+    sound_grown w _ c.args.count c.args.alignment c.self.invariant fits e refl refl refl

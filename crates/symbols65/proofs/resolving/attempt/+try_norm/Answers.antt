@@ -2,9 +2,9 @@ use Rattle.std.proofs.Common.{ap, ◌∙◌, subst, sym, Result}
 use Rattle.std.proofs.lemmas.Result.{err_from_is_err_and}
 use Rattle.object65.specs.Form.{Form}
 use Rattle.base65.specs.Outcome.{◌>>=◌, Refines}
-use Rattle.ast65.specs.Faults.{is_memory}
+use Rattle.ast65.specs.Faults.{is_out_of_memory}
 use Rattle.symbols65.specs.declared.resolving.attempt.AttemptError.{AttemptError}
-use Rattle.symbols65.specs.Resolving.{lacks_memory, meaning_form, operand_form, attempt_result}
+use Rattle.symbols65.specs.Resolving.{lacks_memory, binding_form, operand_form, attempt_result}
 use Rattle.symbols65.specs.Views.{known_among, table_of}
 use Rattle.symbols65.proofs.Pursuits.{unless_more}
 use Rattle.symbols65.proofs.Scopes.{reference}
@@ -18,15 +18,15 @@ returns-in_err-meaning-in-Plain t c =
     let s = c.args.context in
     let known = known_among c.args.symbols.now c.args.known.now in
     let e = c.in_err-meaning-in-Plain.field-0.0 in
-    rw (p.1, p.2) (unless_more (is_memory e) (λ q.
+    rw (p.1, p.2) (unless_more (is_out_of_memory e) (λ q.
     sym (operand_tried (operand_form known y s) s c.args.value.now (reference c.kind.result.now c.args.value.now c.kind.ensures c.in-Plain.is))
-    ∙ ap (λ r. attempt_result r >>= meaning_form known y) q) c.in_err-meaning-in-Plain.ensures)
+    ∙ ap (λ r. attempt_result r >>= binding_form known y) q) c.in_err-meaning-in-Plain.ensures)
 
 pub returns-in_ok-meaning-in-Plain : goal.returns-in_ok-meaning-in-Plain
 returns-in_ok-meaning-in-Plain t c =
     let y = table_of c.args.symbols.now in
     let s = c.args.context in
     let known = known_among c.args.symbols.now c.args.known.now in
-    let P : Result Form AttemptError → Type 0 = λ r. Refines lacks_memory (λ f. f) c.meant.result r in
-    subst P (ap (λ r. attempt_result r >>= meaning_form known y) (sym c.in_ok-meaning-in-Plain.ensures)
-    ∙ operand_tried (operand_form known y s) s c.args.value.now (reference c.kind.result.now c.args.value.now c.kind.ensures c.in-Plain.is)) c.meant.ensures
+    let P : Result Form AttemptError → Type 0 = λ r. Refines lacks_memory (λ f. f) c.attempt_binding.result r in
+    subst P (ap (λ r. attempt_result r >>= binding_form known y) (sym c.in_ok-meaning-in-Plain.ensures)
+    ∙ operand_tried (operand_form known y s) s c.args.value.now (reference c.kind.result.now c.args.value.now c.kind.ensures c.in-Plain.is)) c.attempt_binding.ensures

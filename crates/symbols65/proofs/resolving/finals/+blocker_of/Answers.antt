@@ -3,8 +3,8 @@ use Rattle.syntax65.specs.Kinds.{tree_of}
 use Rattle.syntax65.specs.Trees.{Tree, binary}
 use Rattle.std.specs.Option.{ok_or, option_map}
 use Rattle.semantics65.specs.Symbols.{binding_of, defined_at}
-use Rattle.symbols65.specs.Internal.Absences.{absence}
-use Rattle.symbols65.specs.Resolving.{IsBlocked, meaning_in}
+use Rattle.symbols65.specs.Internal.BindingFaults.{binding_fault}
+use Rattle.symbols65.specs.Resolving.{IsBlocked, binding_in}
 use Rattle.symbols65.specs.Views.{table_of}
 use Rattle.symbols65.proofs.Blockers.{if_some, operand_blocked, right_blocked}
 use Rattle.symbols65.proofs.resolving.finals.+blocker_of.Goals as goal
@@ -27,7 +27,7 @@ returns-else-not-is_final t c =
     let e = c.args.value.now in
     let j = c.in-Defined.index in
     let means : binding_of y s e ≡ Ok (defined_at j) =
-    c.meaning_at.ensures
-    ∙ ap (λ o. ok_or (option_map meaning_in o) (absence y s e)) c.in_ok-index-in-Plain.was
-    ∙ ap (λ m. Ok (meaning_in m)) c.in-Defined.is in
+    c.binding_at.ensures
+    ∙ ap (λ o. ok_or (option_map binding_in o) (binding_fault y s e)) c.in_ok-index-in-Plain.was
+    ∙ ap (λ m. Ok (binding_in m)) c.in-Defined.is in
     if_some c.blocker_at.result (λ r h. operand_blocked y s e j r (c.is_final.ensures c.if-not-is_final.false means) h) c.blocker_at.ensures

@@ -6,6 +6,6 @@ use Rattle.symbols65.proofs.resolving.finals.binary_form.Goals as goal
 
 pub returns-in-Some-Some : goal.returns-in-Some-Some
 returns-in-Some-Some c =
-    let P : Option Form → Type 0 = λ o. IfOk c.folded.result (λ f. f ≡ binary_form c.args.op o (Some c.in-Some-Some.right)) in
-    let Q : Option Form → Type 0 = λ o. IfOk c.folded.result (λ f. f ≡ binary_form c.args.op c.args.left o) in
-    subst Q (sym c.in-Some-Some.is-1) (subst P (sym c.in-Some-Some.is-0) (c.folded.ensures (fold2 c.args.op c.in-Some-Some.left c.in-Some-Some.right) c.binary.ensures))
+    let P : Option Form → Type 0 = λ o. IfOk c.optional_folded_form.result (λ f. f ≡ binary_form c.args.op o (Some c.in-Some-Some.right)) in
+    let Q : Option Form → Type 0 = λ o. IfOk c.optional_folded_form.result (λ f. f ≡ binary_form c.args.op c.args.left o) in
+    subst Q (sym c.in-Some-Some.is-1) (subst P (sym c.in-Some-Some.is-0) (c.optional_folded_form.ensures (fold2 c.args.op c.in-Some-Some.left c.in-Some-Some.right) c.binary.ensures))

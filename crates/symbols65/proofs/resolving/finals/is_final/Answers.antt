@@ -3,7 +3,7 @@ use Rattle.std.proofs.lemmas.Bool.Decides.{nat_tests}
 use Rattle.syntax65.specs.Kinds.{tree_of}
 use Rattle.syntax65.specs.Trees.{Tree, name}
 use Rattle.semantics65.specs.Symbols.{binding_of, defined_at}
-use Rattle.symbols65.specs.Resolving.{MeansAlways, plain_part}
+use Rattle.symbols65.specs.Resolving.{HasFinalBinding, plain_part}
 use Rattle.symbols65.specs.Views.{table_of}
 use Rattle.symbols65.proofs.Finals.{backward_final, cheap_final, own_final, scoped_final}
 use Rattle.symbols65.proofs.resolving.finals.is_final.Goals as goal
@@ -20,7 +20,7 @@ returns-in-Plain c = λ yes means.
     let y = table_of t in
     let s = c.args.context in
     let j = c.args.index in
-    let P : Tree → Type 0 = λ e. binding_of y s e ≡ Ok (defined_at j) → MeansAlways y s e j in
+    let P : Tree → Type 0 = λ e. binding_of y s e ≡ Ok (defined_at j) → HasFinalBinding y s e j in
     let (m, key) = c.is_in.ensures yes in
     subst P (sym (ap tree_of c.in-Plain.is) ∙ c.kind.ensures) (own_final t s c.in-Plain.field-0 m j key) means)
 
@@ -31,7 +31,7 @@ returns-in-Some c = λ yes means.
     let s = c.args.context in
     let j = c.args.index in
     let written = c.in-Scoped.name in
-    let P : Tree → Type 0 = λ e. binding_of y s e ≡ Ok (defined_at j) → MeansAlways y s e j in
+    let P : Tree → Type 0 = λ e. binding_of y s e ≡ Ok (defined_at j) → HasFinalBinding y s e j in
     let (m, key) = c.is_in-in-Some.ensures yes in
     let plain : plain_part written.is_global written.parts ≡ Some c.in-Some.field-0.now = sym c.plain_part.ensures ∙ ap (option_map (λ n. n.now)) c.in-Some.is in
     subst P (plain_name written.is_global written.parts c.in-Some.field-0.now plain ∙ sym (ap tree_of c.in-Scoped.is) ∙ c.kind.ensures) (own_final t s c.in-Some.field-0.now m j key) means)
@@ -43,7 +43,7 @@ returns-in-None c = λ yes means.
     let s = c.args.context in
     let j = c.args.index in
     let written = c.in-Scoped.name in
-    let P : Tree → Type 0 = λ e. binding_of y s e ≡ Ok (defined_at j) → MeansAlways y s e j in
+    let P : Tree → Type 0 = λ e. binding_of y s e ≡ Ok (defined_at j) → HasFinalBinding y s e j in
     let plain : plain_part written.is_global written.parts ≡ None = sym c.plain_part.ensures ∙ ap (option_map (λ n. n.now)) c.in-None.is in
     let count = c.scope_count.ensures in
     let few : s.opened ≤ c.scope_count.result = grind (arith, nat_tests) in
@@ -54,7 +54,7 @@ returns-in-Cheap c = λ yes means.
     (let y = table_of c.args.symbols.now in
     let s = c.args.context in
     let j = c.args.index in
-    let P : Tree → Type 0 = λ e. binding_of y s e ≡ Ok (defined_at j) → MeansAlways y s e j in
+    let P : Tree → Type 0 = λ e. binding_of y s e ≡ Ok (defined_at j) → HasFinalBinding y s e j in
     subst P (sym (ap tree_of c.in-Cheap.is) ∙ c.kind.ensures) (cheap_final y s c.in-Cheap.field-0 j) means)
 
 pub returns-in-Backward : goal.returns-in-Backward
@@ -62,5 +62,5 @@ returns-in-Backward c = λ yes means.
     (let y = table_of c.args.symbols.now in
     let s = c.args.context in
     let j = c.args.index in
-    let P : Tree → Type 0 = λ e. binding_of y s e ≡ Ok (defined_at j) → MeansAlways y s e j in
+    let P : Tree → Type 0 = λ e. binding_of y s e ≡ Ok (defined_at j) → HasFinalBinding y s e j in
     subst P (sym (ap tree_of c.in-Backward.is) ∙ c.kind.ensures) (backward_final y s c.in-Backward.field-0 j) means)

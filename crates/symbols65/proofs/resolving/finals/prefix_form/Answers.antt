@@ -6,5 +6,5 @@ use Rattle.symbols65.proofs.resolving.finals.prefix_form.Goals as goal
 
 pub returns-in-Some : goal.returns-in-Some
 returns-in-Some c =
-    let P : Option Form → Type 0 = λ o. IfOk c.folded.result (λ f. f ≡ prefix_form c.args.op o) in
-    subst P (sym c.in-Some.is) (c.folded.ensures (fold1 c.args.op c.in-Some.part) c.prefix.ensures)
+    let P : Option Form → Type 0 = λ o. IfOk c.optional_folded_form.result (λ f. f ≡ prefix_form c.args.op o) in
+    subst P (sym c.in-Some.is) (c.optional_folded_form.ensures (fold1 c.args.op c.in-Some.part) c.prefix.ensures)

@@ -4,17 +4,17 @@ use Rattle.std.specs.Result.{result_ok}
 use Rattle.base65.specs.Outcome.{RefinesErr}
 use Rattle.indexmap.specs.IndexMap.{get}
 use Rattle.object65.specs.Form.{Form}
-use Rattle.ast65.specs.Faults.{is_memory}
+use Rattle.ast65.specs.Faults.{is_out_of_memory}
 use Rattle.ast65.specs.declared.fault.AsmFault.{AsmFault}
 use Rattle.ast65.specs.declared.fault.AsmFault.TheVariants.{Circular}
-use Rattle.semantics65.specs.declared.laid.Context.{Context}
+use Rattle.semantics65.specs.declared.contexts.Context.{Context}
 use Rattle.semantics65.specs.Norms.{norm_of}
 use Rattle.syntax65.specs.Trees.{Tree}
 use Rattle.symbols65.specs.declared.resolving.attempt.AttemptError.{AttemptError}
 use Rattle.symbols65.specs.declared.resolving.attempt.AttemptError.TheVariants.{Needs, Fault}
 use Rattle.symbols65.specs.declared.table.symbols.Symbols.{Symbols}
 use Rattle.symbols65.specs.declared.table.symbols.SearchEntry.{SearchEntry}
-use Rattle.symbols65.specs.Resolving.{form_attempt, lacks_memory, tried_at, tried_last}
+use Rattle.symbols65.specs.Resolving.{form_attempt, lacks_memory, constant_attempt, last_attempt}
 use Rattle.symbols65.specs.Tables.{AreSearched, entries_at, entry_at}
 use Rattle.symbols65.specs.Views.{entry_form, known_by, table_of}
 use Rattle.symbols65.proofs.Chains.{Among, last_course}
@@ -42,7 +42,7 @@ module _ (t : Symbols) (s : Context) (e : Tree) where
 
   -- the attempt at the last that is pending, by the forms that are known
   abbrev last_by : (ℕ → Option Form) → List ℕ → Result Form AttemptError
-  last_by known ws = tried_last (tried_at known (table_of t)) (form_attempt known (table_of t) s e) ws
+  last_by known ws = last_attempt (constant_attempt known (table_of t)) (form_attempt known (table_of t) s e) ws
 
   same_last : (searched : ℕ → Option SearchEntry) (ws0 ws : List ℕ) → ws0 ≡ ws → last_by (known_of t (entries_at count searched)) ws ≡ last_by (known_by t (λ j. entry_form (searched j))) ws0
   same_last searched ws0 ws is = ap (λ known. last_by known ws) (sym (known_same t count searched)) ∙ ap (last_by (known_by t (λ j. entry_form (searched j)))) (sym is)
@@ -101,7 +101,7 @@ module _ (t : Symbols) (s : Context) (e : Tree) where
 pub find-init : goal.find-init
 find-init c =
     let t = c.args.symbols.now in (
-      rw c.new-waiting.ensures.items (pursuit_starts t (entries_at (length (table_of t).definitions) (get nat_eq c.args.known.now)) (expression_course (table_of t) c.args.context c.args.value.now) c.requires.0),
+      rw c.new-pending_constants.ensures.items (pursuit_starts t (entries_at (length (table_of t).definitions) (get nat_eq c.args.known.now)) (expression_course (table_of t) c.args.context c.args.value.now) c.requires.0),
       c.requires.1,
     )
 
@@ -112,7 +112,7 @@ returns-in-None-clause-form c =
     let e = c.args.value.now in
     let searched = get nat_eq c.find.known in
     let before = entries_at (length (table_of t).definitions) (get nat_eq c.args.known.now) in
-    let ws = c.find.waiting.items in
+    let ws = c.find.pending_constants.items in
     let zero : length ws ≡ 0 = search (rules, c.in-None.ensures.cases) in
     found t s e before (entries_at (length (table_of t).definitions) searched) ws c.find.invariant.0 c.in-Ok.form (nil_from_length ws zero) (same_last t s e searched c.deref.result.now ws c.deref.ensures.value ∙ c.in-Ok.ensures)
 
@@ -123,7 +123,7 @@ returns-in-None-clause-first c = λ none.
     let e = c.args.value.now in
     let searched = get nat_eq c.find.known in
     let before = entries_at (length (table_of t).definitions) (get nat_eq c.args.known.now) in
-    let ws = c.find.waiting.items in
+    let ws = c.find.pending_constants.items in
     let zero : length ws ≡ 0 = search (rules, c.in-None.ensures.cases) in
     found t s e before (entries_at (length (table_of t).definitions) searched) ws c.find.invariant.0 c.in-Ok.form (nil_from_length ws zero) (same_last t s e searched c.deref.result.now ws c.deref.ensures.value ∙ c.in-Ok.ensures))
 
@@ -131,7 +131,7 @@ pub returns-in-None-clause-entries : goal.returns-in-None-clause-entries
 returns-in-None-clause-entries c =
     let t = c.args.symbols.now in
     let count = length (table_of t).definitions in
-    let ws = c.find.waiting.items in
+    let ws = c.find.pending_constants.items in
     let zero : length ws ≡ 0 = search (rules, c.in-None.ensures.cases) in (
       all_recorded t (entries_at count (get nat_eq c.args.known.now)) (entries_at count (get nat_eq c.find.known)) (expression_course (table_of t) c.args.context c.args.value.now) ws c.find.invariant.0 (nil_from_length ws zero) c.requires.0,
       c.find.invariant.1,
@@ -141,7 +141,7 @@ pub returns-in-None-clause-unmarked : goal.returns-in-None-clause-unmarked
 returns-in-None-clause-unmarked c = λ none.
     (let t = c.args.symbols.now in
     let count = length (table_of t).definitions in
-    let ws = c.find.waiting.items in
+    let ws = c.find.pending_constants.items in
     let zero : length ws ≡ 0 = search (rules, c.in-None.ensures.cases) in
     still_unmarked t (entries_at count (get nat_eq c.args.known.now)) (entries_at count (get nat_eq c.find.known)) (expression_course (table_of t) c.args.context c.args.value.now) ws c.find.invariant.0 (nil_from_length ws zero) none)
 
@@ -152,7 +152,7 @@ find-smaller-in-Continue-1 c =
     let old = get nat_eq c.find.known in
     let new = get nat_eq c.record.new.known in
     let fewer = unmet_no_more (entries_at count old) (entries_at count new) c.in-Some.last (Some c.in-Ok.form) (meets_form count old new c.in-Some.last c.in-Ok.form c.in_ok-record-in-Some.ensures) count in
-    let popped : length c.find.waiting.items ≡ length c.pop.new.self.items + 1 = ap length c.in-Some.ensures.items ∙ length-append c.pop.new.self.items (c.in-Some.last ∷ []) in
+    let popped : length c.find.pending_constants.items ≡ length c.pop.new.self.items + 1 = ap length c.in-Some.ensures.items ∙ length-append c.pop.new.self.items (c.in-Some.last ∷ []) in
     omega (arith, fewer, popped)
 
 pub find-preserved-in-Continue-1 : goal.find-preserved-in-Continue-1
@@ -166,13 +166,13 @@ find-preserved-in-Continue-1 c =
     let new = get nat_eq c.record.new.known in
     let before = entries_at count (get nat_eq c.args.known.now) in
     let met = entries_at count searched in
-    let ws = c.find.waiting.items in
+    let ws = c.find.pending_constants.items in
     let others = c.pop.new.self.items in
     let j = c.in-Some.last in
     let f = c.in-Ok.form in
     let p = c.find.invariant.0 in
     let known = known_of t met in
-    let at = tried_at known y in
+    let at = constant_attempt known y in
     let is : last_by t s e known ws ≡ Ok f = same_last t s e searched c.deref.result.now ws c.deref.ensures.value ∙ c.in-Ok.ensures in
     let own : at j ≡ Ok f = sym (last_tried at others (form_attempt known y s e) j) ∙ ap (last_by t s e known) (sym c.in-Some.ensures.items) ∙ is in (
       pursuit_up t before met (entries_at count new) (expression_course y s e) ws others j f (at j) p (attempt_at (p.turns + count) y known (pursuit_known t before met (expression_course y s e) ws p) j) own
@@ -188,10 +188,10 @@ returns-in-Err-Fault-clause-form c =
     let searched = get nat_eq c.find.known in
     let before = entries_at (length (table_of t).definitions) (get nat_eq c.args.known.now) in
     let met = entries_at (length (table_of t).definitions) searched in
-    let ws = c.find.waiting.items in
+    let ws = c.find.pending_constants.items in
     let z = c.in-Err-Fault.fault in
     let same = same_last t s e searched c.deref.result.now ws c.deref.ensures.value in
-    unless_more (is_memory z) (λ h. no_form (norm_of (table_of t) s e) z (ended t s e before met ws c.find.invariant.0 z (faults t s e before met ws c.find.invariant.0 z (same ∙ h))))
+    unless_more (is_out_of_memory z) (λ h. no_form (norm_of (table_of t) s e) z (ended t s e before met ws c.find.invariant.0 z (faults t s e before met ws c.find.invariant.0 z (same ∙ h))))
     (let P : AttemptError → Type 0 = λ x. RefinesErr lacks_memory x (last_by t s e (known_by t (λ j. entry_form (searched j))) c.deref.result.now) in subst P c.in-Err-Fault.field-0-is c.in-Err-Fault.ensures)
 
 pub returns-in-Err-Fault-clause-first : goal.returns-in-Err-Fault-clause-first
@@ -202,10 +202,10 @@ returns-in-Err-Fault-clause-first c = λ none.
     let searched = get nat_eq c.find.known in
     let before = entries_at (length (table_of t).definitions) (get nat_eq c.args.known.now) in
     let met = entries_at (length (table_of t).definitions) searched in
-    let ws = c.find.waiting.items in
+    let ws = c.find.pending_constants.items in
     let z = c.in-Err-Fault.fault in
     let same = same_last t s e searched c.deref.result.now ws c.deref.ensures.value in
-    unless_more (is_memory z) (λ h. ended t s e before met ws c.find.invariant.0 z (faults t s e before met ws c.find.invariant.0 z (same ∙ h)))
+    unless_more (is_out_of_memory z) (λ h. ended t s e before met ws c.find.invariant.0 z (faults t s e before met ws c.find.invariant.0 z (same ∙ h)))
     (let P : AttemptError → Type 0 = λ x. RefinesErr lacks_memory x (last_by t s e (known_by t (λ j. entry_form (searched j))) c.deref.result.now) in subst P c.in-Err-Fault.field-0-is c.in-Err-Fault.ensures))
 
 pub returns-in-Err-Fault-clause-entries : goal.returns-in-Err-Fault-clause-entries
@@ -216,56 +216,56 @@ returns-in-Err-Fault-clause-entries c =
     let searched = get nat_eq c.find.known in
     let before = entries_at (length (table_of t).definitions) (get nat_eq c.args.known.now) in
     let met = entries_at (length (table_of t).definitions) searched in
-    let ws = c.find.waiting.items in
+    let ws = c.find.pending_constants.items in
     let z = c.in-Err-Fault.fault in
     let same = same_last t s e searched c.deref.result.now ws c.deref.ensures.value in
-    unless_more (is_memory z) (λ h. (recorded t s e before met ws c.find.invariant.0 c.requires.0 z (faults t s e before met ws c.find.invariant.0 z (same ∙ h)), c.find.invariant.1))
+    unless_more (is_out_of_memory z) (λ h. (recorded t s e before met ws c.find.invariant.0 c.requires.0 z (faults t s e before met ws c.find.invariant.0 z (same ∙ h)), c.find.invariant.1))
     (let P : AttemptError → Type 0 = λ x. RefinesErr lacks_memory x (last_by t s e (known_by t (λ j. entry_form (searched j))) c.deref.result.now) in subst P c.in-Err-Fault.field-0-is c.in-Err-Fault.ensures)
 
-pub returns-then-is_met-clause-form : goal.returns-then-is_met-clause-form
-returns-then-is_met-clause-form c =
+pub returns-then-is_visited-clause-form : goal.returns-then-is_visited-clause-form
+returns-then-is_visited-clause-form c =
     let t = c.args.symbols.now in
     let s = c.args.context in
     let e = c.args.value.now in
     let searched = get nat_eq c.find.known in
     let before = entries_at (length (table_of t).definitions) (get nat_eq c.args.known.now) in
     let met = entries_at (length (table_of t).definitions) searched in
-    let ws = c.find.waiting.items in
+    let ws = c.find.pending_constants.items in
     let j = c.in-Err-Needs.index in
     let p = c.find.invariant.0 in
     let needs = needed t s e before met ws p c.in-Err-Needs.field-0 j (last_by t s e (known_by t (λ j. entry_form (searched j))) c.deref.result.now) (same_last t s e searched c.deref.result.now ws c.deref.ensures.value) c.in-Err-Needs.field-0-is c.in-Err-Needs.ensures in
-    let there : is_some (met j) ≡ true = ap (λ (n : ℕ). is_some (entry_at n (searched j))) (sym c.definition_count-count.ensures) ∙ sym c.is_met.ensures ∙ c.if-is_met.true in
+    let there : is_some (met j) ≡ true = ap (λ (n : ℕ). is_some (entry_at n (searched j))) (sym c.definition_count-count.ensures) ∙ sym c.is_visited.ensures ∙ c.if-is_visited.true in
     let (z, ends) = ended_met t s e before met ws p c.requires.0 j needs there in
     no_form (norm_of (table_of t) s e) z (ended t s e before met ws p z ends)
 
-pub returns-then-is_met-clause-first : goal.returns-then-is_met-clause-first
-returns-then-is_met-clause-first c = λ none.
+pub returns-then-is_visited-clause-first : goal.returns-then-is_visited-clause-first
+returns-then-is_visited-clause-first c = λ none.
     (let t = c.args.symbols.now in
     let s = c.args.context in
     let e = c.args.value.now in
     let searched = get nat_eq c.find.known in
     let before = entries_at (length (table_of t).definitions) (get nat_eq c.args.known.now) in
     let met = entries_at (length (table_of t).definitions) searched in
-    let ws = c.find.waiting.items in
+    let ws = c.find.pending_constants.items in
     let j = c.in-Err-Needs.index in
     let p = c.find.invariant.0 in
     let needs = needed t s e before met ws p c.in-Err-Needs.field-0 j (last_by t s e (known_by t (λ j. entry_form (searched j))) c.deref.result.now) (same_last t s e searched c.deref.result.now ws c.deref.ensures.value) c.in-Err-Needs.field-0-is c.in-Err-Needs.ensures in
-    let there : is_some (met j) ≡ true = ap (λ (n : ℕ). is_some (entry_at n (searched j))) (sym c.definition_count-count.ensures) ∙ sym c.is_met.ensures ∙ c.if-is_met.true in
+    let there : is_some (met j) ≡ true = ap (λ (n : ℕ). is_some (entry_at n (searched j))) (sym c.definition_count-count.ensures) ∙ sym c.is_visited.ensures ∙ c.if-is_visited.true in
     first_met t s e before met ws p none j needs there)
 
-pub returns-then-is_met-clause-entries : goal.returns-then-is_met-clause-entries
-returns-then-is_met-clause-entries c =
+pub returns-then-is_visited-clause-entries : goal.returns-then-is_visited-clause-entries
+returns-then-is_visited-clause-entries c =
     let t = c.args.symbols.now in
     let s = c.args.context in
     let e = c.args.value.now in
     let searched = get nat_eq c.find.known in
     let before = entries_at (length (table_of t).definitions) (get nat_eq c.args.known.now) in
     let met = entries_at (length (table_of t).definitions) searched in
-    let ws = c.find.waiting.items in
+    let ws = c.find.pending_constants.items in
     let j = c.in-Err-Needs.index in
     let p = c.find.invariant.0 in
     let needs = needed t s e before met ws p c.in-Err-Needs.field-0 j (last_by t s e (known_by t (λ j. entry_form (searched j))) c.deref.result.now) (same_last t s e searched c.deref.result.now ws c.deref.ensures.value) c.in-Err-Needs.field-0-is c.in-Err-Needs.ensures in
-    let there : is_some (met j) ≡ true = ap (λ (n : ℕ). is_some (entry_at n (searched j))) (sym c.definition_count-count.ensures) ∙ sym c.is_met.ensures ∙ c.if-is_met.true in
+    let there : is_some (met j) ≡ true = ap (λ (n : ℕ). is_some (entry_at n (searched j))) (sym c.definition_count-count.ensures) ∙ sym c.is_visited.ensures ∙ c.if-is_visited.true in
     let (z, ends) = ended_met t s e before met ws p c.requires.0 j needs there in
     (recorded t s e before met ws p c.requires.0 z ends, c.find.invariant.1)
 
@@ -278,11 +278,11 @@ find-smaller c =
     let searched = get nat_eq c.find.known in
     let before = entries_at count (get nat_eq c.args.known.now) in
     let met = entries_at count searched in
-    let ws = c.find.waiting.items in
+    let ws = c.find.pending_constants.items in
     let j = c.in-Err-Needs.index in
     let p = c.find.invariant.0 in
     let needs = needed t s e before met ws p c.in-Err-Needs.field-0 j (last_by t s e (known_by t (λ j. entry_form (searched j))) c.deref.result.now) (same_last t s e searched c.deref.result.now ws c.deref.ensures.value) c.in-Err-Needs.field-0-is c.in-Err-Needs.ensures in
-    let absent : met j ≡ None = none_of (met j) (ap (λ (n : ℕ). is_some (entry_at n (searched j))) (sym c.definition_count-count.ensures) ∙ sym c.is_met.ensures ∙ c.if-is_met.false) in
+    let absent : met j ≡ None = none_of (met j) (ap (λ (n : ℕ). is_some (entry_at n (searched j))) (sym c.definition_count-count.ensures) ∙ sym c.is_visited.ensures ∙ c.if-is_visited.false) in
     let new = get nat_eq c.record-in-Err-Needs.new.known in
     let fewer = unmet_fewer met (entries_at count new) j None (meets_mark count searched new j c.definition_count-count.result c.definition_count-count.ensures c.in_ok-record-in-Err-Needs.ensures) absent count (leads t s e before met ws p j needs).1 in
     let pushed : length c.push.new.self.items ≡ length ws + 1 = ap length c.in_ok-push-in-Err-Needs.ensures.items ∙ length-append ws (j ∷ []) in
@@ -297,7 +297,7 @@ find-preserved c =
     let searched = get nat_eq c.find.known in
     let before = entries_at count (get nat_eq c.args.known.now) in
     let met = entries_at count searched in
-    let ws = c.find.waiting.items in
+    let ws = c.find.pending_constants.items in
     let j = c.in-Err-Needs.index in
     let p = c.find.invariant.0 in
     let needs = needed t s e before met ws p c.in-Err-Needs.field-0 j (last_by t s e (known_by t (λ j. entry_form (searched j))) c.deref.result.now) (same_last t s e searched c.deref.result.now ws c.deref.ensures.value) c.in-Err-Needs.field-0-is c.in-Err-Needs.ensures in

@@ -1,6 +1,6 @@
 use Rattle.std.proofs.Common.{sym}
 use Rattle.symbols65.specs.Tables.{definition_in}
-use Rattle.symbols65.specs.Views.{words_of}
+use Rattle.symbols65.specs.Views.{interned_names_of}
 use Rattle.symbols65.proofs.Words.{get_mapped_none, without_imports}
 use Rattle.symbols65.proofs.table.symbols.Symbols.definition.Goals as goal
 
@@ -11,4 +11,4 @@ returns-in-Some-clause-forms c =
     ((λ f is z more. kept.0 f is z (without_imports t z more)), (λ r is z more none. kept.1 r is z (without_imports t z more) none))
 
 pub returns-in-None-clause-definition : goal.returns-in-None-clause-definition
-returns-in-None-clause-definition c = get_mapped_none (definition_in (words_of c.args.self.now)) c.args.self.now.definitions.entries c.args.index (sym c.in-None.ensures.entry)
+returns-in-None-clause-definition c = get_mapped_none (definition_in (interned_names_of c.args.self.now)) c.args.self.now.definitions.entries c.args.index (sym c.in-None.ensures.entry)

@@ -1,8 +1,8 @@
 use Rattle.std.proofs.Common.{sym, subst, false, IsTrue}
 use Rattle.std.proofs.lemmas.Result.{err_from_is_err_and}
-use Rattle.syntax65.specs.Forms.{BeginsWithClass, FaultAt}
-use Rattle.syntax65.specs.Tokens.{IsEnd, after_blanks}
-use Rattle.syntax65.specs.declared.lexing.places.Class.TheVariants.{Blank}
+use Rattle.syntax65.specs.Forms.{BeginsWithClass, HasFaultAt}
+use Rattle.syntax65.specs.Tokens.{IsEnd, without_leading_blanks}
+use Rattle.syntax65.specs.declared.lexing.positions.Class.TheVariants.{Blank}
 use Rattle.syntax65.proofs.Lines.{cut_off, no_blank_after}
 use Rattle.syntax65.proofs.lexing.lines.Lexer.next.Goals as goal
 
@@ -13,9 +13,9 @@ pub returns-in_err-kind-clause-next : goal.returns-in_err-kind-clause-next
 returns-in_err-kind-clause-next c =
     let p = err_from_is_err_and c.from_residual.result c.from_residual.ensures.1 in
     let same = c.skip_blanks-here.ensures in
-    let place : IsEnd (after_blanks c.args.self.now.rest.now) → ⊥ = λ e. (let f : IsTrue false = c.if-is_end.ensures.1 (subst IsEnd (sym same) e) in cc) in
-    let at : FaultAt c.args.self.now.first (after_blanks c.args.self.now.rest.now) c.in_err-kind.field-0.0 = rw (← same) c.in_err-kind.ensures in
-    rw (p.1, p.2) (place, at)
+    let not_end : IsEnd (without_leading_blanks c.args.self.now.rest.now) → ⊥ = λ e. (let f : IsTrue false = c.if-is_end.ensures.1 (subst IsEnd (sym same) e) in cc) in
+    let at : HasFaultAt c.args.self.now.first (without_leading_blanks c.args.self.now.rest.now) c.in_err-kind.field-0.0 = rw (← same) c.in_err-kind.ensures in
+    rw (p.1, p.2) (not_end, at)
 
 pub returns-clause-cut : goal.returns-clause-cut
 returns-clause-cut c = cut_off c.args.self.now.rest.now c.skip_blanks-here.result.now c.split_at.result.0.now c.split_at.result.1.now c.in_ok-kind.len c.skip_blanks-here.ensures c.split_at.ensures.front c.split_at.ensures.back

@@ -1,0 +1,23 @@
+use Rattle.std.proofs.Common.{◌∷◌, [], subst}
+use Rattle.syntax65.specs.Opcodes.{opcode_of}
+use Rattle.semantics65.specs.Contents.{opcode_part, operand_tree}
+use Rattle.semantics65.specs.Norms.{width_of}
+use Rattle.semantics65.specs.Views.{location_in}
+use Rattle.semantics65.specs.Module.{known_part, operand_pieces}
+use Rattle.asm65.specs.Internal.AssemblerState.{EmitsPieces}
+use Rattle.asm65.proofs.Enterings.{enters_both}
+use Rattle.symbols65.proofs.Measures.{ok_then}
+use Rattle.asm65.proofs.assembler.Assembler.emit_instruction.Goals as goal
+
+pub returns : goal.returns
+returns c =
+    let location = location_in c.args.site.at.file.now c.args.site.at.line in
+    let s = c.args.site.context in
+    let old = c.args.self.now in
+    let mid = c.emit_opcode.new.assembler in
+    let new = c.emit_operand.new.assembler in
+    let code = subst (λ code. EmitsPieces location s (known_part (opcode_part code) ∷ []) old mid) c.opcode.ensures (c.in_ok-emit_opcode.ensures.entered location) in
+    ok_then c.emit_operand.result
+    (λ value. enters_both location s (known_part (opcode_part (opcode_of c.args.mnemonic c.args.mode)) ∷ []) (operand_pieces (width_of c.args.mode) (operand_tree c.args.operand)) old mid new code
+    (subst (λ width. EmitsPieces location s (operand_pieces width (operand_tree c.args.operand)) mid new) c.width_of.ensures value))
+    c.emit_operand.ensures

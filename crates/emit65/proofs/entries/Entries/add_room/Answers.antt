@@ -1,8 +1,0 @@
-use Rattle.std.proofs.Common.{refl}
-use Rattle.emit65.proofs.Standings.{added_room}
-use Rattle.emit65.proofs.entries.Entries.add_room.Goals as goal
-
-pub returns : goal.returns
-returns c =
-    let begun = c.in_ok-begin.ensures in
-    λ files. added_room files c.args.self.now _ _ c.args.segment c.args.count (begun.same files) begun.segment refl refl refl c.in_ok-self.ensures

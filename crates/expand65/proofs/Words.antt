@@ -1,9 +1,0 @@
--- Words that are kept of a line.
-use Rattle.std.proofs.Common.{◌≡◌, ◌++◌, ℕ, List}
-use Rattle.syntax65.specs.Tokens.{Lexeme}
-use Rattle.expand65.specs.Replay.{cut}
-use Rattle.expand65.specs.declared.line.StoredToken.{StoredToken}
-
--- these words are so many tokens in the bytes, whatever is put behind them
-abbrev pub AreKept : List StoredToken → List ℕ → List Lexeme → Type 0
-AreKept words bytes ts = (ws : List StoredToken) (bs : List ℕ) → cut (words ++ ws) (bytes ++ bs) ≡ ts ++ cut ws bs

@@ -1,9 +1,0 @@
-use Rattle.std.proofs.lemmas.Grind.{common_steps}
-use Rattle.std.proofs.Common.{arith}
-use Rattle.expand65.proofs.expander.Expander.label_of_given.Goals as goal
-
-pub returns-in_default-clause-given : goal.returns-in_default-clause-given
-returns-in_default-clause-given c = grind (arith, common_steps)
-
-pub returns-in_default-2-clause-given : goal.returns-in_default-2-clause-given
-returns-in_default-2-clause-given c = grind (arith, common_steps)

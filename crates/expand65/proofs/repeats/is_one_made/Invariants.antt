@@ -1,7 +1,0 @@
-use Rattle.std.proofs.Common.{◌≡◌, drop, map}
-use Rattle.std.specs.List.{list_any}
-use Rattle.expand65.specs.Macros.{is_made}
-use Rattle.expand65.proofs.repeats.is_one_made.Given as goal
-
-abbrev pub invariant-loop-name : goal.invariant-loop-name
-invariant-loop-name l = list_any is_made (map (λ s. s.now) (drop l.name-index l.names)) ≡ list_any is_made (map (λ s. s.now) l.names)

@@ -1,5 +1,0 @@
-use Rattle.library65.proofs.Selections.{selection_grows}
-use Rattle.library65.proofs.laws.selection_grows.Goals as goal
-
-pub returns : goal.returns
-returns c = selection_grows

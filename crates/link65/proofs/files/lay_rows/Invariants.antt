@@ -1,8 +1,0 @@
-use Rattle.std.proofs.Common.{List, ℕ, drop}
-use Rattle.link65.specs.Internal.Loads.{LaysAll}
-use Rattle.link65.proofs.FileLemmas.{pieces_in}
-use Rattle.link65.proofs.files.lay_rows.Given as goal
-
-abbrev pub invariant-loop-load : goal.invariant-loop-load
-invariant-loop-load l =
-    (new : List ℕ) → LaysAll (pieces_in l.start (drop l.load-index l.loads)) l.image new → LaysAll (pieces_in l.start l.loads) l.fn.image new

@@ -1,7 +1,0 @@
-use Rattle.std.proofs.Common.{◌∙◌, sym}
-use Rattle.std.specs.Str.{bytes_eq}
-use Rattle.link65.proofs.SegmentLemmas.{position_map}
-use Rattle.link65.proofs.growing.place_of.Goals as goal
-
-pub returns-clause-index : goal.returns-clause-index
-returns-clause-index c = c.get_index_of.ensures.index ∙ sym (position_map (bytes_eq c.args.name.now) (λ n. n.items) c.args.names.now.keys)

@@ -1,5 +1,0 @@
-use Rattle.link65.proofs.GrowingLaw.{growth_law}
-use Rattle.link65.proofs.laws.items_grow_a_program.Goals as goal
-
-pub returns : goal.returns
-returns c = growth_law

@@ -1,5 +1,0 @@
-use Rattle.object65.proofs.Foldings.{binary_fold_law}
-use Rattle.object65.proofs.laws.binary_keeps_its_value.Goals as goal
-
-pub returns : goal.returns
-returns g c = binary_fold_law _

@@ -1,5 +1,0 @@
-use Rattle.std.proofs.Common.{◌∙◌, sym}
-use Rattle.object65.proofs.laws.spelling_is_unique.Goals as goal
-
-pub returns : goal.returns
-returns c = λ a b o first second. first.spelled ∙ sym second.spelled

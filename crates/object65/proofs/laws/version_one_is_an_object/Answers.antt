@@ -1,5 +1,0 @@
-use Rattle.object65.proofs.Versions.{version_law}
-use Rattle.object65.proofs.laws.version_one_is_an_object.Goals as goal
-
-pub returns : goal.returns
-returns c = version_law

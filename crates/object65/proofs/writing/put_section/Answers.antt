@@ -1,9 +1,0 @@
-use Rattle.std.proofs.lemmas.Grind.{common_steps}
-use Rattle.std.proofs.Common.{arith}
-use Rattle.object65.proofs.writing.put_section.Goals as goal
-
-pub put_record-requires : goal.put_record-requires
-put_record-requires c = grind (arith, common_steps)
-
-pub returns : goal.returns
-returns c = grind (arith, common_steps)

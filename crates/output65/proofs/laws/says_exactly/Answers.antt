@@ -1,5 +1,0 @@
-use Rattle.output65.proofs.Exactly.{says_exactly}
-use Rattle.output65.proofs.laws.says_exactly.Goals as goal
-
-pub returns : goal.returns
-returns c = says_exactly

@@ -1,5 +1,0 @@
-use Rattle.script65.proofs.SyntaxErrors.{first_faults}
-use Rattle.script65.proofs.laws.first_faults.Goals as goal
-
-pub returns : goal.returns
-returns c = first_faults

@@ -1,5 +1,0 @@
-use Rattle.script65.proofs.LongestTokens.{longest_tokens}
-use Rattle.script65.proofs.laws.longest_tokens.Goals as goal
-
-pub returns : goal.returns
-returns c = longest_tokens

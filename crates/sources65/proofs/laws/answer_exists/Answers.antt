@@ -1,5 +1,0 @@
-use Rattle.sources65.proofs.SomeLayouts.{some_answer}
-use Rattle.sources65.proofs.laws.answer_exists.Goals as goal
-
-pub returns : goal.returns
-returns c = some_answer

@@ -1,5 +1,0 @@
-use Rattle.sources65.proofs.Resolving.{final_settles}
-use Rattle.sources65.proofs.laws.final_settles.Goals as goal
-
-pub returns : goal.returns
-returns c = final_settles

@@ -1,0 +1,5 @@
+use Rattle.sources65.proofs.SomeLayouts.{some_answer}
+use Rattle.sources65.proofs.laws.outcome_exists.Goals as goal
+
+pub returns : goal.returns
+returns c = some_answer

@@ -1,5 +1,0 @@
-use Rattle.sources65.proofs.SoundContents.{sound_contents}
-use Rattle.sources65.proofs.laws.sound_contents.Goals as goal
-
-pub returns : goal.returns
-returns c = sound_contents

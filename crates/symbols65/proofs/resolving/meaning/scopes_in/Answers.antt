@@ -1,7 +1,0 @@
-use Rattle.std.proofs.Common.{ap, ◌∙◌, sym}
-use Rattle.semantics65.specs.Symbols.{scopes_of}
-use Rattle.symbols65.proofs.Scopes.{scopes_before}
-use Rattle.symbols65.proofs.resolving.meaning.scopes_in.Goals as goal
-
-pub returns-in-Some : goal.returns-in-Some
-returns-in-Some c = sym (ap scopes_of c.in-Some.ensures.cases.0 ∙ scopes_before c.in-Some.scopes.now c.in-Some.field-0-0.now)

@@ -1,6 +1,0 @@
-use Rattle.std.proofs.Common.{arith}
-use Rattle.syntax65.proofs.Fronts.{prefix_here}
-use Rattle.syntax65.proofs.lexing.places.word_at.Goals as goal
-
-pub returns-in-Some : goal.returns-in-Some
-returns-in-Some c = record { longest = prefix_here c.args.first c.in-Some.size c.args.here.now c.in-Some.ensures; short = omega arith; value = tt }

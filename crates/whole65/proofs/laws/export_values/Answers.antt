@@ -1,5 +1,0 @@
-use Rattle.whole65.proofs.Files.{export_value_law}
-use Rattle.whole65.proofs.laws.export_values.Goals as goal
-
-pub returns : goal.returns
-returns c = export_value_law

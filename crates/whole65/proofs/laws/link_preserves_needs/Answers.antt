@@ -1,0 +1,5 @@
+use Rattle.whole65.proofs.Needs.{same_needs}
+use Rattle.whole65.proofs.laws.link_preserves_needs.Goals as goal
+
+pub returns : goal.returns
+returns c = same_needs

@@ -1,5 +1,0 @@
-use Rattle.whole65.proofs.Offsets.{offset_law}
-use Rattle.whole65.proofs.laws.offsets.Goals as goal
-
-pub returns : goal.returns
-returns c = offset_law

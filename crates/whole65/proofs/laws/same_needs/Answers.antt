@@ -1,5 +1,0 @@
-use Rattle.whole65.proofs.Needs.{same_needs}
-use Rattle.whole65.proofs.laws.same_needs.Goals as goal
-
-pub returns : goal.returns
-returns c = same_needs

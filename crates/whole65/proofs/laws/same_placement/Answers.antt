@@ -1,5 +1,0 @@
-use Rattle.whole65.proofs.Rows.{placement_law}
-use Rattle.whole65.proofs.laws.same_placement.Goals as goal
-
-pub returns : goal.returns
-returns c = placement_law

@@ -1,5 +1,0 @@
-use Rattle.whole65.proofs.SameValues.{same_values_law}
-use Rattle.whole65.proofs.laws.same_values.Goals as goal
-
-pub returns : goal.returns
-returns g c = same_values_law _

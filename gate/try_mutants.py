@@ -144,11 +144,11 @@ def tried(rt, crate, edit, kept):
     if said:
         return True, f"{crate.name}/{os.path.basename(edit)}: refused, as it must be, by its modules alone: {said[:160]}"
     flags = ["--jobs", "1"]
-    is_refused, text = over(kept, lambda room: rt.must_fail(crate, edit, flags, room)) if kept else rt.must_fail(crate, edit, flags)
-    if is_refused and text.endswith("refused, as it must be"):
+    verdict, text = over(kept, lambda room: rt.must_fail(crate, edit, flags, room)) if kept else rt.must_fail(crate, edit, flags)
+    if text.endswith("refused, as it must be"):
         # (for example, if the borrow checker rejects the edited function)
         return False, f"{text}, but nothing that it breaks is named, so no contract was tried"
-    return is_refused, text
+    return verdict == rt.REFUSED, text
 
 
 def tried_together(rt, crate, edits, kept, jobs, keep):

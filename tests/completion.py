@@ -50,7 +50,7 @@ complete_words() {
 """
 # What a line of the crate adds to a command, by the function's name: how often an option or a word is allowed.
 ADDS = {"with_option": "[-{} X]", "with_required_option": "-{} X", "with_repeated_option": "[-{} X]..", "with_flag": "[-{}]",
-        "with_word": "W", "with_words": "W..", "with_any_words": "[W].."}
+        "with_positional": "W", "with_required_positionals": "W..", "with_optional_positionals": "[W].."}
 
 
 def words_of(line):

@@ -268,6 +268,33 @@ def earlier():
     return checks
 
 
+class Verdicts:
+    """The module `rt` with a verdict on every edit."""
+
+    REFUSED = "refused"
+
+    def __init__(self, verdict, text):
+        self.verdict = verdict, f"must-fail made/one.edit: {text}"
+
+    def must_fail(self, crate, edit, flags):
+        return self.verdict
+
+
+def alone():
+    """Checks which verdicts on a mutant that is tried alone count as refused."""
+    rows = (
+        ("refused by a goal", True, "refused", "refused, as it must be: src/one.rt:3:1: error: no proof"),
+        ("refused for a name, which says so", True, "refused", "refused, as it must be (only because a proof file names what the edit took away): proofs/one"),
+        ("refused without an error", False, "refused", "refused, as it must be"),
+        ("at a limit of the prover", False, "limit", "refused, as it must be (only by a limit of the prover): src/one.rt:3:1: error"),
+        ("proved", False, "missed", "NOT REFUSED: the crate is still proved with this edit"),
+        ("not parsed", False, "bad", "BAD EDIT: the prover cannot read the edited text"),
+        ("not tried", False, "unsure", "NOT TRIED: its check was killed"),
+    )
+    crate = Proved("made")
+    return {name: try_mutants.tried(Verdicts(verdict, text), crate, "one.edit", None)[0] is is_refused for name, is_refused, verdict, text in rows}
+
+
 def scripts():
     """Checks that the scripts start once, when the program is built."""
     started, was = [], (gate.PROGRAM, gate.TEXTS, gate.SCRIPTS, gate.EXAMPLES)
@@ -433,7 +460,7 @@ def names():
 
 
 def main():
-    checks = {**together(kit.load()), **turns(), **failures(), **listed(), **earlier(), **scripts(), **beside(), **plan(), **words(), **names()}
+    checks = {**together(kit.load()), **turns(), **failures(), **listed(), **earlier(), **alone(), **scripts(), **beside(), **plan(), **words(), **names()}
     return results.report(checks)
 
 

@@ -14,7 +14,7 @@ import pages
 # Crates whose texts no command prints: those of tests.
 TESTS = re.compile(r"/crates/tests_\w+/")
 # Functions that make texts, and the texts in them.
-MAKERS = re.compile(r"^(fmt|words|own_words|\w+_words|\w+_message|\w+_warning|row_warnings|data_warning|fault_text|text_of|assertion\w*)$")
+MAKERS = re.compile(r"^(fmt|message_text|fault_text|\w+_message|\w+_warning|assertion\w*)$")
 FUNCTION = re.compile(r"^( *)(?:pub )?fn (\w+).*?^\1}$", re.M | re.S)
 TEXT = re.compile(r'b?"((?:[^"\\\n]|\\.)*)"')
 ROW = re.compile(r"^\| [^|]+ \| (`[^|]+`) \| (`[^|]+`) \|$", re.M)

@@ -52,6 +52,9 @@ pub record Given : Type 0 where
 
 abbrev pub is : ℕ
 is = 0
+
+abbrev pub count : ℕ
+count = λ c. c.kept
 """,
     "crates/low65/proofs/store/read_all/Answers.antt": """use Rattle.low65.proofs.store.read_all.Goals as goal
 pub returns-in-Gone-clause-read : goal.returns-in-Gone-clause-read
@@ -78,6 +81,7 @@ Gives = low.Gives × low.found
     "crates/high65/proofs/all/Answers.antt": """use Rattle.low65.specs.Outcome.{Gives}
 use Rattle.high65.proofs.all.Goals as goal
 returns c = c.read_all.ensures.read ∙ c.in_err-bytes.ensures.read ∙ c.all.ensures.read ∙ Gives
+pub read_all-requires : goal.read_all-requires
 """,
     "docs/PROVED.md": "### low65\n\n| it | `read_all` | `read`; `Gives` |\n\n### high65\n\n| `Gives` | `found` |\n",
 }
@@ -118,6 +122,7 @@ CASES = {
         ("low65/src/lib.rt", "read_all", "read_whole"), ("low65/src/store.rt", "fn read_all", "fn read_whole"),
         ("low65/proofs/store/read_all/Answers.antt", "store.read_all", "store.read_whole"), ("high65/src/lib.rt", "read_all", "read_whole"),
         ("high65/proofs/all/Answers.antt", "c.read_all", "c.read_whole"), ("PROVED", "`read_all`", "`read_whole`"),
+        ("high65/proofs/all/Answers.antt", "pub read_all-", "pub read_whole-"), ("high65/proofs/all/Answers.antt", "goal.read_all-", "goal.read_whole-"),
         ("low65/proofs/store/read_all/", None, "low65/proofs/store/read_whole/")]),
     "a label of one crate": ([LABEL], [
         ("low65/src/store.rt", "ensures read {", "ensures result {"), ("low65/proofs/store/read_all/Answers.antt", "clause-read", "clause-result"),
@@ -129,6 +134,9 @@ CASES = {
         ("low65/src/store.rt", "{ pub line:", "{ pub number:"), ("low65/src/store.rt", "let line", "let number"), ("low65/src/store.rt", "{ line,", "{ number,"),
         ("low65/src/store.rt", "place.line", "place.number"), ("low65/proofs/store/read_all/Answers.antt", "place.line", "place.number"),
         ("low65/mutants/no_line.edit", "place.line", "place.number")]),
+    "a field of a bound variable": (["low65\tfield\t-\tkept\tsaved"], [
+        ("low65/src/store.rt", "pub kept:", "pub saved:"), ("low65/src/store.rt", "kept: self.kept", "saved: self.saved"),
+        ("low65/specs/Outcome.antt", "c.kept", "c.saved")]),
     "a word": (["low65 high65\tword\t-\tfound\tvalue"], [
         *((f"low65/{file}", old, old.replace("found", "value")) for file, olds in {
             "src/store.rt": ["{Gives, found}", "moved { Gives found", "read { Gives found", "    found("],
@@ -164,9 +172,9 @@ REAL = """base65 definition Outcome Refines|base65 definition Outcome RefinesPro
 base65 definition Store PropagatesIoError|base65 definition Store LastFailure|base65 type - PathString|base65 type - ListVec
 syntax65 type source_location SourceLocation|cli65 type - LinkArgs|object65 definition Reading StoreFrame
 asm65 definition Internal.RunState RefinesTransition|asm65 definition Internal.AssemblerState Represents|sources65 definition Machine StepsTo
-script65 type reading.words ValueKind|script65 type - SegmentRow|script65 type - MemoryArea|script65 type reading.grammar ParseState
+script65 type reading.keyword_tables ValueKind|script65 type - SegmentRow|script65 type - MemoryArea|script65 type reading.grammar ParseState
 expand65 type - Replacement|expand65 method - replacement_for|semantics65 type - EncodingChoice
-semantics65 variant laid.EncodingChoice Undecided|semantics65 type - LocationRef|semantics65 definition Module piece_result
+semantics65 variant contexts.EncodingChoice Undecided|semantics65 type - LocationRef|semantics65 definition Module piece_result
 semantics65 definition Symbols LaidOutStatement|asm65 source-module - statement|asm65 source-module - finish
 asm65 spec-module - Internal|output65 function - commit_outcome|symbols65 variant table.symbols.SearchEntry KnownForm
 link65 type fault ModuleLocation|emit65 variant entries.SectionEntry DeclarationEntry|script65 method reading.entries.ConfigEntry flag_for

@@ -296,7 +296,8 @@ class File:
             last = names[-1] if names else ""
             if last in ("ensures", "requires"):
                 return {"label"}
-            is_first = len(names) == 1 and last in HEADS
+            # (elsewhere `c` and `l` are variables like others)
+            is_first = len(names) == 1 and last in HEADS and os.path.basename(self.path) in ("Answers.antt", "Invariants.antt")
             is_variable = last in ("args", "fn") or is_first or (len(names) == 2 and names[0] in HEADS and "-" in last)
             return {"variable"} if is_variable and self.area != "src" else set() if last == "invariant" else {"field"}
         return {"field"} if self.is_field(at, word) else {"variable"}

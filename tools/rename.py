@@ -205,7 +205,7 @@ class Renaming:
                 self.change(file, at, word, row, row.new)
             elif row:
                 self.change(file, at, word, row, new)
-            elif not path or file.code[at - 2: at] == "::":
+            elif not path or file.code[at - 2: at] == "::" or path.split(".")[-2] == "Goals":
                 self.look_at_position(file, at, word)
 
     def look_at_position(self, file, at, word):

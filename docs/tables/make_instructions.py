@@ -7,7 +7,7 @@ HERE = os.path.dirname(os.path.abspath(__file__))
 CRATE = os.path.join(HERE, "../../crates/syntax65")
 MODES = [
     ("implied", "Implied", "No operand."),
-    ("accumulator", "Accumulator", "`a`, or none where the instruction also takes memory."),
+    ("accumulator", "Accumulator", "`a`, or no operand, for an instruction that also accepts memory."),
     ("immediate", "Immediate", "`#e`: a byte."),
     ("zeropage", "ZeroPage", "`e` in the zero page."),
     ("zeropage_x", "ZeroPageX", "`e,x` in the zero page."),
@@ -33,6 +33,15 @@ ROWS = {
     "branch": ("branches", ("relative",)),
 }
 BEHIND = {"shift": "count", "arithmetic": "store"}
+# what the functions of the rows return
+RETURNED = {
+    "count": "for counting: `e` and `e,x`, in the zero page and as words",
+    "shift": "of a shift: `a`, and the forms of counting",
+    "store": "of a store of `a`: counting, then `e,y`, `(e,x)`, `(e),y`",
+    "arithmetic": "of arithmetic or a load of `a`: a byte, and the forms of\n/// stores",
+    "implied": "of an instruction without an operand",
+    "branch": "of a branch",
+}
 
 
 def read_table():
@@ -79,7 +88,7 @@ impl Mnemonic {{
     pub const ALL: [Mnemonic; {len(names)}] = [
 {listed}    ];
 
-    /// The name in lower case.
+    /// Returns the name in lower case.
     pub fn name(self) -> &'static [u8]
         ensures {{ result.now ≡ name_of self }}
     {{
@@ -92,7 +101,7 @@ impl Mnemonic {{
 
 def lookup_rt(names):
     arms = "".join(f"        [b'{n[0]}', b'{n[1]}', b'{n[2]}'] => Mnemonic::{n.capitalize()},\n" for n in names)
-    return f'''//! The mnemonic that bytes spell.
+    return f'''//! Looks up mnemonics by name.
 
 ghost use Rattle.std.specs.Prelude.{{◌≡◌}};
 ghost use Rattle.syntax65.specs.Forms.{{IsFound}};
@@ -100,13 +109,13 @@ ghost use Rattle.syntax65.specs.Mnemonics.{{SpellsMnemonic, mnemonic_of, name_of
 
 use super::names::Mnemonic;
 
-/// The mnemonic that these bytes spell, in either case.
+/// Returns the mnemonic with this name, in upper or lower case.
 pub fn mnemonic(bytes: &[u8]) -> Option<Mnemonic>
     ensures value {{ result ≡ mnemonic_of bytes.now }}
     ensures spelled {{ IsFound (SpellsMnemonic bytes.now) result }}
 {{
     match bytes {{
-        [first, second, third] => of_letters([
+        [first, second, third] => mnemonic_of_letters([
             first.to_ascii_lowercase(),
             second.to_ascii_lowercase(),
             third.to_ascii_lowercase(),
@@ -115,8 +124,8 @@ pub fn mnemonic(bytes: &[u8]) -> Option<Mnemonic>
     }}
 }}
 
-/// The mnemonic of three small letters.
-fn of_letters(letters: [u8; 3]) -> Option<Mnemonic>
+/// Returns the mnemonic with this name of three lower-case letters.
+fn mnemonic_of_letters(letters: [u8; 3]) -> Option<Mnemonic>
     ensures {{ IsFound (λ m. letters ≡ name_of m) result }}
 {{
     Some(match letters {{
@@ -210,7 +219,7 @@ def codes_rt(table, names):
         codes = f"[{', '.join(behind)}]" if behind else ""
         listed += f"        Mnemonic::{n.capitalize()} => {row}({', '.join(filter(None, ['mode', first, codes]))}),\n"
     kinds = ""
-    for row, (doc, words) in ROWS.items():
+    for row, (_, words) in ROWS.items():
         first, behind = VARIANT[words[0]], BEHIND.get(row)
         arms = [f"Mode::{first} => Some(code)"]
         if behind:
@@ -224,7 +233,7 @@ def codes_rt(table, names):
             arms = [f"Mode::{VARIANT[w]} => Some(codes[{i}])" for i, w in enumerate(words)] + ["_ => None"]
         arms = "".join(f"        {it},\n" for it in arms)
         kinds += f'''
-/// {doc[0].upper()}{doc[1:]}.
+/// Returns the opcode {RETURNED[row]}.
 fn {row}(mode: Mode, {kind}) -> Option<u8>
     ensures {{ result ≡ {row} {given} mode }}
 {{
@@ -245,7 +254,8 @@ use super::names::Mnemonic;
 pub enum Mode {{
 {variants}}}
 
-/// The opcode of a mnemonic with a form of operand, if the instruction has that form.
+/// Returns the opcode of a mnemonic with a form of operand, if the instruction has
+/// it.
 pub fn opcode(mnemonic: Mnemonic, mode: Mode) -> Option<u8>
     ensures {{ result ≡ opcode_of mnemonic mode }}
 {{
@@ -254,7 +264,7 @@ pub fn opcode(mnemonic: Mnemonic, mode: Mode) -> Option<u8>
     }}
 }}
 {kinds}
-/// Instructions with other forms.
+/// Returns the opcode of an instruction with other forms.
 fn other_opcode(mnemonic: Mnemonic, mode: Mode) -> Option<u8>
     ensures {{ result ≡ other_opcode mnemonic mode }}
 {{

@@ -1,5 +1,5 @@
 """Checks the pages for those who verify or maintain bin65: calls, clauses, modules of definitions, names, files and counts that they cite
-exist, claims are short, and so are paragraphs.
+exist, claims are short, and so are paragraphs, also those of pages for users.
 
 A row of PROVED has a claim, its calls, their clauses, and the modules of specs/ that define the clauses' terms, under a heading with the
 crate's name. A clause without a name is cited by a text that it contains, in parentheses; 'law' cites all clauses of a law; 'same' repeats
@@ -11,7 +11,9 @@ import re
 
 CLAIM_WORDS = 25
 PARAGRAPH = 600
+# Pages whose citations are checked, and others of which only the paragraphs are.
 PAGES = ("PROVED", "ARCHITECTURE", "DECISIONS", "THEOREM", "one-program")
+OTHERS = ("README", "CONTRIBUTING", "CHANGELOG", *(f"docs/{it}" for it in ("LANGUAGE", "TUTORIAL", "DEBUGGING", "RELEASE", "SCRIPTS", "EDITORS", "MESSAGES", "FORMATS")))
 
 CLAUSE = re.compile(r"\b(?:requires|ensures)\s*(\w*)\s*\{")
 FUNCTION = re.compile(r"^( *)(?:pub (?:\([^)]*\) )?)?(?:const )?fn (\w+)")
@@ -211,12 +213,15 @@ def why_named(words, text):
             yield f"no such name: {lost[0]}"
 
 
+def why_long(text):
+    """Yields the paragraphs of a page that are too long."""
+    yield from (f"a paragraph of {len(it)} characters: {it[:60]}" for it in paragraphs(text) if len(it) > PARAGRAPH)
+
+
 def why_page(root, page):
     """Returns why a page is wrong, or None."""
     text = without_code(read(f"{root}/docs/{page}.md"))
-    why = [f"a paragraph of {len(it)} characters: {it[:60]}" for it in paragraphs(text) if len(it) > PARAGRAPH]
-    why += [*why_named(words_of_code(root), text), *why_cited(root, text), *why_public(root, text)]
-    return "; ".join(why) or None
+    return "; ".join([*why_long(text), *why_named(words_of_code(root), text), *why_cited(root, text), *why_public(root, text)]) or None
 
 
 def looked_at(root):
@@ -227,3 +232,5 @@ def looked_at(root):
         yield f"PROVED, {crate}: {cells[0]}", why_row(root, crates, crate, cells)
     for page in PAGES:
         yield page, why_page(root, page)
+    for page in OTHERS:
+        yield f"paragraphs of {page}", "; ".join(why_long(without_code(read(f"{root}/{page}.md")))) or None

@@ -1,6 +1,6 @@
 #!/usr/bin/env python3
-"""Checks the examples of docs/LANGUAGE.md: each is accepted and emits the listed bytes, in bin65 and, if it is installed, in cc65; each directive
-of the tables has a heading with an example, in alphabetical order; and no paragraph of a page for users has more than 600 characters.
+"""Checks the examples of docs/LANGUAGE.md: each is accepted and emits the listed bytes, in bin65 and, if it is installed, in cc65; and each
+directive of the tables has a heading with an example, in alphabetical order.
 
 usage: language.py BIN65. The last line is 'N passed, M failed'."""
 import os
@@ -11,10 +11,6 @@ import sys
 import tempfile
 
 import pages
-
-sys.path.insert(0, f"{pages.ROOT}/gate")
-sys.dont_write_bytecode = True
-import check_docs
 
 EXAMPLE = re.compile(r"^```asm\n(.*?)^```\n(.*)", re.M | re.S)
 FILE = re.compile(r"^\*\*([\w.]+)\*\*\n```\n(.*?)^```$", re.M | re.S)
@@ -36,11 +32,6 @@ SYMBOLS {
     table: type = export, value = $1234;
 }
 """
-LONGEST = 600
-# Pages whose modules of definitions and files have to be there, as gate/static_checks.py looks at those of PROVED and ARCHITECTURE.
-CITING = ("docs/THEOREM", "docs/one-program")
-PAGES = ("README", "docs/LANGUAGE", "docs/TUTORIAL", "docs/DEBUGGING", "docs/RELEASE", "docs/SCRIPTS", "docs/EDITORS", "docs/MESSAGES", "docs/FORMATS",
-         "docs/THEOREM", "docs/one-program", "CONTRIBUTING", "CHANGELOG")
 
 
 def image(assembler, linker, source, files):
@@ -108,11 +99,6 @@ def main():
     found = list(examples(page.split("\n## Scripts\n")[0]))
     faults = {f"example {number}: {source}": why_wrong(program, source, *rest) for number, (source, *rest) in enumerate(found)}
     faults["the headings of directives"] = why_headings(page)
-    for name in PAGES:
-        long = [it for it in check_docs.paragraphs(check_docs.without_code(pages.read(f"{name}.md"))) if len(it) > LONGEST]
-        faults[name] = "; ".join(f"a paragraph of {len(it)} characters: {it[:60]}" for it in long) or None
-    for name in CITING:
-        faults[f"what {name} cites"] = "; ".join(check_docs.why_cited(pages.ROOT, check_docs.without_code(pages.read(f"{name}.md")))) or None
     for name, why in faults.items():
         if why:
             print(f"{name}: {why}")

@@ -18,7 +18,7 @@ import try_mutants
 
 PERIOD, HOURS = 1000, 4
 # The most mutants of changed functions that a gate tries; those that it leaves have their turn as the others have.
-MOST_CHANGED = 40
+MOST_CHANGED = 10
 LIST = f"{kit.ROOT}/gate/every_gate.txt"
 
 

@@ -54,9 +54,12 @@ def clauses(signature):
 
 def signature_at(lines, at, indent):
     """Returns the lines of the signature that begins here, up to its body."""
+    depth = 0
     for end in range(at, len(lines)):
         line = lines[end]
-        if line.startswith(indent + "{") or line.endswith(";") or (end == at and line.endswith("{")):
+        # (a record in a clause has fields that end in a semicolon)
+        depth += line.count("{") - line.count("}")
+        if line.startswith(indent + "{") or (line.endswith(";") and depth == 0) or (end == at and line.endswith("{")):
             return "\n".join(lines[at : end + 1])
     return ""
 

@@ -41,10 +41,13 @@ pub fn archive<S: Store>(
 ) -> Result<ArchiveResult, ArchiveFault>
     ensures archived { IfSome (S.files store.old) (λ m.
         Refines is_system_error (λ a. a) result (archive_result m (archive_view line.now))) }
-    ensures bytes { IfSome (S.files store.old) (λ m. OnOk result (ReadsBytes m (archive_view line.now))) }
+    ensures bytes { IfSome (S.files store.old) (λ m.
+        OnOk result (ReadsBytes m (archive_view line.now))) }
     ensures files { S.files store.new ≡ S.files store.old }
-    ensures count { PropagatesIoErrors is_failure (S.failures store.old) (S.failures store.new) result }
-    ensures named { IfErr result (NamesCommandFailure (S.last_failure store.new) (archive_view line.now)) }
+    ensures count { PropagatesIoErrors is_failure (S.failures store.old)
+        (S.failures store.new) result }
+    ensures named { IfErr result (NamesCommandFailure (S.last_failure store.new)
+        (archive_view line.now)) }
     ensures at_last_count { FailsAtLastCount is_system_error (S.failures store.old) result }
 {
     match line.operation {

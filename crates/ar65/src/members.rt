@@ -39,7 +39,8 @@ pub fn load_or_create<S: Store>(
     ensures read { IfSome (S.files store.old) (λ m.
         Refines is_library_system_error (λ l. l) result (library_or_empty (map.get m file.now))) }
     ensures bytes { IfSome (S.files store.old) (λ m. HasOnlyBytes (map.get m file.now) result) }
-    ensures frame { StoreFrame S.files S.failures S.last_failure FileError file.now store.old store.new result }
+    ensures frame { StoreFrame S.files S.failures S.last_failure FileError file.now store.old
+        store.new result }
     ensures at_last_count { FailsAtLastCount is_library_system_error (S.failures store.old) result }
 {
     match Library::load(alloc, store, file) {
@@ -57,9 +58,11 @@ fn add_file<S: Store>(
     file: &str,
 ) -> Result<(), LibraryFault>
     ensures put { IfSome (S.files store.old) (λ m.
-        Refines is_library_system_error (λ _. library.new) result (with_file m library.old file.now)) }
+        Refines is_library_system_error (λ _. library.new) result
+        (with_file m library.old file.now)) }
     ensures bytes { IfSome (S.files store.old) (λ m. HasOnlyBytes (map.get m file.now) result) }
-    ensures frame { StoreFrame S.files S.failures S.last_failure FileError file.now store.old store.new result }
+    ensures frame { StoreFrame S.files S.failures S.last_failure FileError file.now store.old
+        store.new result }
 {
     let bytes = read_prefix(alloc, store, file, FILE_LIMIT as usize + 1)?;
     library.replace(member_name(file).as_bytes(), &bytes)
@@ -73,12 +76,15 @@ pub fn add_files<S: Store>(
     files: &[&str],
 ) -> Result<(), ArchiveFault>
     ensures put { IfSome (S.files store.old) (λ m.
-        Refines is_system_error (λ _. library.new) result (with_files m library.old 0 (map (λ s. s.now) files.now))) }
+        Refines is_system_error (λ _. library.new) result
+        (with_files m library.old 0 (map (λ s. s.now) files.now))) }
     ensures bytes { IfSome (S.files store.old) (λ m.
         OnOk result (HaveBytes m (map (λ s. s.now) files.now))) }
     ensures files { S.files store.new ≡ S.files store.old }
-    ensures count { PropagatesIoErrors is_failure (S.failures store.old) (S.failures store.new) result }
-    ensures named { IfErr result (NamesFileFailure (S.last_failure store.new) (map (λ s. s.now) files.now)) }
+    ensures count { PropagatesIoErrors is_failure (S.failures store.old)
+        (S.failures store.new) result }
+    ensures named { IfErr result (NamesFileFailure (S.last_failure store.new)
+        (map (λ s. s.now) files.now)) }
 {
     for (index, file) in files.iter().enumerate() {
         match add_file(alloc, store, library, file) {
@@ -164,7 +170,8 @@ fn text_of(name: &[u8]) -> &str
 /// Returns the files of all members of a library whose names are text, in order.
 fn all_files(alloc: Global, library: &Library) -> Result<ListVec<MemberFile>, LibraryFault>
     ensures found { AreUtf8 (member_names library.now) →
-        Refines is_memory (λ found. found) result (files_of library.now (member_names library.now)) }
+        Refines is_memory (λ found. found) result
+        (files_of library.now (member_names library.now)) }
     ensures cause { IsErrOf result FileError → ⊥ }
 {
     let mut found = ListVec::new(alloc);
@@ -182,7 +189,8 @@ pub fn extract_files(
     files: &[&str],
 ) -> Result<ListVec<MemberFile>, LibraryFault>
     ensures found { AreUtf8 (member_names library.now) →
-        Refines is_memory (λ found. found) result (extracted_files library.now (map (λ s. s.now) files.now)) }
+        Refines is_memory (λ found. found) result
+        (extracted_files library.now (map (λ s. s.now) files.now)) }
     ensures cause { IsErrOf result FileError → ⊥ }
 {
     if files.is_empty() {

@@ -87,7 +87,8 @@ pub fn define_all(
     job: &AsmJob<'_>,
 ) -> Result<(), AsmFault>
     requires { Represents 0 initial_state assembler.old }
-    ensures defined { RefinesTransition ⊤ (DefinesConstants StepsTo initial_state (no_line (job_of job.now).source)
+    ensures defined { RefinesTransition ⊤
+        (DefinesConstants StepsTo initial_state (no_line (job_of job.now).source)
         (job_of job.now).defines) 0 initial_state assembler.new result }
     ensures inside { IfErr result (λ e. is_failure e ≡ false) }
 {
@@ -159,7 +160,8 @@ fn fail_at_location(
     ensures failed { IfErr result.result (λ e. is_store_failure e ≡ is_failure fault) }
     ensures first { is_failure fault ≡ true →
         IfErr result.result (λ e. (e.fault ≡ fault) × ((located_fault e).place ≡ no_location)) }
-    ensures silent { is_system_error_result result.result ≡ true → (result.out ≡ []) × (result.err ≡ []) }
+    ensures silent { is_system_error_result result.result ≡ true → (result.out ≡ []) ×
+        (result.err ≡ []) }
 {
     if is_system_error(&fault) {
         return fail_before_lines(alloc, fault);
@@ -175,8 +177,10 @@ fn fail_with_output(
     assembler: Assembler,
     fault: AsmFault,
 ) -> Assembly
-    ensures refused { is_system_error fault ≡ false → (t : State) → HasSameOutput t assembler → RefinesOutcome
-        (outcome_of_state t (Some (record { place = location_of expander; fault = fault }))) result }
+    ensures refused { is_system_error fault ≡ false → (t : State) →
+        HasSameOutput t assembler → RefinesOutcome
+        (outcome_of_state t (Some (record { place = location_of expander; fault = fault })))
+        result }
     ensures outside { is_system_error fault ≡ true → is_system_error_result result.result ≡ true }
     ensures none { IfOk result.result (λ _. ⊥) }
     ensures failed { IfErr result.result (λ e. is_store_failure e ≡ is_failure fault) }
@@ -184,7 +188,8 @@ fn fail_with_output(
         located_fault e ≡ record { place = location_of expander; fault = fault }) }
     ensures said { is_failure fault ≡ true →
         (result.out ≡ assembler.texts.out) × (result.err ≡ assembler.texts.err) }
-    ensures silent { is_memory_error_result result.result ≡ true → (result.out ≡ []) × (result.err ≡ []) }
+    ensures silent { is_memory_error_result result.result ≡ true → (result.out ≡ []) ×
+        (result.err ≡ []) }
 {
     if is_failure(&fault) {
         return fail_after_statements(expander, assembler, fault);
@@ -200,10 +205,12 @@ fn open_source<S: Store>(
     job: &AsmJob<'_>,
 ) -> Result<Expander, ExpandFault>
     ensures opened { IfSome (S.files store.old) (λ m.
-        RepresentsFirstState m result (first_state_in m (job_of job.now).source (job_of job.now).include)) }
+        RepresentsFirstState m result (first_state_in m (job_of job.now).source
+        (job_of job.now).include)) }
     ensures files { S.files store.new ≡ S.files store.old }
     ensures size { IfOk result (λ e. measure_of e ≤ 3145729) }
-    ensures count { PropagatesIoError ExpandFault.FileError (S.failures store.old) (S.failures store.new) result }
+    ensures count { PropagatesIoError ExpandFault.FileError (S.failures store.old)
+        (S.failures store.new) result }
     ensures last_failure { IsErrOf result ExpandFault.FileError →
         FailedAt (S.last_failure store.new) (job_of job.now).source 16777216 }
     ensures at_last_count { FailsAtLastCount is_expand_system_error (S.failures store.old) result }
@@ -221,15 +228,19 @@ fn assemble_opened<S: Store>(alloc: Global, store: &mut S, run: Run) -> Assembly
     requires { IsRunning run }
     ensures assembled { IfSome (S.files store.old) (λ m. (job : Job) (t : State) →
         RepresentsFirstState m (Ok run.expander) (first_state_in m job.source job.include) →
-        DefinesConstants StepsTo initial_state (no_line job.source) job.defines (Ok t) → RunRepresents t run →
-        RefinesProp is_diagnostic_system_error (λ r. IsOutcome m job (assembly_outcome result r)) result.result) }
+        DefinesConstants StepsTo initial_state (no_line job.source) job.defines (Ok t) →
+        RunRepresents t run →
+        RefinesProp is_diagnostic_system_error
+        (λ r. IsOutcome m job (assembly_outcome result r)) result.result) }
     ensures files { S.files store.new ≡ S.files store.old }
-    ensures count { PropagatesIoErrors is_store_failure (S.failures store.old) (S.failures store.new) result.result }
+    ensures count { PropagatesIoErrors is_store_failure (S.failures store.old)
+        (S.failures store.new) result.result }
     ensures good { IfOk result.result (λ o. is_well_formed_object o ≡ true) }
     ensures numbers { IfOk result.result ObjectFits }
     ensures stopped { IfSome (S.files store.old) (λ m. (job : Job) → StartsRun m job run →
         RunReportsStoreFailure m (S.last_failure store.new) job result) }
-    ensures silent { is_memory_error_result result.result ≡ true → (result.out ≡ []) × (result.err ≡ []) }
+    ensures silent { is_memory_error_result result.result ≡ true → (result.out ≡ []) ×
+        (result.err ≡ []) }
 {
     let mut run = run;
     let ran = assemble_all(alloc, store, &mut run);
@@ -254,13 +265,16 @@ fn assemble_with<S: Store>(
     ensures assembled { IfSome (S.files store.old) (λ m. RefinesProp is_diagnostic_system_error
         (λ r. IsOutcome m (job_of job.now) (assembly_outcome result r)) result.result) }
     ensures files { S.files store.new ≡ S.files store.old }
-    ensures count { PropagatesIoErrors is_store_failure (S.failures store.old) (S.failures store.new) result.result }
-    ensures at_last_count { FailsAtLastCount is_diagnostic_system_error (S.failures store.old) result.result }
+    ensures count { PropagatesIoErrors is_store_failure (S.failures store.old)
+        (S.failures store.new) result.result }
+    ensures at_last_count { FailsAtLastCount is_diagnostic_system_error
+        (S.failures store.old) result.result }
     ensures good { IfOk result.result (λ o. is_well_formed_object o ≡ true) }
     ensures numbers { IfOk result.result ObjectFits }
     ensures stopped { IfSome (S.files store.old) (λ m.
         RunReportsStoreFailure m (S.last_failure store.new) (job_of job.now) result) }
-    ensures silent { is_memory_error_result result.result ≡ true → (result.out ≡ []) × (result.err ≡ []) }
+    ensures silent { is_memory_error_result result.result ≡ true → (result.out ≡ []) ×
+        (result.err ≡ []) }
 {
     let mut assembler = assembler;
     let at = LocationRef {
@@ -288,8 +302,10 @@ pub fn assemble<S: Store>(alloc: Global, store: &mut S, job: &AsmJob<'_>) -> Ass
     ensures assembled { IfSome (S.files store.old) (λ m. RefinesProp is_diagnostic_system_error
         (λ r. IsOutcome m (job_of job.now) (assembly_outcome result r)) result.result) }
     ensures files { S.files store.new ≡ S.files store.old }
-    ensures count { PropagatesIoErrors is_store_failure (S.failures store.old) (S.failures store.new) result.result }
-    ensures at_last_count { FailsAtLastCount is_diagnostic_system_error (S.failures store.old) result.result }
+    ensures count { PropagatesIoErrors is_store_failure (S.failures store.old)
+        (S.failures store.new) result.result }
+    ensures at_last_count { FailsAtLastCount is_diagnostic_system_error
+        (S.failures store.old) result.result }
     // An object can be written.
     ensures good { IfOk result.result (λ o. is_well_formed_object o ≡ true) }
     ensures numbers { IfOk result.result ObjectFits }
@@ -298,7 +314,8 @@ pub fn assemble<S: Store>(alloc: Global, store: &mut S, job: &AsmJob<'_>) -> Ass
     ensures stopped { IfSome (S.files store.old) (λ m.
         ReportsStoreFailure m (S.last_failure store.new) (job_of job.now) result) }
     // If memory runs out, nothing is printed.
-    ensures silent { is_memory_error_result result.result ≡ true → (result.out ≡ []) × (result.err ≡ []) }
+    ensures silent { is_memory_error_result result.result ≡ true → (result.out ≡ []) ×
+        (result.err ≡ []) }
 {
     match Assembler::new(alloc, store.seed()) {
         Ok(assembler) => assemble_with(alloc, store, job, assembler),

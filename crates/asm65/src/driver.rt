@@ -70,7 +70,8 @@ pub fn assemble_rest<S: Store>(
     tokens: &[Token<'_>],
 ) -> Result<(), AsmFault>
     requires { HasHeadroom 1 assembler.old }
-    ensures read { RefinesRead (S.files store.old) (S.last_failure store.new) (AreSymbolNames (lexemes tokens.now))
+    ensures read { RefinesRead (S.files store.old) (S.last_failure store.new)
+        (AreSymbolNames (lexemes tokens.now))
         (λ m t. AssemblesTokens m StepsTo t (location_of_ref at.entry) (lexemes tokens.now))
         1 assembler.old assembler.new result }
     ensures frame { AsmStoreFrame S.files S.failures store.old store.new result }
@@ -95,7 +96,8 @@ fn assemble_optional_label(
     label: Option<Statement>,
 ) -> Result<(), AsmFault>
     requires { HasHeadroom 1 assembler.old }
-    ensures taken { RefinesAllTransitions (IfSome label IsWellFormedStatement) (λ t. AssemblesLabel StepsTo t
+    ensures taken { RefinesAllTransitions (IfSome label IsWellFormedStatement) (λ t.
+        AssemblesLabel StepsTo t
         (location_of_ref at.entry) label)
         1 assembler.old assembler.new result }
     ensures inside { IfErr result (λ e. is_failure e ≡ false) }
@@ -116,7 +118,8 @@ fn assemble_label<S: Store>(
     tokens: &[Token<'_>],
 ) -> Result<(), AsmFault>
     requires { HasHeadroom 2 assembler.old }
-    ensures read { RefinesRead (S.files store.old) (S.last_failure store.new) (AreSymbolNames (lexemes tokens.now))
+    ensures read { RefinesRead (S.files store.old) (S.last_failure store.new)
+        (AreSymbolNames (lexemes tokens.now))
         (λ m t. AssemblesLabelTokens m StepsTo t (location_of_ref at.entry) (lexemes tokens.now))
         2 assembler.old assembler.new result }
     ensures frame { AsmStoreFrame S.files S.failures store.old store.new result }
@@ -186,7 +189,8 @@ fn assemble_unlabelled_line<S: Store>(
     line: &StoredLine,
 ) -> Result<(), AsmFault>
     requires { HasHeadroom 1 assembler.old }
-    ensures read { RefinesRead (S.files store.old) (S.last_failure store.new) (AreSymbolNames (tokens_in line.now))
+    ensures read { RefinesRead (S.files store.old) (S.last_failure store.new)
+        (AreSymbolNames (tokens_in line.now))
         (λ m t. AssemblesTokens m StepsTo t (location_of_ref at.entry) (tokens_in line.now))
         1 assembler.old assembler.new result }
     ensures frame { AsmStoreFrame S.files S.failures store.old store.new result }
@@ -214,7 +218,8 @@ pub fn assemble_expanded<S: Store>(
     given: &Given,
 ) -> Result<(), AsmFault>
     requires { HasHeadroom 2 assembler.old }
-    ensures read { AssemblesStatement (S.files store.old) (S.last_failure store.new) (location_of_ref at.entry)
+    ensures read { AssemblesStatement (S.files store.old) (S.last_failure store.new)
+        (location_of_ref at.entry)
         (statement_of given.now) assembler.old assembler.new result }
     ensures frame { AsmStoreFrame S.files S.failures store.old store.new result }
 {
@@ -240,7 +245,8 @@ pub struct Run {
 fn next_statement<S: Store>(run: &mut Run, store: &mut S) -> Result<Option<Given>, ExpandFault>
     requires { IsRunning run.old }
     ensures next { IfSome (S.files store.old) (λ m. (t : State) → RunRepresents t run.old →
-        RefinesNextStatement m (environment_at t.symbols t.cursor) run.old.expander result run.new.expander) }
+        RefinesNextStatement m
+        (environment_at t.symbols t.cursor) run.old.expander result run.new.expander) }
     ensures stopped { IfSome (S.files store.old) (λ m. (t : State) → RunRepresents t run.old →
         HasFailureBetweenStatements m (S.last_failure store.new) (environment_at t.symbols t.cursor)
         run.old.expander result run.new.expander) }
@@ -250,7 +256,8 @@ fn next_statement<S: Store>(run: &mut Run, store: &mut S) -> Result<Option<Given
     ensures size { IfOk result (λ o. IfSome o (λ _.
         measure_of run.new.expander < measure_of run.old.expander)) }
     ensures files { S.files store.new ≡ S.files store.old }
-    ensures count { PropagatesIoError ExpandFault.FileError (S.failures store.old) (S.failures store.new) result }
+    ensures count { PropagatesIoError ExpandFault.FileError (S.failures store.old)
+        (S.failures store.new) result }
 {
     let knowledge = Knowledge {
         symbols: &run.assembler.symbols,
@@ -267,7 +274,8 @@ fn assemble_at_location<S: Store>(
     statement: &Given,
 ) -> Result<(), AsmFault>
     requires { HasHeadroom 2 run.old.assembler }
-    ensures read { AssemblesStatement (S.files store.old) (S.last_failure store.new) (location_of run.old.expander)
+    ensures read { AssemblesStatement (S.files store.old) (S.last_failure store.new)
+        (location_of run.old.expander)
         (statement_of statement.now) run.old.assembler run.new.assembler result }
     ensures same { run.new.expander ≡ run.old.expander }
     ensures frame { AsmStoreFrame S.files S.failures store.old store.new result }
@@ -286,7 +294,8 @@ fn assemble_peeked_line<S: Store>(
     run: &mut Run,
 ) -> Result<bool, AsmFault>
     requires { IsRunning run.old }
-    ensures next { AssemblesOptionalLine (S.files store.old) (S.last_failure store.new) run.old run.new result }
+    ensures next { AssemblesOptionalLine (S.files store.old)
+        (S.last_failure store.new) run.old run.new result }
     ensures frame { AsmStoreFrame S.files S.failures store.old store.new result }
 {
     let mut tokens = LineTokens::new();
@@ -312,7 +321,8 @@ fn assemble_peeked_line<S: Store>(
 
 /// Returns an error if a scope is open.
 fn check_closed(run: &Run) -> Result<(), AsmFault>
-    ensures { result ≡ (if is_not_global run.now.assembler.cursor.scope then Err BadScope else Ok tt) }
+    ensures { result ≡ (if is_not_global run.now.assembler.cursor.scope then Err
+        BadScope else Ok tt) }
 {
     if run.assembler.cursor.scope() == GLOBAL_SCOPE {
         Ok(())

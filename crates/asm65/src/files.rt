@@ -86,7 +86,8 @@ fn with_bytes<S: Store>(
     ensures held { (count : ℕ) (t : State) → Represents count t assembler.old →
         OnOk result (Represents count t assembler.new) }
     ensures refused { (count : ℕ) (t : State) → Represents count t assembler.old → IfErr result
-        (IsRejectedUnread (S.files store.old) (S.last_failure store.new) t (location_of_ref at.entry)
+        (IsRejectedUnread (S.files store.old) (S.last_failure store.new) t
+        (location_of_ref at.entry)
         statement) }
     ensures texts { assembler.new.texts ≡ assembler.old.texts }
     ensures failed { IfErr result (λ e. is_failure e ≡ true → e ≡ FileError) }
@@ -121,7 +122,8 @@ pub fn read_incbin<S: Store>(
     ensures held { (count : ℕ) (t : State) → Represents count t assembler.old →
         OnOk result (Represents count t assembler.new) }
     ensures refused { (count : ℕ) (t : State) → Represents count t assembler.old → IfErr result
-        (IsRejectedUnread (S.files store.old) (S.last_failure store.new) t (location_of_ref at.entry)
+        (IsRejectedUnread (S.files store.old) (S.last_failure store.new) t
+        (location_of_ref at.entry)
         statement.old) }
     ensures texts { assembler.new.texts ≡ assembler.old.texts }
     ensures failed { IfErr result (λ e. is_failure e ≡ true → e ≡ FileError) }

@@ -55,9 +55,11 @@ fn apply_resolved(
     made: ResolvedPiece,
 ) -> Result<SectionEntry, AllocError>
     requires { PieceHasLocation fixup_location.pos made }
-    ensures entry { IfOk result (CanReplace (fixup_files fixup_location.entry) (result_of_piece fixup_location.entry made).content) }
+    ensures entry { IfOk result (CanReplace (fixup_files fixup_location.entry)
+        (result_of_piece fixup_location.entry made).content) }
     ensures standing { IfOk result (HasLocation fixup_location.entry.pos) }
-    ensures err { OnOk result (err.new ≡ err.old ++ (result_of_piece fixup_location.entry made).warning) }
+    ensures err { OnOk result (err.new ≡
+        err.old ++ (result_of_piece fixup_location.entry made).warning) }
 {
     let ResolvedPiece { entry, warning } = made;
     if let Some(text) = warning {
@@ -89,7 +91,8 @@ fn resolve_fixup(
         nat_lt fixup.pos.file (length files) ≡ true →
         ResolvesSlot (table_of tables.entry.symbols.now) files (deferred (fixup_of files fixup))
         resolve_state.old resolve_state.new result }
-    ensures found { OnOk result (IsResolveState (table_of tables.entry.symbols.now) resolve_state.new) }
+    ensures found { OnOk result
+        (IsResolveState (table_of tables.entry.symbols.now) resolve_state.new) }
     ensures inside { IfErr result (λ e. is_store_failure e ≡ false) }
 {
     let fixup_location = FixupLocation {
@@ -130,7 +133,8 @@ fn resolve_entry(
         AreInitialEntries files (entry.old ∷ []) →
         ResolvesSlot (table_of tables.entry.symbols.now) files (slot_of files entry.old)
         resolve_state.old resolve_state.new (result_with entry.new result) }
-    ensures found { OnOk result (IsResolveState (table_of tables.entry.symbols.now) resolve_state.new) }
+    ensures found { OnOk result
+        (IsResolveState (table_of tables.entry.symbols.now) resolve_state.new) }
     ensures inside { IfErr result (λ e. is_store_failure e ≡ false) }
 {
     let SectionEntry::FixupEntry(_) = entry else {
@@ -157,7 +161,8 @@ fn resolve_entries(
     requires { IsResolveState (table_of tables.symbols.now) resolve_state.old }
     ensures resolved { let files = map string_bytes tables.entry.files.now in
         AreInitialEntries files entries.old.items →
-        ResolvesSlots (table_of tables.entry.symbols.now) files (map (slot_of files) entries.old.items)
+        ResolvesSlots (table_of tables.entry.symbols.now) files
+        (map (slot_of files) entries.old.items)
         resolve_state.old resolve_state.new (result_with entries.new.items result) }
     ensures inside { IfErr result (λ e. is_store_failure e ≡ false) }
 {
@@ -178,8 +183,10 @@ fn object_of(
 ) -> Result<Object, Diagnostic>
     requires found { IsResolveState (table_of symbols.now) resolve_state.old }
     requires none { names_of resolve_state.old.exported ≡ [] }
-    ensures found { (xs : List Slot) → RepresentsSlots xs sections → all_declarations (contents_so_far xs) ≡ [] →
-        RefinesObject (table_of symbols.now) segments.now xs resolve_state.old.err resolve_state.new.err result }
+    ensures found { (xs : List Slot) → RepresentsSlots xs sections →
+        all_declarations (contents_so_far xs) ≡ [] →
+        RefinesObject (table_of symbols.now) segments.now xs resolve_state.old.err
+        resolve_state.new.err result }
     ensures numbers { IfOk result ObjectFits }
     ensures inside { IfErr result (λ e. is_store_failure e ≡ false) }
 {
@@ -224,7 +231,8 @@ fn assembly_of(alloc: Global, answer: Result<Object, Diagnostic>, texts: Console
     ensures concluded { (o : Outcome) → (is_system_error_result answer ≡ false →
         record { result = located_result answer; out = texts.out; err = texts.err } ≡ o) →
         RefinesOutcome o result }
-    ensures silent { is_system_error_result result.result ≡ true → (result.out ≡ []) × (result.err ≡ []) }
+    ensures silent { is_system_error_result result.result ≡ true → (result.out ≡ []) ×
+        (result.err ≡ []) }
 {
     if is_system_error_result(&answer) {
         return Assembly {
@@ -246,7 +254,8 @@ pub fn finish_assembly(alloc: Global, assembler: Assembler) -> Assembly
         RefinesOutcome (outcome_of_state t None) result }
     ensures good { IfOk result.result (λ o. (count : ℕ) (t : State) → Represents count t assembler →
         ((cs : List Content) → (resolution_of_state t).found ≡ Ok cs →
-        AreWellFormedContents t.cursor.segments t.symbols.imports cs) → is_well_formed_object o ≡ true) }
+        AreWellFormedContents t.cursor.segments t.symbols.imports cs) →
+        is_well_formed_object o ≡ true) }
     ensures numbers { IfOk result.result ObjectFits }
     ensures inside { IfErr result.result (λ e. is_store_failure e ≡ false) }
     ensures silent { is_system_error_result result.result ≡ true →

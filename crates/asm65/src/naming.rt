@@ -147,7 +147,8 @@ impl Assembler {
     ) -> Result<(), AllocError>
         requires { HasFinal (table_of self.old.symbols) site.context (Some value.now) form.now }
         ensures entered { OnOk result (EmitsPieces (location_of_ref site.entry.at)
-            site.entry.context (expression_value constant_definition value.now ∷ []) self.old self.new) }
+            site.entry.context (expression_value constant_definition value.now ∷ [])
+            self.old self.new) }
         ensures tables { ChangesOnlySections self.old self.new }
     {
         if form.is_some() {
@@ -168,7 +169,8 @@ impl Assembler {
         value: Expr,
         form: Option<Norm>,
     ) -> Result<(), AllocError>
-        requires new { definition_index (table_of self.old.symbols) (named site.context.scope name.now) ≡ None }
+        requires new { definition_index (table_of self.old.symbols)
+            (named site.context.scope name.now) ≡ None }
         requires form { HasFinal (table_of self.old.symbols) site.context (Some value) form }
         ensures { OnOk result (EmitsThenDefines (location_of_ref site.entry.at)
             site.entry.context (expression_value constant_definition value ∷ [])
@@ -264,7 +266,8 @@ impl Assembler {
         size: AddressSize,
         name: &[u8],
     ) -> Result<(), AllocError>
-        requires new { definition_index (table_of self.old.symbols) (named context.scope name.now) ≡ None }
+        requires new { definition_index (table_of self.old.symbols)
+            (named context.scope name.now) ≡ None }
         requires unopened { opened_twice (table_of self.old.symbols).scopes context.scope
             (Some name.now) ≡ None }
         ensures { OnOk result ((location : SourceLocation) → EmitsThenDefines location context []

@@ -61,7 +61,8 @@ impl<'a> FixupLocation<'a> {
 
 /// Returns the result of a piece that emits nothing.
 fn empty_piece() -> ResolvedPiece
-    ensures made { (fixup_location : FixupLocation) → result_of_piece fixup_location result ≡ without_warning (declaration_content []) }
+    ensures made { (fixup_location : FixupLocation) →
+        result_of_piece fixup_location result ≡ without_warning (declaration_content []) }
     ensures entry { result.entry ≡ None }
 {
     ResolvedPiece {
@@ -72,7 +73,9 @@ fn empty_piece() -> ResolvedPiece
 
 /// Returns the result of a piece that has one entry.
 fn one(entry: SectionEntry) -> ResolvedPiece
-    ensures made { (fixup_location : FixupLocation) → result_of_piece fixup_location result ≡ without_warning (entry_content fixup_location entry) }
+    ensures made { (fixup_location : FixupLocation) →
+        result_of_piece fixup_location result ≡
+        without_warning (entry_content fixup_location entry) }
     ensures entry { result.entry ≡ Some entry }
 {
     ResolvedPiece {
@@ -88,7 +91,8 @@ fn declaration_piece(
     declaration: Declaration,
 ) -> Result<ResolvedPiece, AllocError>
     ensures made { IfOk result (λ m. result_of_piece fixup_location.entry m ≡
-        without_warning (declaration_content (declaration_at (location_of_fixup fixup_location.entry) declaration ∷ []))) }
+        without_warning (declaration_content
+        (declaration_at (location_of_fixup fixup_location.entry) declaration ∷ []))) }
     ensures standing { IfOk result (PieceHasLocation fixup_location.entry.pos) }
 {
     let located = LocatedDeclaration {
@@ -104,7 +108,8 @@ fn checked_declaration(
     fixup_location: FixupLocation<'_>,
     declaration: Declaration,
 ) -> Result<ResolvedPiece, AsmFault>
-    ensures made { Refines is_out_of_memory (result_of_piece fixup_location.entry) result (declaration_result (location_of_fixup fixup_location.entry) declaration) }
+    ensures made { Refines is_out_of_memory (result_of_piece fixup_location.entry) result
+        (declaration_result (location_of_fixup fixup_location.entry) declaration) }
     ensures standing { IfOk result (PieceHasLocation fixup_location.entry.pos) }
 {
     if !is_file_name(fixup_location.file()) {
@@ -156,7 +161,8 @@ fn resolve_assertion(
     text: ListVec<u8>,
     form: Norm,
 ) -> Result<ResolvedPiece, AsmFault>
-    ensures made { (s : Site) → Refines is_out_of_memory (result_of_piece fixup_location.entry) result
+    ensures made { (s : Site) →
+        Refines is_out_of_memory (result_of_piece fixup_location.entry) result
         (value_result (location_of_fixup fixup_location.entry) s (asserted action text) form) }
     ensures standing { IfOk result (PieceHasLocation fixup_location.entry.pos) }
 {
@@ -210,8 +216,10 @@ fn resolve_export(
     requires table { IsFormCache (table_of symbols.now) known.old }
     requires names { AreDefinedNames (table_of symbols.now) (names_of exported.old) }
     requires index { definition_index (table_of symbols.now) (named 0 name) ≡ Some index }
-    ensures made { (must : Bool) (s : Site) → Refines is_out_of_memory (result_of_piece fixup_location.entry) result
-        (piece_result (table_of symbols.now) (names_of exported.old) (location_of_fixup fixup_location.entry) s
+    ensures made { (must : Bool) (s : Site) →
+        Refines is_out_of_memory (result_of_piece fixup_location.entry) result
+        (piece_result (table_of symbols.now) (names_of exported.old)
+        (location_of_fixup fixup_location.entry) s
         (piece_of (Export must name))) }
     ensures standing { IfOk result (PieceHasLocation fixup_location.entry.pos) }
     ensures table { OnOk result (IsFormCache (table_of symbols.now) known.new) }
@@ -242,7 +250,8 @@ pub fn resolve(
     requires table { IsFormCache (table_of symbols.now) known.old }
     requires names { AreDefinedNames (table_of symbols.now) (names_of exported.old) }
     ensures made { Refines is_out_of_memory (result_of_piece fixup_location.entry) result
-        (piece_result (table_of symbols.now) (names_of exported.old) (location_of_fixup fixup_location.entry)
+        (piece_result (table_of symbols.now) (names_of exported.old)
+        (location_of_fixup fixup_location.entry)
         fixup.context (piece_of fixup.piece)) }
     ensures standing { IfOk result (PieceHasLocation fixup_location.entry.pos) }
     ensures table { OnOk result (IsFormCache (table_of symbols.now) known.new) }

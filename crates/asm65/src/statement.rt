@@ -231,7 +231,8 @@ impl Assembler {
             (first_tree statement.now) p.analysis.form) }
         ensures forms { IfOk result (λ p. HaveFinals (table_of self.new.symbols) p.context
             (items_in statement.now) p.analysis.forms.items) }
-        ensures texts { IfErr result (λ e. is_system_error e ≡ false → self.new.texts ≡ self.old.texts) }
+        ensures texts { IfErr result (λ e. is_system_error e ≡ false →
+            self.new.texts ≡ self.old.texts) }
         ensures inside { IfErr result (λ e. is_failure e ≡ false) }
     {
         let before = LineState {
@@ -259,14 +260,16 @@ impl Assembler {
         requires { IsRepresentable self.old }
         ensures placed { (count : ℕ) (t : State) → Represents count t self.old → IfOk result (λ p.
             HasLayout t (Instruction mnemonic operand.now) p.context p.analysis.measured) }
-        ensures holds { (location : SourceLocation) (count : ℕ) (t : State) → Represents count t self.old →
+        ensures holds { (location : SourceLocation) (count : ℕ) (t : State) →
+            Represents count t self.old →
             OnOk result (Represents (count + opening_count (Instruction mnemonic operand.now))
             (state_after_layout t location (Instruction mnemonic operand.now)) self.new) }
         ensures refused { (count : ℕ) (t : State) → Represents count t self.old → IfErr result
             (IsRejected t (Instruction mnemonic operand.now)) }
         ensures form { IfOk result (λ p. HasFinal (table_of self.new.symbols) p.context
             (operand_tree operand.now) p.analysis.form) }
-        ensures texts { IfErr result (λ e. is_system_error e ≡ false → self.new.texts ≡ self.old.texts) }
+        ensures texts { IfErr result (λ e. is_system_error e ≡ false →
+            self.new.texts ≡ self.old.texts) }
         ensures inside { IfErr result (λ e. is_failure e ≡ false) }
     {
         let before = LineState {
@@ -289,11 +292,14 @@ impl Assembler {
         operand: Operand,
     ) -> Result<(), AsmFault>
         requires { IsRepresentable self.old }
-        ensures taken { (count : ℕ) (t : State) → Represents count t self.old → count < opening_limit →
+        ensures taken { (count : ℕ) (t : State) → Represents count t self.old →
+            count < opening_limit →
             RepresentsOrFails (StepsTo t (location_of_ref at.entry)
             (Instruction mnemonic operand))
-            (λ u. Represents (count + opening_count (Instruction mnemonic operand)) u self.new) result }
-        ensures texts { IfErr result (λ e. is_system_error e ≡ false → self.new.texts ≡ self.old.texts) }
+            (λ u. Represents (count + opening_count (Instruction mnemonic operand)) u
+            self.new) result }
+        ensures texts { IfErr result (λ e. is_system_error e ≡ false →
+            self.new.texts ≡ self.old.texts) }
         ensures inside { IfErr result (λ e. is_failure e ≡ false) }
     {
         search_operand(alloc, &mut self.symbols, self.cursor.context(), &operand)?;
@@ -316,10 +322,12 @@ impl Assembler {
         statement: Statement,
     ) -> Result<(), AsmFault>
         requires { IsRepresentable self.old }
-        ensures taken { (count : ℕ) (t : State) → Represents count t self.old → count < opening_limit →
+        ensures taken { (count : ℕ) (t : State) → Represents count t self.old →
+            count < opening_limit →
             RepresentsOrFails (StepsTo t (location_of_ref at.entry) statement)
             (λ u. Represents (count + opening_count statement) u self.new) result }
-        ensures texts { IfErr result (λ e. is_system_error e ≡ false → self.new.texts ≡ self.old.texts) }
+        ensures texts { IfErr result (λ e. is_system_error e ≡ false →
+            self.new.texts ≡ self.old.texts) }
         ensures inside { IfErr result (λ e. is_failure e ≡ false) }
     {
         search_statement(alloc, &mut self.symbols, self.cursor.context(), &statement)?;

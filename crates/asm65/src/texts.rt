@@ -145,7 +145,8 @@ fn add_line(out: &mut ListVec<u8>, message: &[u8]) -> Result<(), AllocError>
 /// Adds a warning with its file and line.
 #[inline(never)]
 pub fn warn(err: &mut ListVec<u8>, file: &str, line: u32, message: &[u8]) -> Result<(), AllocError>
-    ensures { OnOk result (err.new ≡ err.old ++ warning_at (location_in file.now line) message.now) }
+    ensures { OnOk result (err.new ≡
+        err.old ++ warning_at (location_in file.now line) message.now) }
 {
     let mut buffer = Buffer::new();
     err.extend_from_slice(file.as_bytes())?;

@@ -35,7 +35,8 @@ fn with_required_option<'a>(
     id: &'a str,
     short: char,
 ) -> Result<Command<'a>, AllocError>
-    ensures { IfOk result (λ c. AddsArgument command.entry (required_option_rule id.entry.now short) c) }
+    ensures { IfOk result (λ c.
+        AddsArgument command.entry (required_option_rule id.entry.now short) c) }
 {
     with(command, Arg::new(alloc, id).short(short).required(true))
 }
@@ -47,7 +48,8 @@ fn with_repeated_option<'a>(
     id: &'a str,
     short: char,
 ) -> Result<Command<'a>, AllocError>
-    ensures { IfOk result (λ c. AddsArgument command.entry (repeated_option_rule id.entry.now short) c) }
+    ensures { IfOk result (λ c.
+        AddsArgument command.entry (repeated_option_rule id.entry.now short) c) }
 {
     with(
         command,
@@ -87,7 +89,8 @@ fn with_optional_positionals<'a>(
     command: Command<'a>,
     id: &'a str,
 ) -> Result<Command<'a>, AllocError>
-    ensures { IfOk result (λ c. AddsArgument command.entry (optional_positionals_rule id.entry.now) c) }
+    ensures { IfOk result (λ c.
+        AddsArgument command.entry (optional_positionals_rule id.entry.now) c) }
 {
     with(command, Arg::new(alloc, id).action(ArgAction::Append))
 }
@@ -98,7 +101,8 @@ fn with_required_positionals<'a>(
     command: Command<'a>,
     id: &'a str,
 ) -> Result<Command<'a>, AllocError>
-    ensures { IfOk result (λ c. AddsArgument command.entry (required_positionals_rule id.entry.now) c) }
+    ensures { IfOk result (λ c.
+        AddsArgument command.entry (required_positionals_rule id.entry.now) c) }
 {
     with(
         command,

@@ -17,7 +17,8 @@ use syntax65::{MAX_NAME, is_reserved};
 /// Parses definitions of constants, in order. Returns the first
 /// error.
 pub fn defines<'a>(alloc: Global, texts: &[&'a str]) -> Result<ListVec<Define<'a>>, LineFault>
-    ensures { Refines is_system_error (λ ds. map define_view ds) result (try_map define_of (map (λ t. t.now) texts.now)) }
+    ensures { Refines is_system_error (λ ds. map define_view ds) result
+        (try_map define_of (map (λ t. t.now) texts.now)) }
 {
     let mut done = ListVec::new(alloc);
     for text in texts {

@@ -35,7 +35,8 @@ fn subcommand_line<'a>(
     name: &str,
     arg_matches: &ArgMatches<'a>,
 ) -> Result<Line<'a>, LineFault>
-    ensures { Refines is_system_error view result (subcommand_view name.now (rows_of (found_of arg_matches.now))) }
+    ensures { Refines is_system_error view result
+        (subcommand_view name.now (rows_of (found_of arg_matches.now))) }
 {
     match name {
         "ca65" => Ok(Line::Assemble(assemble_line(alloc, arg_matches)?)),
@@ -50,7 +51,8 @@ fn assemble_line<'a>(
     alloc: Global,
     arg_matches: &ArgMatches<'a>,
 ) -> Result<AssembleArgs<'a>, LineFault>
-    ensures { Refines is_system_error assemble_view result (assemble_view_of (rows_of (found_of arg_matches.now))) }
+    ensures { Refines is_system_error assemble_view result
+        (assemble_view_of (rows_of (found_of arg_matches.now))) }
 {
     let texts = values_of(alloc, arg_matches, "define")?;
     let defines = defines(alloc, texts.as_slice())?;
@@ -93,7 +95,8 @@ fn archive_line<'a>(
     alloc: Global,
     arg_matches: &ArgMatches<'a>,
 ) -> Result<ArchiveArgs<'a>, LineFault>
-    ensures { Refines is_system_error archive_view result (archive_view_of (rows_of (found_of arg_matches.now))) }
+    ensures { Refines is_system_error archive_view result
+        (archive_view_of (rows_of (found_of arg_matches.now))) }
 {
     Ok(ArchiveArgs {
         operation: operation_of(value_of(arg_matches, "operation").unwrap_or(""))?,
@@ -109,7 +112,8 @@ fn values_of<'a>(
     arg_matches: &ArgMatches<'a>,
     id: &str,
 ) -> Result<ListVec<&'a str>, AllocError>
-    ensures { IfOk result (λ s. map (λ x. x.now) s ≡ argument_values id.now (rows_of (found_of arg_matches.now))) }
+    ensures { IfOk result (λ s.
+        map (λ x. x.now) s ≡ argument_values id.now (rows_of (found_of arg_matches.now))) }
 {
     match arg_matches.get_strs(id) {
         Some(texts) => Ok(ListVec::from_vec(Vec::from_slice(alloc, texts)?)),
@@ -120,7 +124,8 @@ fn values_of<'a>(
 /// Returns the first value of an argument, if it has one.
 #[tactic(auto, using(crate::proofs::Rows::first_rows))]
 fn value_of<'a>(arg_matches: &ArgMatches<'a>, id: &str) -> Option<&'a str>
-    ensures { option_map (λ s. s.now) result ≡ first_of id.now (rows_of (found_of arg_matches.now)) }
+    ensures { option_map (λ s. s.now) result ≡
+        first_of id.now (rows_of (found_of arg_matches.now)) }
 {
     arg_matches.get_str(id)
 }

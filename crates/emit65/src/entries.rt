@@ -151,7 +151,9 @@ impl Entries {
 
     /// Adds bytes to the section of a segment.
     pub fn add_bytes(&mut self, segment: u32, bytes: &[u8]) -> Result<(), AllocError>
-        ensures { OnOk result (AppendsSlots self.old self.new (resolved (section_part segment (Known bytes.now)) ∷ [])) }
+        ensures { OnOk result
+            (AppendsSlots self.old self.new
+            (resolved (section_part segment (Known bytes.now)) ∷ [])) }
     {
         if self.reserve > 0 {
             self.close()?;
@@ -163,7 +165,9 @@ impl Entries {
 
     /// Reserves `count` bytes in the section of a segment.
     pub fn add_reserved(&mut self, segment: u32, count: u32) -> Result<(), AllocError>
-        ensures { OnOk result (AppendsSlots self.old self.new (resolved (section_part segment (ReservedBytes count)) ∷ [])) }
+        ensures { OnOk result
+            (AppendsSlots self.old self.new
+            (resolved (section_part segment (ReservedBytes count)) ∷ [])) }
     {
         self.open_part(segment)?;
         self.reserve = sum_of(self.reserve, count)?;
@@ -172,7 +176,8 @@ impl Entries {
 
     /// Adds an entry after the open part, which it closes.
     pub fn push(&mut self, entry: SectionEntry) -> Result<(), AllocError>
-        ensures { OnOk result ((files : List (List ℕ)) → has_file_below (length files) entry ≡ true →
+        ensures { OnOk result ((files : List (List ℕ)) →
+            has_file_below (length files) entry ≡ true →
             AppendsSlotsWithFiles files self.old self.new (slot_of files entry ∷ [])) }
     {
         self.close()?;
@@ -185,7 +190,8 @@ impl Entries {
         ensures equivalent { IfOk result (λ list. (files : List (List ℕ)) →
             AreEquivalentSlots (slots_in files self) (map (slot_of files) list.items)) }
         ensures standing { IfOk result (λ list. (files : List (List ℕ)) →
-            HaveFilesBelow (length files) self.done.items → HaveFilesBelow (length files) list.items) }
+            HaveFilesBelow (length files) self.done.items →
+            HaveFilesBelow (length files) list.items) }
     {
         let mut all = self;
         all.close()?;

@@ -76,7 +76,8 @@ impl Sections {
 
     /// Appends bytes to the section of a segment.
     pub fn append(&mut self, segment: u32, bytes: &[u8]) -> Result<(), AllocError>
-        ensures { OnOk result (AppendsSlot self.old self.new (resolved (section_part segment (Known bytes.now)))) }
+        ensures { OnOk result
+            (AppendsSlot self.old self.new (resolved (section_part segment (Known bytes.now)))) }
     {
         self.entries.add_bytes(segment, bytes)?;
         Ok(())
@@ -95,7 +96,9 @@ impl Sections {
 
     /// Reserves `count` bytes, which the linker fills, in the section of a segment.
     pub fn reserve_bytes(&mut self, segment: u32, count: u32) -> Result<(), AllocError>
-        ensures { OnOk result (AppendsSlot self.old self.new (resolved (section_part segment (ReservedBytes count)))) }
+        ensures { OnOk result
+            (AppendsSlot self.old self.new
+            (resolved (section_part segment (ReservedBytes count)))) }
     {
         self.entries.add_reserved(segment, count)?;
         Ok(())
@@ -110,7 +113,8 @@ impl Sections {
         form: Norm,
     ) -> Result<(), AllocError>
         ensures { OnOk result (AppendsSlot self.old self.new (resolved
-            (section_part segment (LinkTimeValue width (location_in at.entry.file.now at.entry.line) form)))) }
+            (section_part segment
+            (LinkTimeValue width (location_in at.entry.file.now at.entry.line) form)))) }
     {
         let pos = self.files.pos_of(self.entries.alloc, at)?;
         self.entries.push(SectionEntry::Value {
@@ -186,7 +190,8 @@ impl ClosedSections {
             o ≡ object_with segments.now (names_of imports.now) cs) }
         ensures numbers { IfOk result ObjectFits }
         ensures good { IfOk result (λ o. (cs : List Content) → HasSlots (map resolved cs) self →
-            AreWellFormedContents segments.now (names_of imports.now) cs → is_well_formed_object o ≡ true) }
+            AreWellFormedContents segments.now (names_of imports.now) cs →
+            is_well_formed_object o ≡ true) }
     {
         let ClosedSections {
             requested,

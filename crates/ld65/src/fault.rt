@@ -130,7 +130,8 @@ fn input_message(
     index: usize,
     text: &str,
 ) -> Result<ListVec<u8>, AllocError>
-    ensures { IfOk result (λ message. message ≡ file_message (input_name_at (link_view line.now).inputs index) text.now) }
+    ensures { IfOk result (λ message.
+        message ≡ file_message (input_name_at (link_view line.now).inputs index) text.now) }
 {
     match line.inputs.as_slice().get(index) {
         Some(name) => file_message(alloc, name.as_bytes(), text.as_bytes()),

@@ -53,7 +53,8 @@ fn add_records<S: Store>(
 ) -> Result<u64, LinkFault>
     requires opened { is_open linker.old ≡ true }
     requires fresh { reader.old.ahead ≡ [] }
-    ensures fed { AddsRecords (S.files store.old) (input_of object.now) head linker.old linker.new result }
+    ensures fed { AddsRecords (S.files store.old)
+        (input_of object.now) head linker.old linker.new result }
     ensures opened { is_open linker.new ≡ true }
     ensures keeps { ConfigFrame linker.old linker.new }
     ensures files { S.files store.new ≡ S.files store.old }
@@ -87,7 +88,8 @@ pub fn add_object<S: Store>(
     object: &ObjectInput<'_>,
 ) -> Result<(), LinkFault>
     requires { is_open linker.old ≡ false }
-    ensures fed { AddsObject (S.files store.old) (input_of object.now) linker.old linker.new result }
+    ensures fed { AddsObject (S.files store.old)
+        (input_of object.now) linker.old linker.new result }
     ensures opened { OnOk result (is_open linker.new ≡ false) }
     ensures keeps { ConfigFrame linker.old linker.new }
     ensures files { S.files store.new ≡ S.files store.old }
@@ -96,7 +98,8 @@ pub fn add_object<S: Store>(
         store.old store.new result }
     ensures within { (modules : List Module) → RepresentsModules linker.old modules →
         IsErrOf result (Malformed FileError) → object.now.begin ≤ object.now.end →
-        FailedWithin (S.last_failure store.new) object.now.file.now object.now.begin object.now.end }
+        FailedWithin (S.last_failure store.new) object.now.file.now object.now.begin
+        object.now.end }
 {
     let head = read_head(store, object.file, object.begin, object.end)?;
     linker.begin_module(object.name, head.0, object.entry)?;
@@ -111,9 +114,13 @@ const MAGIC: [u8; 4] = [0x52, 0x36, 0x35, 0x6c];
 
 /// Returns whether a file begins as a library.
 fn is_library<S: Store>(store: &mut S, name: &str) -> Result<bool, ObjectFault>
-    ensures read { IfSome (S.files store.old) (λ m. Refines is_object_system_error (λ b. b) result (in_file (get m name.now) (λ bytes. Ok (is_library bytes)))) }
-    ensures frame { StoreFrame S.files S.failures S.last_failure FileError name.now store.old store.new result }
-    ensures within { IsErrOf result FileError → FailedWithin (S.last_failure store.new) name.now 0 4 }
+    ensures read { IfSome (S.files store.old) (λ m.
+        Refines is_object_system_error (λ b. b) result
+        (in_file (get m name.now) (λ bytes. Ok (is_library bytes)))) }
+    ensures frame { StoreFrame S.files S.failures S.last_failure FileError name.now store.old
+        store.new result }
+    ensures within { IsErrOf result FileError →
+        FailedWithin (S.last_failure store.new) name.now 0 4 }
 {
     let mut first_bytes = [0u8; 4];
     let n = read_full(store, name, 0, &mut first_bytes)?;
@@ -128,7 +135,8 @@ fn add_file<S: Store>(
     input: &NamedInput<'_>,
 ) -> Result<(), LinkCommandFault>
     requires { is_open linker.old ≡ false }
-    ensures fed { AddsFile (S.files store.old) input.now.input_index input.now.name.now linker.old linker.new result }
+    ensures fed { AddsFile (S.files store.old) input.now.input_index input.now.name.now linker.old
+        linker.new result }
     ensures frame { AddModulesFrame S.files S.failures S.last_failure
         (λ _ b. NamesFailure (IsObjectFailure b input.now.input_index input.now.name.now))
         store.old store.new linker.old linker.new result }
@@ -155,7 +163,8 @@ fn add_input<S: Store>(
     input: &NamedInput<'_>,
 ) -> Result<(), LinkCommandFault>
     requires { is_open linker.old ≡ false }
-    ensures fed { AddsInput (S.files store.old) input.now.input_index input.now.name.now linker.old linker.new result }
+    ensures fed { AddsInput (S.files store.old) input.now.input_index input.now.name.now linker.old
+        linker.new result }
     ensures frame { AddModulesFrame S.files S.failures S.last_failure
         (λ before b. NamesFailure (IsInputFailure (S.files store.old) linker.old.script before b
         input.now.input_index input.now.name.now))
@@ -176,7 +185,8 @@ fn add_inputs<S: Store>(
     inputs: &[&str],
 ) -> Result<(), LinkCommandFault>
     requires { is_open linker.old ≡ false }
-    ensures fed { AddsInputs (S.files store.old) (map (λ s. s.now) inputs.now) linker.old linker.new result }
+    ensures fed { AddsInputs (S.files store.old)
+        (map (λ s. s.now) inputs.now) linker.old linker.new result }
     ensures frame { AddModulesFrame S.files S.failures S.last_failure
         (λ first b. NamesFailure (IsInputListFailure (S.files store.old) linker.old.script first b
         (map (λ s. s.now) inputs.now)))
@@ -205,9 +215,11 @@ fn link_inputs<S: Store>(
     line: &LinkArgs<'_>,
     script: Script,
 ) -> Result<Linked, LinkCommandFault>
-    ensures linked { IfSome (S.files store.old) (λ m. RefinesProp is_system_error (IsScriptedLink m (link_view line.now) script) result) }
+    ensures linked { IfSome (S.files store.old) (λ m.
+        RefinesProp is_system_error (IsScriptedLink m (link_view line.now) script) result) }
     ensures frame { NamedStoreFrame S.files S.failures S.last_failure
-        (λ b. NamesFailure (IsInputListFailure (S.files store.old) script [] b (link_view line.now).inputs))
+        (λ b. NamesFailure (IsInputListFailure (S.files store.old) script [] b
+        (link_view line.now).inputs))
         store.old store.new result }
 {
     let output = line.output.unwrap_or("a.out");
@@ -222,7 +234,8 @@ fn read_text<S: Store>(
     store: &mut S,
     name: &str,
 ) -> Result<ListVec<u8>, LinkCommandFault>
-    ensures read { IfSome (S.files store.old) (λ m. RefinesProp is_system_error (λ r. r ≡ script_text m name.now) result) }
+    ensures read { IfSome (S.files store.old) (λ m.
+        RefinesProp is_system_error (λ r. r ≡ script_text m name.now) result) }
     ensures frame { NamedStoreFrame S.files S.failures S.last_failure
         (λ b. NamesFailure (IsScriptFailure b name.now)) store.old store.new result }
     ensures at_last_count { FailsAtLastCount is_system_error (S.failures store.old) result }
@@ -239,11 +252,14 @@ pub fn link_files<S: Store>(
     store: &mut S,
     line: &LinkArgs<'_>,
 ) -> Result<Linked, LinkCommandFault>
-    ensures linked { IfSome (S.files store.old) (λ m. RefinesProp is_system_error (IsCommandLink m (link_view line.now)) result) }
+    ensures linked { IfSome (S.files store.old) (λ m.
+        RefinesProp is_system_error (IsCommandLink m (link_view line.now)) result) }
     ensures files { S.files store.new ≡ S.files store.old }
-    ensures count { PropagatesIoErrors is_failure (S.failures store.old) (S.failures store.new) result }
+    ensures count { PropagatesIoErrors is_failure (S.failures store.old)
+        (S.failures store.new) result }
     ensures named { IfErr result
-        (NamesFailure (IsCommandFailure (S.files store.old) (S.last_failure store.new) (link_view line.now))) }
+        (NamesFailure (IsCommandFailure (S.files store.old) (S.last_failure store.new)
+        (link_view line.now))) }
     ensures at_last_count { FailsAtLastCount is_system_error (S.failures store.old) result }
 {
     let text = read_text(alloc, store, line.script)?;

@@ -32,10 +32,14 @@ fn read_library_index<S: Store>(
     store: &mut S,
     input: &NamedInput<'_>,
 ) -> Result<Index, LinkCommandFault>
-    ensures read { IfSome (S.files store.old) (λ m. Refines is_system_error (λ x. x.entries) result (as_library input.now.input_index (index_in m input.now.name.now))) }
-    ensures within { IfOk result (λ x. AllByRecursion (λ e. e.place + e.size ≤ file_limit) x.entries) }
+    ensures read { IfSome (S.files store.old) (λ m.
+        Refines is_system_error (λ x. x.entries) result
+        (as_library input.now.input_index (index_in m input.now.name.now))) }
+    ensures within { IfOk result (λ x.
+        AllByRecursion (λ e. e.place + e.size ≤ file_limit) x.entries) }
     ensures frame { NamedStoreFrame S.files S.failures S.last_failure
-        (λ b. NamesFailure (IsIndexFailure (S.files store.old) b input.now.input_index input.now.name.now))
+        (λ b. NamesFailure (IsIndexFailure
+        (S.files store.old) b input.now.input_index input.now.name.now))
         store.old store.new result }
 {
     match read_index(alloc, store, input.name) {
@@ -50,8 +54,10 @@ fn needed_indices(
     linker: &Linker,
     index: &Index,
 ) -> Result<Vec<usize>, LinkCommandFault>
-    ensures chosen { IfOk result (λ entry_indices. AreNeededIndices index.now.entries entry_indices.items linker.now) }
-    ensures memory { (modules : List Module) → RepresentsModules linker.now modules → IfErr result (λ e. is_memory e ≡ true) }
+    ensures chosen { IfOk result (λ entry_indices.
+        AreNeededIndices index.now.entries entry_indices.items linker.now) }
+    ensures memory { (modules : List Module) → RepresentsModules linker.now modules →
+        IfErr result (λ e. is_memory e ≡ true) }
     ensures cause { IfErr result (λ e. is_failure e ≡ false) }
 {
     let wanted = linker.open_names()?;
@@ -71,7 +77,8 @@ struct LibraryMember<'a> {
 
 /// Returns the name of a member's module.
 fn module_name(alloc: Global, member: &LibraryMember<'_>) -> Result<ListVec<u8>, AllocError>
-    ensures { IfOk result (λ name. name ≡ member_module member.now.library.now member.now.entry.now.name) }
+    ensures { IfOk result (λ name.
+        name ≡ member_module member.now.library.now member.now.entry.now.name) }
 {
     join(
         alloc,
@@ -94,7 +101,8 @@ fn add_member<S: Store>(
 ) -> Result<(), LinkCommandFault>
     requires opened { is_open linker.old ≡ false }
     requires within { member.now.entry.now.place + member.now.entry.now.size ≤ file_limit }
-    ensures fed { AddsMembers (S.files store.old) member.now.library.now (member.now.entry.now ∷ []) linker.old linker.new result }
+    ensures fed { AddsMembers (S.files store.old) member.now.library.now
+        (member.now.entry.now ∷ []) linker.old linker.new result }
     ensures frame { AddModulesFrame S.files S.failures S.last_failure
         (λ _ b. NamesFailure (IsMemberFailure b member.now.library.now member.now.entry.now))
         store.old store.new linker.old linker.new result }
@@ -128,7 +136,8 @@ pub fn add_library<S: Store>(
     input: &NamedInput<'_>,
 ) -> Result<(), LinkCommandFault>
     requires { is_open linker.old ≡ false }
-    ensures fed { AddsLibrary (S.files store.old) input.now.input_index input.now.name.now linker.old linker.new result }
+    ensures fed { AddsLibrary (S.files store.old) input.now.input_index input.now.name.now
+        linker.old linker.new result }
     ensures frame { AddModulesFrame S.files S.failures S.last_failure
         (λ before b. NamesFailure (IsLibraryFailure (S.files store.old) linker.old.script before b
         input.now.input_index input.now.name.now))

@@ -33,9 +33,13 @@ fn read_field<S: Store>(
 ) -> Result<(), LibraryFault>
     requires at { at ≤ file_limit }
     requires short { length buf.old < 256 }
-    ensures read { IfSome (S.files store.old) (λ m. Refines is_system_error (λ _. buf.new) result (in_file (map.get m file.now) (field_at (length buf.old) at))) }
-    ensures frame { StoreFrame S.files S.failures S.last_failure FileError file.now store.old store.new result }
-    ensures within { IsErrOf result FileError → FailedWithin (S.last_failure store.new) file.now at (at + (length buf.old - 1)) }
+    ensures read { IfSome (S.files store.old) (λ m.
+        Refines is_system_error (λ _. buf.new) result
+        (in_file (map.get m file.now) (field_at (length buf.old) at))) }
+    ensures frame { StoreFrame S.files S.failures S.last_failure FileError file.now store.old
+        store.new result }
+    ensures within { IsErrOf result FileError →
+        FailedWithin (S.last_failure store.new) file.now at (at + (length buf.old - 1)) }
     ensures limit { OnOk result (at + length buf.old ≤ file_limit) }
 {
     let n = read_full(store, file, at, buf)?;
@@ -52,9 +56,12 @@ fn read_field<S: Store>(
 #[tactic(auto, unfolding(crate::specs::Reading::number_at))]
 fn read_number<S: Store>(store: &mut S, file: &str, at: u64) -> Result<u32, LibraryFault>
     requires { at ≤ file_limit }
-    ensures read { IfSome (S.files store.old) (λ m. Refines is_system_error (λ n. n) result (in_file (map.get m file.now) (number_at at))) }
-    ensures frame { StoreFrame S.files S.failures S.last_failure FileError file.now store.old store.new result }
-    ensures within { IsErrOf result FileError → FailedWithin (S.last_failure store.new) file.now at (at + 3) }
+    ensures read { IfSome (S.files store.old) (λ m.
+        Refines is_system_error (λ n. n) result (in_file (map.get m file.now) (number_at at))) }
+    ensures frame { StoreFrame S.files S.failures S.last_failure FileError file.now store.old
+        store.new result }
+    ensures within { IsErrOf result FileError →
+        FailedWithin (S.last_failure store.new) file.now at (at + 3) }
     ensures limit { OnOk result (at + 4 ≤ file_limit) }
 {
     let mut bytes = [0u8; 4];
@@ -71,9 +78,12 @@ fn read_name<S: Store>(
     at: u64,
 ) -> Result<(ListVec<u8>, u64), LibraryFault>
     requires { at ≤ file_limit }
-    ensures read { IfSome (S.files store.old) (λ m. Refines is_system_error (λ x. x) result (in_file (map.get m file.now) (name_at at))) }
-    ensures frame { StoreFrame S.files S.failures S.last_failure FileError file.now store.old store.new result }
-    ensures before { IsErrOf result FileError → RequestsOffset (S.files store.old) (S.last_failure store.new) file.now (IsOffsetInName at) }
+    ensures read { IfSome (S.files store.old) (λ m.
+        Refines is_system_error (λ x. x) result (in_file (map.get m file.now) (name_at at))) }
+    ensures frame { StoreFrame S.files S.failures S.last_failure FileError file.now store.old
+        store.new result }
+    ensures before { IsErrOf result FileError →
+        RequestsOffset (S.files store.old) (S.last_failure store.new) file.now (IsOffsetInName at) }
     ensures end { IfOk result (λ x. (at < x.1) × (x.1 ≤ file_limit)) }
 {
     let mut len = [0u8; 1];
@@ -94,9 +104,14 @@ fn read_symbols<S: Store>(
     at: u64,
 ) -> Result<(ListVec<ListVec<u8>>, u64), LibraryFault>
     requires { at ≤ file_limit }
-    ensures read { IfSome (S.files store.old) (λ m. Refines is_system_error (λ x. x) result (in_file (map.get m file.now) (counted_names_at at))) }
-    ensures frame { StoreFrame S.files S.failures S.last_failure FileError file.now store.old store.new result }
-    ensures before { IsErrOf result FileError → RequestsOffset (S.files store.old) (S.last_failure store.new) file.now (IsOffsetInPart (counted_names_at at)) }
+    ensures read { IfSome (S.files store.old) (λ m.
+        Refines is_system_error (λ x. x) result
+        (in_file (map.get m file.now) (counted_names_at at))) }
+    ensures frame { StoreFrame S.files S.failures S.last_failure FileError file.now store.old
+        store.new result }
+    ensures before { IsErrOf result FileError →
+        RequestsOffset (S.files store.old) (S.last_failure store.new) file.now
+        (IsOffsetInPart (counted_names_at at)) }
     ensures end { IfOk result (λ x. (at < x.1) × (x.1 ≤ file_limit)) }
 {
     let count = read_number(store, file, at)?;
@@ -124,9 +139,14 @@ fn read_entry<S: Store>(
     names: &IndexSet<Vec<u8>>,
 ) -> Result<(UnplacedEntry, u64), LibraryFault>
     requires { at ≤ file_limit }
-    ensures read { IfSome (S.files store.old) (λ m. Refines is_system_error (λ x. x) result (in_file (map.get m file.now) (unplaced_entry_at (map (λ n. n.items) names.now.keys) at))) }
-    ensures frame { StoreFrame S.files S.failures S.last_failure FileError file.now store.old store.new result }
-    ensures before { IsErrOf result FileError → RequestsOffset (S.files store.old) (S.last_failure store.new) file.now (IsOffsetInPart (unplaced_entry_at (map (λ n. n.items) names.now.keys) at)) }
+    ensures read { IfSome (S.files store.old) (λ m.
+        Refines is_system_error (λ x. x) result
+        (in_file (map.get m file.now) (unplaced_entry_at (map (λ n. n.items) names.now.keys) at))) }
+    ensures frame { StoreFrame S.files S.failures S.last_failure FileError file.now store.old
+        store.new result }
+    ensures before { IsErrOf result FileError →
+        RequestsOffset (S.files store.old) (S.last_failure store.new) file.now
+        (IsOffsetInPart (unplaced_entry_at (map (λ n. n.items) names.now.keys) at)) }
     ensures end { IfOk result (λ x. (at < x.1) × (x.1 ≤ file_limit)) }
     ensures new { IfOk result (λ x. is_among (map (λ n. n.items) names.now.keys) x.0.name ≡ false) }
 {
@@ -150,10 +170,13 @@ fn read_entry<S: Store>(
 
 /// Reads the number of members after the head. Rejects a file without the head of a library.
 fn read_count<S: Store>(store: &mut S, file: &str) -> Result<u32, LibraryFault>
-    ensures read { IfSome (S.files store.old) (λ m. Refines is_system_error (λ n. n) result (in_file (map.get m file.now) count_at)) }
+    ensures read { IfSome (S.files store.old) (λ m.
+        Refines is_system_error (λ n. n) result (in_file (map.get m file.now) count_at)) }
     ensures bytes { IfSome (S.files store.old) (λ m. HasOnlyBytes (map.get m file.now) result) }
-    ensures frame { StoreFrame S.files S.failures S.last_failure FileError file.now store.old store.new result }
-    ensures within { IsErrOf result FileError → FailedWithin (S.last_failure store.new) file.now 0 8 }
+    ensures frame { StoreFrame S.files S.failures S.last_failure FileError file.now store.old
+        store.new result }
+    ensures within { IsErrOf result FileError →
+        FailedWithin (S.last_failure store.new) file.now 0 8 }
     ensures at_last_count { FailsAtLastCount is_system_error (S.failures store.old) result }
 {
     let mut head = [0u8; 5];
@@ -170,10 +193,15 @@ fn read_entries<S: Store>(
     store: &mut S,
     file: &str,
 ) -> Result<(Vec<UnplacedEntry>, u64), LibraryFault>
-    ensures read { IfSome (S.files store.old) (λ m. Refines is_system_error (λ x. (x.0.items, x.1)) result (in_file (map.get m file.now) member_entries_at)) }
+    ensures read { IfSome (S.files store.old) (λ m.
+        Refines is_system_error (λ x. (x.0.items, x.1)) result
+        (in_file (map.get m file.now) member_entries_at)) }
     ensures bytes { IfSome (S.files store.old) (λ m. HasOnlyBytes (map.get m file.now) result) }
-    ensures frame { StoreFrame S.files S.failures S.last_failure FileError file.now store.old store.new result }
-    ensures before { IsErrOf result FileError → RequestsOffset (S.files store.old) (S.last_failure store.new) file.now (IsOffsetInPart member_entries_at) }
+    ensures frame { StoreFrame S.files S.failures S.last_failure FileError file.now store.old
+        store.new result }
+    ensures before { IsErrOf result FileError →
+        RequestsOffset (S.files store.old) (S.last_failure store.new) file.now
+        (IsOffsetInPart member_entries_at) }
     ensures at_last_count { FailsAtLastCount is_system_error (S.failures store.old) result }
     ensures end { IfOk result (λ x. (0 < x.1) × (x.1 ≤ file_limit)) }
 {
@@ -198,8 +226,10 @@ fn place_members(
     at: u64,
 ) -> Result<(Vec<Entry>, u64), LibraryFault>
     requires { at ≤ file_limit }
-    ensures placed { Refines is_memory (λ x. (x.0.items, x.1)) result (members_with_offsets [] at members.items) }
-    ensures within { IfOk result (λ x. AllByRecursion (λ e. e.place + e.size ≤ file_limit) x.0.items) }
+    ensures placed { Refines is_memory (λ x. (x.0.items, x.1)) result
+        (members_with_offsets [] at members.items) }
+    ensures within { IfOk result (λ x.
+        AllByRecursion (λ e. e.place + e.size ≤ file_limit) x.0.items) }
     ensures end { IfOk result (λ x. (at ≤ x.1) × (x.1 ≤ file_limit)) }
     ensures cause { IsErrOf result LibraryFault.FileError → ⊥ }
 {
@@ -231,13 +261,17 @@ fn place_members(
 /// Reads the index of a library. Of the members' bytes only the last is read, to check the file size.
 #[tactic(auto, unfolding(crate::specs::Reading::index_at))]
 pub fn read_index<S: Store>(alloc: Global, store: &mut S, file: &str) -> Result<Index, LibraryFault>
-    ensures read { IfSome (S.files store.old) (λ m. Refines is_system_error (λ x. x.entries) result (in_file (map.get m file.now) index_at)) }
+    ensures read { IfSome (S.files store.old) (λ m.
+        Refines is_system_error (λ x. x.entries) result (in_file (map.get m file.now) index_at)) }
     ensures bytes { IfSome (S.files store.old) (λ m. HasOnlyBytes (map.get m file.now) result) }
-    ensures frame { StoreFrame S.files S.failures S.last_failure FileError file.now store.old store.new result }
-    ensures before { IsErrOf result FileError → RequestsOffset (S.files store.old) (S.last_failure store.new) file.now IsIndexOffset }
+    ensures frame { StoreFrame S.files S.failures S.last_failure FileError file.now store.old
+        store.new result }
+    ensures before { IsErrOf result FileError →
+        RequestsOffset (S.files store.old) (S.last_failure store.new) file.now IsIndexOffset }
     ensures at_last_count { FailsAtLastCount is_system_error (S.failures store.old) result }
     // Holds even if the store's files aren't known.
-    ensures within { IfOk result (λ x. AllByRecursion (λ e. e.place + e.size ≤ file_limit) x.entries) }
+    ensures within { IfOk result (λ x.
+        AllByRecursion (λ e. e.place + e.size ≤ file_limit) x.entries) }
 {
     let (members, at) = read_entries(alloc, store, file)?;
     let (entries, end) = place_members(alloc, members, at)?;

@@ -95,7 +95,8 @@ pub fn insert_member(
     requires sound { LibraryInvariant members.old }
     requires checked { member_contents name.items stored.bytes.items ≡ Ok stored.contents }
     requires symbols { HasValidSymbols stored.contents }
-    ensures put { OnOk result (members_of members.new ≡ with_member (members_of members.old) name.items stored.bytes.items) }
+    ensures put { OnOk result (members_of members.new ≡
+        with_member (members_of members.old) name.items stored.bytes.items) }
     ensures unchanged { OnErr result (members_of members.new ≡ members_of members.old) }
     ensures sound { LibraryInvariant members.new }
 {
@@ -124,9 +125,11 @@ impl Library {
 
     /// Reads a library from its file, with all members.
     pub fn load<S: Store>(alloc: Global, store: &mut S, file: &str) -> Result<Self, LibraryFault>
-        ensures read { IfSome (S.files store.old) (λ m. Refines is_system_error (λ l. l) result (in_file (map.get m file.now) library_at)) }
+        ensures read { IfSome (S.files store.old) (λ m.
+            Refines is_system_error (λ l. l) result (in_file (map.get m file.now) library_at)) }
         ensures bytes { IfSome (S.files store.old) (λ m. HasOnlyBytes (map.get m file.now) result) }
-        ensures frame { StoreFrame S.files S.failures S.last_failure FileError file.now store.old store.new result }
+        ensures frame { StoreFrame S.files S.failures S.last_failure FileError file.now store.old
+            store.new result }
         ensures at_last_count { FailsAtLastCount is_system_error (S.failures store.old) result }
     {
         let members = read_members(alloc, store, file)?;
@@ -141,7 +144,8 @@ impl Library {
     /// nothing.
     #[tactic(auto, unfolding(crate::specs::Libraries::with_new_member))]
     pub fn replace(&mut self, name: &[u8], bytes: &[u8]) -> Result<(), LibraryFault>
-        ensures replaced { Refines is_memory (λ _. self.new) result (with_new_member self.old name.now bytes.now) }
+        ensures replaced { Refines is_memory (λ _. self.new) result
+            (with_new_member self.old name.now bytes.now) }
         ensures unchanged { OnErr result (self.new ≡ self.old) }
     {
         let contents = check_member(self.alloc, &mut self.buffers, name, bytes)?;
@@ -153,7 +157,8 @@ impl Library {
 
     /// Removes the member of this name. An error changes nothing.
     pub fn delete(&mut self, name: &[u8]) -> Result<(), LibraryFault>
-        ensures deleted { Refines is_memory (λ _. self.new) result (without_named_member self.old name.now) }
+        ensures deleted { Refines is_memory (λ _. self.new) result
+            (without_named_member self.old name.now) }
         ensures unchanged { OnErr result (self.new ≡ self.old) }
     {
         if !self.members.contains_key(name) {
@@ -182,7 +187,8 @@ impl Library {
     /// Appends the bytes of the library; rejects them if they exceed the size limit of a file. An error
     /// changes nothing.
     pub fn write(&self, out: &mut Vec<u8>) -> Result<(), LibraryFault>
-        ensures written { Refines is_memory (λ _. out.new.items) result (written_after out.old.items self.now) }
+        ensures written { Refines is_memory (λ _. out.new.items) result
+            (written_after out.old.items self.now) }
         ensures unchanged { OnErr result (out.new.items ≡ out.old.items) }
     {
         let mut bytes = Vec::new(self.alloc);

@@ -41,9 +41,13 @@ fn read_chunk<S: Store>(
 ) -> Result<usize, StoreFault>
     requires short { length chunk.old ≤ 4096 }
     requires limit { at ≤ file_limit }
-    ensures read { IfSome (S.files store.old) (λ m. ReadsChunk (map.get m file.now) at (length chunk.old) bytes.old.items bytes.new.items result) }
-    ensures grown { IfOk result (λ n. (n ≤ length chunk.old) × (length bytes.new.items ≡ length bytes.old.items + n)) }
-    ensures frame { StoreFrame S.files S.failures S.last_failure StoreFault.FileError file.now store.old store.new result }
+    ensures read { IfSome (S.files store.old) (λ m.
+        ReadsChunk (map.get m file.now) at
+        (length chunk.old) bytes.old.items bytes.new.items result) }
+    ensures grown { IfOk result (λ n. (n ≤ length chunk.old) ×
+        (length bytes.new.items ≡ length bytes.old.items + n)) }
+    ensures frame { StoreFrame S.files S.failures S.last_failure StoreFault.FileError file.now
+        store.old store.new result }
 {
     let n = read_full(store, file, at, chunk)?;
     bytes.extend_from_slice(&chunk[..n])?;
@@ -59,8 +63,11 @@ fn read_member_bytes<S: Store>(
     chunk: &mut [u8; CHUNK],
 ) -> Result<Vec<u8>, LibraryFault>
     requires { entry.now.place + entry.now.size ≤ file_limit }
-    ensures read { IfSome (S.files store.old) (λ m. Refines is_system_error (λ v. v.items) result (in_file (map.get m file.now) (member_bytes_at entry.now.size entry.now.place))) }
-    ensures frame { StoreFrame S.files S.failures S.last_failure FileError file.now store.old store.new result }
+    ensures read { IfSome (S.files store.old) (λ m.
+        Refines is_system_error (λ v. v.items) result
+        (in_file (map.get m file.now) (member_bytes_at entry.now.size entry.now.place))) }
+    ensures frame { StoreFrame S.files S.failures S.last_failure FileError file.now store.old
+        store.new result }
 {
     let size = entry.size as usize;
     let mut bytes = Vec::new(alloc);
@@ -94,8 +101,12 @@ fn load_member<S: Store>(
 ) -> Result<(), LibraryFault>
     requires sound { LibraryInvariant loader.old.members }
     requires within { entry.now.place + entry.now.size ≤ file_limit }
-    ensures read { IfSome (S.files store.old) (λ m. Refines is_system_error (λ _. members_of loader.new.members) result (in_file (map.get m file.now) (with_library_entry (members_of loader.old.members) entry.now))) }
-    ensures frame { StoreFrame S.files S.failures S.last_failure FileError file.now store.old store.new result }
+    ensures read { IfSome (S.files store.old) (λ m.
+        Refines is_system_error (λ _. members_of loader.new.members) result
+        (in_file (map.get m file.now)
+        (with_library_entry (members_of loader.old.members) entry.now))) }
+    ensures frame { StoreFrame S.files S.failures S.last_failure FileError file.now store.old
+        store.new result }
     ensures sound { OnOk result (LibraryInvariant loader.new.members) }
 {
     let alloc = loader.alloc;
@@ -116,9 +127,12 @@ pub fn read_members<S: Store>(
     store: &mut S,
     file: &str,
 ) -> Result<IndexMap<Vec<u8>, StoredMember, Seed>, LibraryFault>
-    ensures read { IfSome (S.files store.old) (λ m. Refines is_system_error (λ ms. members_of ms) result (in_file (map.get m file.now) library_at)) }
+    ensures read { IfSome (S.files store.old) (λ m.
+        Refines is_system_error (λ ms. members_of ms) result
+        (in_file (map.get m file.now) library_at)) }
     ensures bytes { IfSome (S.files store.old) (λ m. HasOnlyBytes (map.get m file.now) result) }
-    ensures frame { StoreFrame S.files S.failures S.last_failure FileError file.now store.old store.new result }
+    ensures frame { StoreFrame S.files S.failures S.last_failure FileError file.now store.old
+        store.new result }
     ensures at_last_count { FailsAtLastCount is_system_error (S.failures store.old) result }
     ensures sound { IfOk result (λ ms. LibraryInvariant ms) }
 {

@@ -27,7 +27,10 @@ fn add_exports<'a>(
     names: &'a [ListVec<u8>],
     index: usize,
 ) -> Result<(), AllocError>
-    ensures { OnOk result ((name : List ℕ) → get_by (λ k. bytes_eq name k.now) by_name.new ≡ (if is_among names.entry.now name then Some index else get_by (λ k. bytes_eq name k.now) by_name.old)) }
+    ensures { OnOk result ((name : List ℕ) →
+        get_by (λ k. bytes_eq name k.now) by_name.new ≡
+        (if is_among names.entry.now name then Some index else get_by
+        (λ k. bytes_eq name k.now) by_name.old)) }
 {
     for name in names {
         by_name.insert(name.as_slice(), index)?;
@@ -87,7 +90,8 @@ fn find_name(
     name: &[u8],
 ) -> Result<(), AllocError>
     requires { SearchInvariant exporters.now found.old }
-    ensures { OnOk result (ExtendsSearch exporters.now (map (λ n. n.items) defined.now.keys) (name.now ∷ []) found.old found.new) }
+    ensures { OnOk result (ExtendsSearch exporters.now (map (λ n. n.items) defined.now.keys)
+        (name.now ∷ []) found.old found.new) }
 {
     if has_name(defined, name) {
         return Ok(());
@@ -113,7 +117,9 @@ fn find_imports(
     names: &[ListVec<u8>],
 ) -> Result<(), AllocError>
     requires { SearchInvariant exporters.now found.old }
-    ensures { OnOk result (ExtendsSearch exporters.now (map (λ n. n.items) defined.now.keys) names.now found.old found.new) }
+    ensures { OnOk result
+        (ExtendsSearch exporters.now
+        (map (λ n. n.items) defined.now.keys) names.now found.old found.new) }
 {
     for name in names {
         find_name(exporters, defined, found, name.as_slice())?;
@@ -129,7 +135,8 @@ fn find_wanted(
     names: &[Vec<u8>],
 ) -> Result<(), AllocError>
     requires { SearchInvariant exporters.now found.old }
-    ensures { OnOk result (ExtendsSearch exporters.now (map (λ n. n.items) defined.now.keys) (map (λ n. n.items) names.now) found.old found.new) }
+    ensures { OnOk result (ExtendsSearch exporters.now (map (λ n. n.items) defined.now.keys)
+        (map (λ n. n.items) names.now) found.old found.new) }
 {
     for name in names {
         find_name(exporters, defined, found, name.as_slice())?;
@@ -147,7 +154,10 @@ pub fn find_all(
 ) -> Result<(), AllocError>
     requires stands { SearchInvariant exporters.now found.old }
     requires none { found.old.indices.items ≡ [] }
-    ensures found { OnOk result (IsSearchState exporters.now.entries.now (map (λ n. n.items) wanted.now.keys) (map (λ n. n.items) defined.now.keys) found.new.indices.items (length found.new.indices.items)) }
+    ensures found { OnOk result (IsSearchState exporters.now.entries.now
+        (map (λ n. n.items) wanted.now.keys)
+        (map (λ n. n.items) defined.now.keys) found.new.indices.items
+        (length found.new.indices.items)) }
     ensures stands { OnOk result (SearchInvariant exporters.now found.new) }
 {
     find_wanted(exporters, defined, found, wanted.as_slice())?;
@@ -182,8 +192,11 @@ pub fn select(
     wanted: &Names,
     defined: &Names,
 ) -> Result<Vec<usize>, LibraryFault>
-    ensures selected { IfOk result (λ indices. IsSelection index.now.entries (map (λ n. n.items) wanted.now.keys) (map (λ n. n.items) defined.now.keys) indices.items) }
-    ensures within { IfOk result (λ indices. AllByRecursion (λ i. i < length index.now.entries) indices.items) }
+    ensures selected { IfOk result (λ indices.
+        IsSelection index.now.entries (map (λ n. n.items) wanted.now.keys)
+        (map (λ n. n.items) defined.now.keys) indices.items) }
+    ensures within { IfOk result (λ indices.
+        AllByRecursion (λ i. i < length index.now.entries) indices.items) }
     ensures memory { IfErr result (λ e. e ≡ LibraryFault.OutOfMemory) }
 {
     let exporters = Exporters::of(alloc, index.entries.as_slice())?;

@@ -48,7 +48,8 @@ fn encode_name(out: &mut Vec<u8>, name: &[u8]) -> Result<(), AllocError>
 /// Appends the number of names and, for each, its length and its bytes.
 fn encode_names(out: &mut Vec<u8>, names: &[ListVec<u8>]) -> Result<(), LibraryFault>
     requires { list_all is_name names.now ≡ true }
-    ensures { AppendsBytes (names_bytes names.now) (length (names_bytes names.now)) out.old.items out.new.items result }
+    ensures { AppendsBytes (names_bytes names.now)
+        (length (names_bytes names.now)) out.old.items out.new.items result }
 {
     let count = count_of(names.len())?;
     encode_number(out, count)?;
@@ -62,7 +63,12 @@ fn encode_names(out: &mut Vec<u8>, names: &[ListVec<u8>]) -> Result<(), LibraryF
 fn encode_entry(out: &mut Vec<u8>, name: &[u8], stored: &StoredMember) -> Result<(), LibraryFault>
     requires name { length name.now < 256 }
     requires symbols { HasValidSymbols stored.now.contents }
-    ensures { AppendsBytes (index_entry_bytes name.now (length stored.now.bytes.items) stored.now.contents.exports stored.now.contents.imports) (length (index_entry_bytes name.now (length stored.now.bytes.items) stored.now.contents.exports stored.now.contents.imports) + length stored.now.bytes.items) out.old.items out.new.items result }
+    ensures { AppendsBytes
+        (index_entry_bytes name.now
+        (length stored.now.bytes.items) stored.now.contents.exports stored.now.contents.imports)
+        (length (index_entry_bytes name.now
+        (length stored.now.bytes.items) stored.now.contents.exports stored.now.contents.imports) +
+        length stored.now.bytes.items) out.old.items out.new.items result }
 {
     let size = count_of(stored.bytes.len())?;
     encode_name(out, name)?;
@@ -77,7 +83,9 @@ fn encode_entries(
     members: &IndexMap<Vec<u8>, StoredMember, Seed>,
 ) -> Result<(), LibraryFault>
     requires { LibraryInvariant members.now }
-    ensures { AppendsBytes (flat_map member_entry_bytes (members_of members.now)) (length (flat_map member_entry_bytes (members_of members.now)) + length (flat_map (λ m. m.1) (members_of members.now))) out.old.items out.new.items result }
+    ensures { AppendsBytes (flat_map member_entry_bytes (members_of members.now))
+        (length (flat_map member_entry_bytes (members_of members.now)) + length
+        (flat_map (λ m. m.1) (members_of members.now))) out.old.items out.new.items result }
 {
     for (name, stored) in members.iter() {
         encode_entry(out, name.as_slice(), stored)?;
@@ -91,7 +99,8 @@ pub fn encode_library(
     members: &IndexMap<Vec<u8>, StoredMember, Seed>,
 ) -> Result<(), LibraryFault>
     requires { LibraryInvariant members.now }
-    ensures { AppendsBytes (library_bytes (members_of members.now)) (length (library_bytes (members_of members.now))) out.old.items out.new.items result }
+    ensures { AppendsBytes (library_bytes (members_of members.now))
+        (length (library_bytes (members_of members.now))) out.old.items out.new.items result }
 {
     let count = count_of(members.len())?;
     out.extend_from_slice(&MAGIC)?;

@@ -58,7 +58,13 @@ fn sum(a: u64, b: u64) -> Result<u64, AllocError>
 fn open_section(content: &mut SegmentContent, align: u32) -> Result<u64, AllocError>
     requires { 0 < align }
     ensures begin { IfOk result (λ n. n ≡ rounded_up content.old.size align) }
-    ensures grown { OnOk result (segment_from content.new ≡ record (with_gap (rounded_up content.old.size align - content.old.size) (segment_from content.old)) { size = rounded_up content.old.size align; align = max content.old.align align }) }
+    ensures grown { OnOk result (segment_from content.new ≡
+        record (with_gap (rounded_up content.old.size align - content.old.size)
+        (segment_from content.old)) {
+          size = rounded_up content.old.size align;
+          align = max
+              content.old.align align;
+        }) }
     ensures name { OnOk result (content.new.name ≡ content.old.name) }
 {
     let alignment = u64::from(align);
@@ -121,7 +127,8 @@ fn add_fragment(
     fragment: Fragment,
 ) -> Result<(), AllocError>
     requires { len ≡ fragment_len fragment }
-    ensures grown { OnOk result (segment_from content.new ≡ with_cells (fragment_len fragment) (fragment_cells owner fragment) (segment_from content.old)) }
+    ensures grown { OnOk result (segment_from content.new ≡ with_cells (fragment_len fragment)
+        (fragment_cells owner fragment) (segment_from content.old)) }
     ensures name { OnOk result (content.new.name ≡ content.old.name) }
 {
     let size = sum(content.size, len)?;
@@ -144,8 +151,11 @@ fn find_or_add_segment(
     name: &[u8],
 ) -> Result<usize, AllocError>
     requires { NamesResolve program_builder.old }
-    ensures added { OnOk result (RepresentsPartialProgram program_builder.new (with_partial_segments (partial_program_in program_builder.old) (with_name name.now (segments_from program_builder.old.contents.items)))) }
-    ensures index { IfOk result (λ i. segment_index name.now (names_in program_builder.new) ≡ Some i) }
+    ensures added { OnOk result (RepresentsPartialProgram program_builder.new
+        (with_partial_segments (partial_program_in program_builder.old)
+        (with_name name.now (segments_from program_builder.old.contents.items)))) }
+    ensures index { IfOk result (λ i.
+        segment_index name.now (names_in program_builder.new) ≡ Some i) }
     ensures within { IfOk result (λ i. i < length program_builder.new.contents.items) }
 {
     if let Some(index) = segment_index(&program_builder.names, name) {
@@ -172,7 +182,8 @@ fn begin_section(
 ) -> Result<(), AllocError>
     requires named { NamesResolve program_builder.old }
     requires small { align ≤ 15 }
-    ensures { OnOk result (RepresentsPartialProgram program_builder.new (with_empty_section (partial_program_in program_builder.old) (empty_section name align))) }
+    ensures { OnOk result (RepresentsPartialProgram program_builder.new
+        (with_empty_section (partial_program_in program_builder.old) (empty_section name align))) }
 {
     let at = find_or_add_segment(program_builder, name.as_slice())?;
     let begin = open_section(&mut program_builder.contents[at], 1 << align)?;
@@ -192,7 +203,9 @@ fn add_section_fragment(
     fragment: Fragment,
 ) -> Result<(), AllocError>
     requires { NamesResolve program_builder.old }
-    ensures { OnOk result (RepresentsPartialProgram program_builder.new (with_section_fragment (partial_program_in program_builder.old) k fragment (slice_get program_builder.old.sections.items k))) }
+    ensures { OnOk result (RepresentsPartialProgram program_builder.new
+        (with_section_fragment (partial_program_in program_builder.old) k fragment
+        (slice_get program_builder.old.sections.items k))) }
 {
     if k >= program_builder.sections.len() {
         return Ok(());
@@ -210,7 +223,8 @@ fn add_section_fragment(
 pub fn add_item(program_builder: &mut ProgramBuilder, item: Item) -> Result<(), AllocError>
     requires named { NamesResolve program_builder.old }
     requires small { HasValidAlignment item }
-    ensures { OnOk result (RepresentsPartialProgram program_builder.new (program_with_item (partial_program_in program_builder.old) item)) }
+    ensures { OnOk result (RepresentsPartialProgram program_builder.new
+        (program_with_item (partial_program_in program_builder.old) item)) }
 {
     let owner = program_builder.members.len();
     match item {
@@ -252,7 +266,8 @@ pub fn add_item(program_builder: &mut ProgramBuilder, item: Item) -> Result<(), 
 /// Ends the open module, which has this name.
 pub fn end_module(program_builder: &mut ProgramBuilder, name: ListVec<u8>) -> Result<(), LinkFault>
     requires { NamesResolve program_builder.old }
-    ensures ended { OnOk result (RepresentsPartialProgram program_builder.new (without_open_module (closed_program (partial_program_in program_builder.old) name))) }
+    ensures ended { OnOk result (RepresentsPartialProgram program_builder.new
+        (without_open_module (closed_program (partial_program_in program_builder.old) name))) }
     ensures memory { IfErr result (λ e. is_memory e ≡ true) }
 {
     let alloc = program_builder.alloc;

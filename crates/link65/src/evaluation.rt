@@ -141,7 +141,8 @@ fn evaluate_export(
 ) -> Result<(), AllocError>
     requires untouched { slice_get states.old root ≡ Some Untouched }
     requires invariant { ExportStatesInvariant (linkage modules.now exports.now) states.old }
-    ensures invariant { OnOk result (ExportStatesInvariant (linkage modules.now exports.now) states.new) }
+    ensures invariant { OnOk result
+        (ExportStatesInvariant (linkage modules.now exports.now) states.new) }
     ensures found { OnOk result (IsFound states.new root) }
     ensures kept { OnOk result (PreservesResults states.old states.new) }
 {
@@ -172,7 +173,8 @@ pub fn evaluate_exports(
     modules: &[ModuleBindings],
     exports: &[ModuleExport],
 ) -> Result<Vec<ExportState>, AllocError>
-    ensures { IfOk result (λ states. AreFinalStates (linkage modules.now exports.now) states.items) }
+    ensures { IfOk result (λ states.
+        AreFinalStates (linkage modules.now exports.now) states.items) }
 {
     let mut states = vec![in alloc; ExportState::Untouched; exports.len()]?;
     for root in 0..states.len() {

@@ -55,7 +55,8 @@ fn no_loads<'a>(alloc: Global, areas: usize) -> Result<Vec<ListVec<RowImage<'a>>
 /// Adds a row to those of its load area, if it is written and there is such an area.
 fn add_row<'a>(loads: &mut Vec<ListVec<RowImage<'a>>>, load: RowImage<'a>) -> Result<(), AllocError>
     ensures { OnOk result ((k : ℕ) → slice_get loads.new.items k
-        ≡ option_map (λ m. if is_loaded k load.entry.row.now then m ++ load.entry ∷ [] else m) (slice_get loads.old.items k)) }
+        ≡ option_map (λ m. if is_loaded k load.entry.row.now then m ++ load.entry ∷ [] else m)
+        (slice_get loads.old.items k)) }
 {
     let area = load.row.load;
     if load.row.access.is_written() && area < loads.len() {
@@ -72,7 +73,9 @@ fn loads_of<'a>(
     placements: &[RowPlacement],
     mut contents: Vec<ListVec<u8>>,
 ) -> Result<Vec<ListVec<RowImage<'a>>>, AllocError>
-    ensures { IfOk result (λ v. (bytes : RowBytes) → contents.items ≡ map (written_row_bytes bytes) rows.entry.now → (k : ℕ) → k < areas → HasRowImages bytes k rows.entry.now placements.now (slice_get v.items k)) }
+    ensures { IfOk result (λ v. (bytes : RowBytes) →
+        contents.items ≡ map (written_row_bytes bytes) rows.entry.now → (k : ℕ) → k < areas →
+        HasRowImages bytes k rows.entry.now placements.now (slice_get v.items k)) }
 {
     let mut loads = no_loads(alloc, areas)?;
     for (i, row) in rows.iter().enumerate() {
@@ -129,7 +132,8 @@ fn end_of(start: u64, loads: &[RowImage<'_>]) -> u128
 
 /// Returns the length of an area's file.
 fn file_len(filled: &AreaImage<'_, '_>) -> u128
-    ensures { result ≡ file_len filled.now.area.now filled.now.placement (map placed_row_of filled.now.loads) }
+    ensures { result ≡ file_len filled.now.area.now filled.now.placement
+        (map placed_row_of filled.now.loads) }
 {
     if filled.area.fill {
         u128::from(filled.placement.size)
@@ -151,7 +155,8 @@ fn is_single_piece(len: usize, start: u64, loads: &[RowImage<'_>]) -> bool
 /// Returns the bytes of an area's file, all in memory: those of rows, and the fill value in gaps. If one row is the
 /// whole file, its bytes aren't copied.
 fn area_file(alloc: Global, filled: AreaImage<'_, '_>) -> Result<ListVec<u8>, AllocError>
-    ensures { IfOk result (λ image. IsFileOf filled.entry.area.now filled.entry.placement (map view filled.entry.loads) image) }
+    ensures { IfOk result (λ image.
+        IsFileOf filled.entry.area.now filled.entry.placement (map view filled.entry.loads) image) }
 {
     let Ok(len) = usize::try_from(file_len(&filled)) else {
         return Err(AllocError);
@@ -191,7 +196,8 @@ impl<'a> OutputFiles<'a> {
     /// Appends bytes to the file of a name, or adds that file after the others.
     fn add(&mut self, alloc: Global, name: &'a str, bytes: ListVec<u8>) -> Result<(), AllocError>
         requires { AreFileNames self.old }
-        ensures files { OnOk result (self.new.outputs.items ≡ with_bytes name.entry.now bytes self.old.outputs.items) }
+        ensures files { OnOk result (self.new.outputs.items ≡
+            with_bytes name.entry.now bytes self.old.outputs.items) }
         ensures named { OnOk result (AreFileNames self.new) }
     {
         let (index, is_new) = self.names.insert_full(name)?;
@@ -214,7 +220,9 @@ impl<'a> OutputFiles<'a> {
         filled: AreaImage<'_, '_>,
     ) -> Result<(), AllocError>
         requires { AreFileNames self.old }
-        ensures files { OnOk result (AddsArea (length name.entry.now == 0) name.entry.now (IsFileOf filled.entry.area.now filled.entry.placement (map view filled.entry.loads)) self.old.outputs.items self.new.outputs.items) }
+        ensures files { OnOk result (AddsArea (length name.entry.now == 0) name.entry.now
+            (IsFileOf filled.entry.area.now filled.entry.placement (map view filled.entry.loads))
+            self.old.outputs.items self.new.outputs.items) }
         ensures named { OnOk result (AreFileNames self.new) }
     {
         if name.is_empty() {
@@ -248,7 +256,10 @@ pub fn files_of(
     contents: Vec<ListVec<u8>>,
     placement: &Placement,
 ) -> Result<ListVec<OutputFile>, AllocError>
-    ensures { IfOk result (λ files. (bytes : RowBytes) → contents.items ≡ map (written_row_bytes bytes) script.now.rows → AddsAreas output.now (IsAreaFile script.now.rows placement.now bytes) 0 script.now.areas [] files) }
+    ensures { IfOk result (λ files. (bytes : RowBytes) →
+        contents.items ≡ map (written_row_bytes bytes) script.now.rows →
+        AddsAreas output.now
+        (IsAreaFile script.now.rows placement.now bytes) 0 script.now.areas [] files) }
 {
     let areas = script.areas.as_slice();
     let rows = script.rows.as_slice();

@@ -30,8 +30,10 @@ fn add_piece(
     bytes: &mut Vec<u8>,
 ) -> Result<(), LinkFault>
     requires { AllFound program.now.states.now }
-    ensures checked { Refines is_memory (λ u. u) result (check_each (check_in program.now) (piece_fixups piece.now)) }
-    ensures bytes { OnOk result (bytes.new.items ≡ bytes.old.items ++ flat_map (cell_in program.now fill) (piece_cells piece.now)) }
+    ensures checked { Refines is_memory (λ u. u) result
+        (check_each (check_in program.now) (piece_fixups piece.now)) }
+    ensures bytes { OnOk result (bytes.new.items ≡
+        bytes.old.items ++ flat_map (cell_in program.now fill) (piece_cells piece.now)) }
 {
     match piece {
         SegmentPiece::Known(known) => Ok(bytes.extend_from_slice(known.as_slice())?),
@@ -53,7 +55,8 @@ fn check_pieces(
     pieces: &[SegmentPiece],
 ) -> Result<(), LinkFault>
     requires { AllFound program.now.states.now }
-    ensures { Refines is_memory (λ u. u) result (check_each (check_in program.now) (flat_map piece_fixups pieces.now)) }
+    ensures { Refines is_memory (λ u. u) result
+        (check_each (check_in program.now) (flat_map piece_fixups pieces.now)) }
 {
     for piece in pieces {
         if let SegmentPiece::Deferred(fixup) = piece {
@@ -70,8 +73,11 @@ fn bytes_of_row(
     row: &SegmentRow,
 ) -> Result<ListVec<u8>, LinkFault>
     requires { IsReady program.now }
-    ensures checked { Refines is_memory (λ _. tt) result (check_each (check_in program.now) (fixups_of (segment_of (segments_in program.now) row.now.name))) }
-    ensures bytes { IfOk result (λ bytes. bytes ≡ written_row_bytes (bytes_in program.now) row.now) }
+    ensures checked { Refines is_memory (λ _. tt) result
+        (check_each (check_in program.now)
+        (fixups_of (segment_of (segments_in program.now) row.now.name))) }
+    ensures bytes { IfOk result (λ bytes.
+        bytes ≡ written_row_bytes (bytes_in program.now) row.now) }
 {
     let Some(content) = content_of(program, row.name.as_slice()) else {
         return Ok(ListVec::new(alloc));
@@ -96,8 +102,10 @@ fn rows_of(
     rows: &[SegmentRow],
 ) -> Result<Vec<ListVec<u8>>, LinkFault>
     requires { IsReady program.now }
-    ensures checked { Refines is_memory (λ _. tt) result (check_each (check_in program.now) (fixups_by_row rows.now (segments_in program.now))) }
-    ensures bytes { IfOk result (λ all. all.items ≡ map (written_row_bytes (bytes_in program.now)) rows.now) }
+    ensures checked { Refines is_memory (λ _. tt) result
+        (check_each (check_in program.now) (fixups_by_row rows.now (segments_in program.now))) }
+    ensures bytes { IfOk result (λ all.
+        all.items ≡ map (written_row_bytes (bytes_in program.now)) rows.now) }
 {
     let mut all = Vec::with_capacity(alloc, rows.len())?;
     for row in rows {
@@ -135,9 +143,12 @@ fn check_all(
     program: &PlacedProgram<'_>,
 ) -> Result<CheckResults, LinkFault>
     requires { IsReady program.now }
-    ensures checked { Refines is_memory (λ x. x.assertions) result (check_result script.now (program_in program.now) (linkage_in program.now) (exports_in program.now)) }
+    ensures checked { Refines is_memory (λ x. x.assertions) result
+        (check_result script.now (program_in program.now) (linkage_in program.now)
+        (exports_in program.now)) }
     ensures values { IfOk result (λ x. x.values.items ≡ values_in program.now) }
-    ensures rows { IfOk result (λ x. x.rows.items ≡ map (written_row_bytes (bytes_in program.now)) script.now.rows) }
+    ensures rows { IfOk result (λ x.
+        x.rows.items ≡ map (written_row_bytes (bytes_in program.now)) script.now.rows) }
 {
     let rows = rows_of(alloc, program, script.rows.as_slice())?;
     let values = export_values(alloc, program)?;
@@ -158,7 +169,8 @@ pub fn check_and_emit(
     program: &PlacedProgram<'_>,
 ) -> Result<CheckedLink, LinkFault>
     requires { HasMatchingNames script.now placement.now names.now program.now }
-    ensures { RefinesProp is_memory (IsCheckedLink script.now (program_in program.now) placement.now (linkage_in program.now) (exports_in program.now)) result }
+    ensures { RefinesProp is_memory (IsCheckedLink script.now (program_in program.now) placement.now
+        (linkage_in program.now) (exports_in program.now)) result }
 {
     let checked = check_all(alloc, script, program)?;
     let mut warnings = warnings_of(alloc, program, script.rows.as_slice())?;

@@ -49,7 +49,17 @@ impl Model for Linker {
 
     ghost coded = { Prim.hlevel (codes, form_code) };
 
-    ghost view = { λ l. record { script = l.script; output = l.output; partial = partial_program_in l.program_builder; provided = names_in l.provided; opened = opened_in l.opened; pending = l.pending; failed = l.failed } };
+    ghost view = { λ l. record {
+      script = l.script;
+      output = l.output;
+      partial = partial_program_in
+          l.program_builder;
+      provided = names_in l.provided;
+      opened = opened_in l.opened;
+      pending =
+          l.pending;
+      failed = l.failed;
+    } };
 
     ghost invariant = { λ l. l.failed ≡ false → NamesResolve l.program_builder };
 }
@@ -62,7 +72,8 @@ impl Linker {
         ensures script { IfOk result (λ l. l.script ≡ script) }
         ensures output { IfOk result (λ l. l.output ≡ output.now) }
         ensures pending { IfOk result (λ l. l.pending ≡ 0) }
-        ensures names { Refines is_memory (λ _. tt) result (check_unique_names script (program_of [])) }
+        ensures names { Refines is_memory (λ _. tt) result
+            (check_unique_names script (program_of [])) }
     {
         Linker::seeded(alloc, Seed::default(), script, output)
     }
@@ -78,7 +89,8 @@ impl Linker {
         ensures script { IfOk result (λ l. l.script ≡ script) }
         ensures output { IfOk result (λ l. l.output ≡ output.now) }
         ensures pending { IfOk result (λ l. l.pending ≡ 0) }
-        ensures names { Refines is_memory (λ _. tt) result (check_unique_names script (program_of [])) }
+        ensures names { Refines is_memory (λ _. tt) result
+            (check_unique_names script (program_of [])) }
     {
         let provided = DefinedNames::of(alloc, &script)?;
         let output = PathString::copy_of(alloc, output)?;
@@ -110,7 +122,8 @@ impl Linker {
     /// Returns the names that the script or a module that has ended imports and none of these defines, in order of
     /// first reference. Weak names and an open module define nothing here.
     pub fn open_names(&self) -> Result<Names, LinkFault>
-        ensures open { RefinesNames (λ names. map (λ n. n.items) names.keys) open_names self.now result }
+        ensures open { RefinesNames
+            (λ names. map (λ n. n.items) names.keys) open_names self.now result }
         ensures memory { self.now.failed ≡ false → IfErr result (λ e. is_memory e ≡ true) }
         ensures failed_before { self.now.failed ≡ true → result ≡ Err LinkFault.FailedBefore }
     {
@@ -124,7 +137,8 @@ impl Linker {
 
     /// Returns the names that the script and the modules that have ended define, except weak ones.
     pub fn defined_names(&self) -> Result<Names, LinkFault>
-        ensures defined { RefinesNames (λ names. map (λ n. n.items) names.keys) strong_names self.now result }
+        ensures defined { RefinesNames
+            (λ names. map (λ n. n.items) names.keys) strong_names self.now result }
         ensures memory { self.now.failed ≡ false → IfErr result (λ e. is_memory e ≡ true) }
         ensures failed_before { self.now.failed ≡ true → result ≡ Err LinkFault.FailedBefore }
     {
@@ -145,7 +159,8 @@ impl Linker {
     ) -> Result<(), LinkFault>
         requires closed { is_open self.old ≡ false }
         requires version { is_version version ≡ true }
-        ensures begun { BeginsModule name.now version (option_map (λ e. e.now) entry.entry) self.old self.new result }
+        ensures begun { BeginsModule name.now version
+            (option_map (λ e. e.now) entry.entry) self.old self.new result }
         ensures memory { self.old.failed ≡ false → IfErr result (λ e. is_memory e ≡ true) }
         ensures opened { OnOk result (is_open self.new ≡ true) }
         ensures pending { OnOk result (self.new.pending ≡ self.old.pending) }
@@ -175,7 +190,8 @@ impl Linker {
         ensures accepted { AddsRecord (raw_record next.now) self.old self.new result }
         ensures faults { self.old.failed ≡ false → HasExpectedError is_record_fault result }
         ensures opened { is_open self.new ≡ true }
-        ensures pending { OnOk result (self.new.pending ≡ self.old.pending + values_in (raw_record next.now)) }
+        ensures pending { OnOk result (self.new.pending ≡
+            self.old.pending + values_in (raw_record next.now)) }
         ensures keeps { ConfigFrame self.old self.new }
         ensures refused { OnErr result (FailureFrame self.old self.new) }
         ensures failed_before { self.old.failed ≡ true → result ≡ Err LinkFault.FailedBefore }

@@ -58,7 +58,8 @@ fn check_placed_program(
     program: ProgramBuilder,
 ) -> Result<CheckedLink, LinkFault>
     requires { NamesResolve program }
-    ensures { RefinesProp is_memory (IsPlacedCheckedLink script.now (program_in program) placement.now) result }
+    ensures { RefinesProp is_memory
+        (IsPlacedCheckedLink script.now (program_in program) placement.now) result }
 {
     let alloc = program.alloc;
     let script_symbols = definitions_of(alloc, script, placement)?;

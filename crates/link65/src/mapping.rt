@@ -170,7 +170,9 @@ fn export_lines(
 /// else defines.
 fn weak_lines(alloc: Global, names: &DefinedSymbols<'_>) -> Result<ListVec<u8>, AllocError>
     requires { HasCorrectProviders names.now }
-    ensures { IfOk result (λ text. text ≡ flat_map (weak_line names.now.script_symbols.now names.now.exports.now) names.now.weak.now) }
+    ensures { IfOk result (λ text.
+        text ≡ flat_map (weak_line names.now.script_symbols.now names.now.exports.now)
+        names.now.weak.now) }
 {
     let mut text = ListVec::new(alloc);
     for weak in names.weak {
@@ -189,7 +191,9 @@ pub fn symbols_text(
     values: &[i64],
 ) -> Result<ListVec<u8>, AllocError>
     requires { HasCorrectProviders names.now }
-    ensures { IfOk result (λ text. text ≡ symbol_lines_from names.now.script_symbols.now names.now.weak.now names.now.exports.now values.now) }
+    ensures { IfOk result (λ text.
+        text ≡ symbol_lines_from names.now.script_symbols.now names.now.weak.now
+        names.now.exports.now values.now) }
 {
     let script_lines = definition_lines(alloc, names.script_symbols)?;
     let exports = export_lines(alloc, names.exports, values)?;
@@ -209,7 +213,8 @@ pub fn map_text(
     members: &[LinkedModule],
     symbols: &[u8],
 ) -> Result<ListVec<u8>, AllocError>
-    ensures { IfOk result (λ text. text ≡ map_from_lines members.now script.now.rows placement.now.rows symbols.now) }
+    ensures { IfOk result (λ text.
+        text ≡ map_from_lines members.now script.now.rows placement.now.rows symbols.now) }
 {
     let modules = members_text(alloc, members)?;
     let rows = rows_text(alloc, script.rows.as_slice(), placement.rows.as_slice())?;

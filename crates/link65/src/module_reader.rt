@@ -101,7 +101,15 @@ pub fn open_module(
     entry: Option<&Entry>,
 ) -> Result<OpenModule, LinkFault>
     requires { is_version version ≡ true }
-    ensures opened { IfOk result (λ o. o ≡ record { name = name.now; scan = outline_of (start version); first_export = length program_builder.now.exports; listed = option_map (λ e. indexed_names e.now) entry.entry }) }
+    ensures opened { IfOk result (λ o.
+        o ≡ record {
+          name = name.now;
+          scan = outline_of
+              (start version);
+          first_export = length program_builder.now.exports;
+          listed = option_map
+              (λ e. indexed_names e.now) entry.entry;
+        }) }
     ensures memory { IfErr result (λ e. is_memory e ≡ true) }
 {
     let alloc = program_builder.alloc;
@@ -122,7 +130,8 @@ pub fn add_record(
     next: &Record,
 ) -> Result<(), LinkFault>
     requires { NamesResolve program_builder.old }
-    ensures accepted { GrowsProgram (raw_record next.now) (partial_program_in program_builder.old) (partial_program_in program_builder.new) opened.old.scan opened.new.scan result }
+    ensures accepted { GrowsProgram (raw_record next.now) (partial_program_in program_builder.old)
+        (partial_program_in program_builder.new) opened.old.scan opened.new.scan result }
     ensures kept { opened.new ≡ record opened.old { scan = opened.new.scan } }
     ensures counted { OnOk result (pending.new ≡ pending.old + values_in (raw_record next.now)) }
     ensures uncounted { OnErr result (pending.new ≡ pending.old) }
@@ -155,7 +164,9 @@ pub fn close_module(
     opened: &mut OpenModule,
 ) -> Result<(), LinkFault>
     requires { NamesResolve program_builder.old }
-    ensures ended { ClosesModule (partial_program_in program_builder.old) (partial_program_in program_builder.new) (names_in provided.old) (names_in provided.new) opened.old result }
+    ensures ended { ClosesModule (partial_program_in program_builder.old)
+        (partial_program_in program_builder.new) (names_in provided.old)
+        (names_in provided.new) opened.old result }
     ensures named { OnOk result (NamesResolve program_builder.new) }
     ensures faults { HasExpectedError is_end_fault result }
 {

@@ -29,7 +29,8 @@ pub struct DefinedNames {
 impl DefinedNames {
     /// Adds a name. Rejects one that is already defined; an error changes nothing.
     fn add(&mut self, name: &[u8]) -> Result<(), LinkFault>
-        ensures added { Refines is_memory (λ _. names_in self.new) result (with_new_name (names_in self.old) name.now) }
+        ensures added { Refines is_memory (λ _. names_in self.new) result
+            (with_new_name (names_in self.old) name.now) }
         ensures kept { OnErr result (names_in self.new ≡ names_in self.old) }
     {
         let key = Vec::from_slice(self.alloc, name)?;
@@ -41,7 +42,8 @@ impl DefinedNames {
 
     /// Returns the names that a script defines, except weak ones. Rejects the first that equals an earlier one.
     pub fn of(alloc: Global, script: &Script) -> Result<Self, LinkFault>
-        ensures { Refines is_memory names_in result (names_or_duplicate [] (script_names script.now)) }
+        ensures { Refines is_memory names_in result
+            (names_or_duplicate [] (script_names script.now)) }
     {
         let names = script_names(alloc, script)?;
         let mut provided = DefinedNames {
@@ -57,7 +59,8 @@ impl DefinedNames {
     /// Adds the names of exports. Rejects the first that equals an earlier one; those before it stay added, since
     /// nothing is linked after an error.
     pub fn add_exports(&mut self, exports: &[ModuleExport]) -> Result<(), LinkFault>
-        ensures { Refines is_memory (λ _. names_in self.new) result (with_new_names (names_in self.old) (map (λ e. e.name) exports.now)) }
+        ensures { Refines is_memory (λ _. names_in self.new) result
+            (with_new_names (names_in self.old) (map (λ e. e.name) exports.now)) }
     {
         for export in exports {
             self.add(export.name.as_slice())?;
@@ -67,7 +70,8 @@ impl DefinedNames {
 
     /// Adds a script's weak names, except those that are already defined.
     fn add_weak(&mut self, symbols: &[Symbol]) -> Result<(), AllocError>
-        ensures { OnOk result (names_in self.new ≡ distinct_names (names_in self.old) (map (λ d. d.name) (weak_symbols symbols.now))) }
+        ensures { OnOk result (names_in self.new ≡ distinct_names (names_in self.old)
+            (map (λ d. d.name) (weak_symbols symbols.now))) }
     {
         for symbol in symbols {
             if let SymbolKind::Weak(_) = symbol.kind {
@@ -95,7 +99,9 @@ fn has(names: &Names, name: &[u8]) -> bool
 
 /// Adds a name to the missing ones, unless it is defined or already among them.
 fn add_missing(missing: &mut Names, provided: &DefinedNames, name: &[u8]) -> Result<(), AllocError>
-    ensures { OnOk result (map (λ n. n.items) missing.new.keys ≡ missing_after (names_in provided.now) (map (λ n. n.items) missing.old.keys) (name.now ∷ [])) }
+    ensures { OnOk result (map (λ n. n.items) missing.new.keys ≡
+        missing_after (names_in provided.now) (map (λ n. n.items) missing.old.keys)
+        (name.now ∷ [])) }
 {
     if !has(&provided.names, name) && !has(missing, name) {
         missing.insert(Vec::from_slice(provided.alloc, name)?)?;
@@ -109,7 +115,9 @@ fn add_symbols(
     provided: &DefinedNames,
     symbols: &[Symbol],
 ) -> Result<(), AllocError>
-    ensures { OnOk result (map (λ n. n.items) missing.new.keys ≡ missing_after (names_in provided.now) (map (λ n. n.items) missing.old.keys) (symbol_imports symbols.now)) }
+    ensures { OnOk result (map (λ n. n.items) missing.new.keys ≡
+        missing_after (names_in provided.now) (map (λ n. n.items) missing.old.keys)
+        (symbol_imports symbols.now)) }
 {
     for symbol in symbols {
         if let SymbolKind::Import = symbol.kind {
@@ -125,7 +133,8 @@ fn add_imports(
     provided: &DefinedNames,
     imports: &[ListVec<u8>],
 ) -> Result<(), AllocError>
-    ensures { OnOk result (map (λ n. n.items) missing.new.keys ≡ missing_after (names_in provided.now) (map (λ n. n.items) missing.old.keys) imports.now) }
+    ensures { OnOk result (map (λ n. n.items) missing.new.keys ≡
+        missing_after (names_in provided.now) (map (λ n. n.items) missing.old.keys) imports.now) }
 {
     for name in imports {
         add_missing(missing, provided, name.as_slice())?;
@@ -140,7 +149,9 @@ pub fn missing_names(
     symbols: &[Symbol],
     members: &[LinkedModule],
 ) -> Result<Names, AllocError>
-    ensures { IfOk result (λ names. map (λ n. n.items) names.keys ≡ missing_after (names_in provided.now) [] (symbol_imports symbols.now ++ flat_map (λ m. m.imports) members.now)) }
+    ensures { IfOk result (λ names.
+        map (λ n. n.items) names.keys ≡ missing_after (names_in provided.now) []
+        (symbol_imports symbols.now ++ flat_map (λ m. m.imports) members.now)) }
 {
     let mut missing = IndexSet::new(provided.alloc);
     add_symbols(&mut missing, provided, symbols)?;
@@ -167,7 +178,9 @@ pub fn check_names(
     script: &Script,
     members: &[LinkedModule],
 ) -> Result<(), LinkFault>
-    ensures given { (p : Program) → names_in provided ≡ strong_names script.now p → p.members ≡ members.now → Refines is_memory (λ u. u) result (check_imports_defined script.now p) }
+    ensures given { (p : Program) → names_in provided ≡ strong_names script.now p →
+        p.members ≡ members.now →
+        Refines is_memory (λ u. u) result (check_imports_defined script.now p) }
     ensures faults { HasExpectedError is_finish_fault result }
 {
     let symbols = script.symbols.as_slice();

@@ -52,7 +52,8 @@ fn add_areas(
     areas: &[MemoryArea],
     placements: &[AreaPlacement],
 ) -> Result<(), AllocError>
-    ensures { OnOk result (definitions.new ≡ definitions.old ++ areas_definitions areas.now placements.now) }
+    ensures { OnOk result (definitions.new ≡
+        definitions.old ++ areas_definitions areas.now placements.now) }
 {
     for (area, placement) in areas.iter().zip(placements) {
         if area.define {
@@ -72,7 +73,8 @@ fn add_rows(
     rows: &[SegmentRow],
     placements: &[RowPlacement],
 ) -> Result<(), AllocError>
-    ensures { OnOk result (definitions.new ≡ definitions.old ++ rows_definitions rows.now placements.now) }
+    ensures { OnOk result (definitions.new ≡
+        definitions.old ++ rows_definitions rows.now placements.now) }
 {
     for (row, placement) in rows.iter().zip(placements) {
         if row.define {

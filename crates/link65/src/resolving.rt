@@ -111,7 +111,8 @@ pub fn runs_of<'a>(
     rows: &'a [SegmentRow],
     placements: &[RowPlacement],
 ) -> Result<Runs<'a>, AllocError>
-    ensures { IfOk result (λ runs. (name : List ℕ) → run_in runs name ≡ run_of rows.entry.now placements.now name) }
+    ensures { IfOk result (λ runs. (name : List ℕ) →
+        run_in runs name ≡ run_of rows.entry.now placements.now name) }
 {
     let mut runs = IndexMap::with_hasher(alloc, Seed::default());
     for i in (0..rows.len()).rev() {

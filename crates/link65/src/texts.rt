@@ -147,7 +147,8 @@ fn warnings_of_row(
     row: &SegmentRow,
 ) -> Result<ListVec<u8>, AllocError>
     requires { IsReady program.now }
-    ensures { IfOk result (λ text. text ≡ row_warnings row.now (segment_of (segments_in program.now) row.now.name)) }
+    ensures { IfOk result (λ text.
+        text ≡ row_warnings row.now (segment_of (segments_in program.now) row.now.name)) }
 {
     match content_of(program, row.name.as_slice()) {
         None => absence_warning(alloc, row),

@@ -42,8 +42,10 @@ pub struct PlacedProgram<'a> {
 
 /// Returns the segment of a name, if there is one.
 pub fn content_of<'a>(program: &PlacedProgram<'a>, name: &[u8]) -> Option<&'a SegmentContent>
-    requires { map (λ n. n.items) program.now.names.now.keys ≡ map (λ c. c.name) program.now.contents.now }
-    ensures { option_map segment_from (option_copied result) ≡ segment_of (segments_in program.now) name.now }
+    requires { map (λ n. n.items) program.now.names.now.keys ≡
+        map (λ c. c.name) program.now.contents.now }
+    ensures { option_map segment_from (option_copied result) ≡
+        segment_of (segments_in program.now) name.now }
 {
     match segment_index(program.names, name) {
         Some(index) => program.contents.get(index),
@@ -102,7 +104,9 @@ fn located_value(
     form: &Norm,
 ) -> Result<i64, LinkFault>
     requires { AllFound program.now.states.now }
-    ensures { Refines is_memory (λ v. v) result (located_value (module_location program.now.members.now owner origin) (value_of_form (linkage_in program.now) (exports_in program.now) owner form.now)) }
+    ensures { Refines is_memory (λ v. v) result
+        (located_value (module_location program.now.members.now owner origin)
+        (value_of_form (linkage_in program.now) (exports_in program.now) owner form.now)) }
 {
     match try_form(form, program.modules.get(owner), program.states) {
         Ok(value) => Ok(value),
@@ -129,7 +133,9 @@ pub fn datum_value(
 ) -> Result<i64, LinkFault>
     requires { AllFound program.now.states.now }
     ensures checked { Refines is_memory (λ _. tt) result (check_in program.now fixup.now) }
-    ensures value { IfOk result (λ v. value_of_form (linkage_in program.now) (exports_in program.now) fixup.now.owner fixup.now.form ≡ Ok v) }
+    ensures value { IfOk result (λ v.
+        value_of_form (linkage_in program.now)
+        (exports_in program.now) fixup.now.owner fixup.now.form ≡ Ok v) }
     ensures fits { IfOk result (λ v. fits_width fixup.now.width v ≡ true) }
 {
     let value = located_value(alloc, program, fixup.owner, fixup.origin, &fixup.form)?;
@@ -143,7 +149,8 @@ pub fn datum_value(
 /// Returns the value of each export. Rejects the first that has none, used or not.
 pub fn export_values(alloc: Global, program: &PlacedProgram<'_>) -> Result<Vec<i64>, LinkFault>
     requires { AllFound program.now.states.now }
-    ensures checked { Refines is_memory (λ _. tt) result (check_each (check_export_in program.now) program.now.exports.now) }
+    ensures checked { Refines is_memory (λ _. tt) result
+        (check_each (check_export_in program.now) program.now.exports.now) }
     ensures values { IfOk result (λ values. values.items ≡ values_in program.now) }
 {
     let mut values = Vec::with_capacity(alloc, program.exports.len())?;
@@ -184,7 +191,9 @@ fn check_assertion(
     assert: &ModuleAssertion,
 ) -> Result<ListVec<u8>, LinkFault>
     requires { AllFound program.now.states.now }
-    ensures { Refines is_memory (λ text. text) result (check_assert (linkage_in program.now) program.now.members.now (exports_in program.now) assert.now) }
+    ensures { Refines is_memory (λ text. text) result
+        (check_assert (linkage_in program.now) program.now.members.now
+        (exports_in program.now) assert.now) }
 {
     let value = located_value(alloc, program, assert.owner, assert.origin, &assert.form)?;
     if value != 0 {
@@ -205,7 +214,9 @@ pub fn check_assertions(
     asserts: &[ModuleAssertion],
 ) -> Result<ListVec<u8>, LinkFault>
     requires { AllFound program.now.states.now }
-    ensures { Refines is_memory (λ text. text) result (check_asserts (linkage_in program.now) program.now.members.now (exports_in program.now) asserts.now) }
+    ensures { Refines is_memory (λ text. text) result
+        (check_asserts (linkage_in program.now) program.now.members.now
+        (exports_in program.now) asserts.now) }
 {
     let mut text = ListVec::new(alloc);
     for assert in asserts {

@@ -25,8 +25,11 @@ fn print_both<W: Write, E: Write>(
     requires out { out.old.has_failed ≡ false }
     requires err { err.old.has_failed ≡ false }
     ensures same { HaveSameWriters out.old out.new err.old err.new }
-    ensures printed { PrintsBothTexts (stream_states W.contents E.contents out.old out.new err.old err.new) text.now error_text.now }
-    ensures took { result ≡ has_accepted_both (stream_states W.contents E.contents out.old out.new err.old err.new) }
+    ensures printed { PrintsBothTexts
+        (stream_states W.contents E.contents out.old out.new err.old err.new) text.now
+        error_text.now }
+    ensures took { result ≡
+        has_accepted_both (stream_states W.contents E.contents out.old out.new err.old err.new) }
 {
     if !print(out, text) {
         return false;
@@ -38,7 +41,8 @@ fn print_both<W: Write, E: Write>(
 pub fn print_out_of_memory<E: Write>(err: &mut Stream<'_, E>, name: &str) -> bool
     requires { err.old.has_failed ≡ false }
     ensures same { err.new.writer.ghost_name ≡ err.old.writer.ghost_name }
-    ensures printed { PrintsText (E.contents err.old.writer.now) (E.contents err.new.writer.now) (file_memory_message name.now) (not err.new.has_failed) }
+    ensures printed { PrintsText (E.contents err.old.writer.now) (E.contents err.new.writer.now)
+        (file_memory_message name.now) (not err.new.has_failed) }
     ensures took { result ≡ not err.new.has_failed }
 {
     print_all(err, &[name.as_bytes(), b": Error: out of memory\n"])
@@ -55,9 +59,12 @@ fn print_write_error<E: Write>(
     requires { err.old.has_failed ≡ false }
     ensures same { err.new.writer.ghost_name ≡ err.old.writer.ghost_name }
     ensures memory { write_error.fault ≡ StoreFault.OutOfMemory →
-        PrintsText (E.contents err.old.writer.now) (E.contents err.new.writer.now) (file_memory_message memory_name.now) (not err.new.has_failed) }
-    ensures failed { (file : OutputFile) → write_error.fault ≡ StoreFault.FileError → slice_get outputs.now write_error.index ≡ Some file →
-        PrintsText (E.contents err.old.writer.now) (E.contents err.new.writer.now) (file_error_line file.name) (not err.new.has_failed) }
+        PrintsText (E.contents err.old.writer.now) (E.contents err.new.writer.now)
+        (file_memory_message memory_name.now) (not err.new.has_failed) }
+    ensures failed { (file : OutputFile) → write_error.fault ≡ StoreFault.FileError →
+        slice_get outputs.now write_error.index ≡ Some file →
+        PrintsText (E.contents err.old.writer.now) (E.contents err.new.writer.now)
+        (file_error_line file.name) (not err.new.has_failed) }
 {
     let suffix: &[u8] = match write_error.fault {
         StoreFault::OutOfMemory => return print_out_of_memory(err, memory_name),
@@ -84,7 +91,8 @@ pub fn commit_outcome<S: Store, W: Write, E: Write>(
     requires out { out.old.has_failed ≡ false }
     requires err { err.old.has_failed ≡ false }
     ensures same { HaveSameWriters out.old out.new err.old err.new }
-    ensures done { IfSome (S.files store.old) (λ m. NoneFailed (S.failures store.old) (S.failures store.new) →
+    ensures done { IfSome (S.files store.old) (λ m.
+        NoneFailed (S.failures store.old) (S.failures store.new) →
         CommitsOutcome outcome.now m (S.files store.new)
         (stream_states W.contents E.contents out.old out.new err.old err.new) result
         ⊎ HasMemoryFailure outcome.now (file_memory_message memory_name.now) m (S.files store.new)
@@ -92,7 +100,8 @@ pub fn commit_outcome<S: Store, W: Write, E: Write>(
     ensures plain { outcome.now.outputs ≡ [] → IfSome (S.files store.old) (λ m.
         CommitsOutcome outcome.now m (S.files store.new)
         (stream_states W.contents E.contents out.old out.new err.old err.new) result) }
-    ensures untouched { outcome.now.outputs ≡ [] → S.last_failure store.new ≡ S.last_failure store.old }
+    ensures untouched { outcome.now.outputs ≡ [] →
+        S.last_failure store.new ≡ S.last_failure store.old }
     ensures failed { IfSome (S.files store.old) (λ m. S.failures store.old < S.failures store.new →
         HasWriteFailure outcome.now m (S.files store.new) (S.last_failure store.new)
         (stream_states W.contents E.contents out.old out.new err.old err.new) result) }

@@ -30,7 +30,8 @@ pub fn with_map(
     mut files: ListVec<OutputFile>,
     map: ListVec<u8>,
 ) -> Result<ListVec<OutputFile>, AllocError>
-    ensures { IfOk result (λ outputs. outputs ≡ with_map (option_map (λ s. s.now) name.entry) files map) }
+    ensures { IfOk result (λ outputs.
+        outputs ≡ with_map (option_map (λ s. s.now) name.entry) files map) }
 {
     if let Some(name) = name {
         let name = PathString::copy_of(alloc, name)?;

@@ -12,7 +12,8 @@ use std::io::Write;
 pub fn print<W: Write>(stream: &mut Stream<'_, W>, text: &[u8]) -> bool
     requires { stream.old.has_failed ≡ false }
     ensures same { stream.new.writer.ghost_name ≡ stream.old.writer.ghost_name }
-    ensures printed { PrintsText (W.contents stream.old.writer.now) (W.contents stream.new.writer.now) text.now result }
+    ensures printed { PrintsText (W.contents stream.old.writer.now)
+        (W.contents stream.new.writer.now) text.now result }
     ensures refused { result ≡ not stream.new.has_failed }
 {
     let mut rest = text;
@@ -30,7 +31,8 @@ pub fn print<W: Write>(stream: &mut Stream<'_, W>, text: &[u8]) -> bool
 pub fn print_all<W: Write>(stream: &mut Stream<'_, W>, parts: &[&[u8]]) -> bool
     requires { stream.old.has_failed ≡ false }
     ensures same { stream.new.writer.ghost_name ≡ stream.old.writer.ghost_name }
-    ensures printed { PrintsText (W.contents stream.old.writer.now) (W.contents stream.new.writer.now) (concat_texts (map (λ p. p.now) parts.now)) result }
+    ensures printed { PrintsText (W.contents stream.old.writer.now)
+        (W.contents stream.new.writer.now) (concat_texts (map (λ p. p.now) parts.now)) result }
     ensures refused { result ≡ not stream.new.has_failed }
 {
     for part in parts {

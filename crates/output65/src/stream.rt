@@ -41,7 +41,8 @@ impl<'a, W: Write> Stream<'a, W> {
         requires some { 0 < length text.now }
         ensures same { self.new.writer.ghost_name ≡ self.old.writer.ghost_name }
         ensures bound { IfOk result (λ n. n ≤ length text.now) }
-        ensures bytes { WriteAppends (W.contents self.old.writer.now) (W.contents self.new.writer.now) result text.now }
+        ensures bytes { WriteAppends (W.contents self.old.writer.now)
+            (W.contents self.new.writer.now) result text.now }
         ensures refused { self.new.has_failed ≡ is_write_failure result }
     {
         let result = self.writer.write(text);

@@ -29,8 +29,10 @@ fn intern(
     interned_names: &mut IndexSet<InternedName, Seed>,
     name: &[u8],
 ) -> Result<usize, AllocError>
-    ensures more { IsPrefixOf (map (λ k. k.items) interned_names.old.keys) (map (λ k. k.items) interned_names.new.keys) }
-    ensures number { IfOk result (λ w. position (bytes_eq name.now) (map (λ k. k.items) interned_names.new.keys) ≡ Some w) }
+    ensures more { IsPrefixOf (map (λ k. k.items) interned_names.old.keys)
+        (map (λ k. k.items) interned_names.new.keys) }
+    ensures number { IfOk result (λ w.
+        position (bytes_eq name.now) (map (λ k. k.items) interned_names.new.keys) ≡ Some w) }
 {
     let (name_id, _) = interned_names.insert_full(SmallVec::from_slice(alloc, name)?)?;
     Ok(name_id)
@@ -43,7 +45,8 @@ fn push_scope(
     is_proc: bool,
 ) -> Result<(), AllocError>
     requires { position (same_scope_key scope_key) (keys scopes.old) ≡ None }
-    ensures pushed { OnOk result (scopes.new.entries ≡ scopes.old.entries ++ (scope_key, is_proc) ∷ []) }
+    ensures pushed { OnOk result (scopes.new.entries ≡
+        scopes.old.entries ++ (scope_key, is_proc) ∷ []) }
     ensures unchanged { OnErr result (scopes.new.entries ≡ scopes.old.entries) }
 {
     match scopes.insert(scope_key, is_proc) {
@@ -58,7 +61,8 @@ fn add_names(
     known: &mut IndexSet<Vec<u8>, Seed>,
     names: &[ListVec<u8>],
 ) -> Result<(), AllocError>
-    ensures { OnOk result (map (λ k. k.items) known.new.keys ≡ with_new_names (map (λ k. k.items) known.old.keys) names.now) }
+    ensures { OnOk result (map (λ k. k.items) known.new.keys ≡
+        with_new_names (map (λ k. k.items) known.old.keys) names.now) }
 {
     for name in names {
         known.insert(Vec::from_slice(alloc, name.as_slice())?)?;
@@ -92,7 +96,9 @@ impl Symbols {
 
     /// Returns whether a scope other than the global one may define an interned name.
     pub fn is_inner(&self, name_id: usize) -> bool
-        ensures { result ≡ false → (scope : ℕ) (n : List ℕ) → position (bytes_eq n) (interned_names_of self.now) ≡ Some name_id → definition_index (table_of self.now) (named (suc scope) n) ≡ None }
+        ensures { result ≡ false → (scope : ℕ) (n : List ℕ) →
+            position (bytes_eq n) (interned_names_of self.now) ≡ Some name_id →
+            definition_index (table_of self.now) (named (suc scope) n) ≡ None }
     {
         match self.inner.get(name_id) {
             Some(is_inner) => *is_inner,
@@ -102,7 +108,8 @@ impl Symbols {
 
     /// Returns the index of the definition of an interned name in a scope, if it has one.
     pub fn defined_in(&self, scope: usize, name_id: usize) -> Option<usize>
-        ensures { (n : List ℕ) → position (bytes_eq n) (interned_names_of self.now) ≡ Some name_id → result ≡ definition_index (table_of self.now) (named scope n) }
+        ensures { (n : List ℕ) → position (bytes_eq n) (interned_names_of self.now) ≡ Some name_id →
+            result ≡ definition_index (table_of self.now) (named scope n) }
     {
         self.index_of_key(InternedKey::Named { scope, name_id })
     }
@@ -188,9 +195,13 @@ impl Symbols {
 
     /// Returns the definition at an index, if there is one.
     pub fn definition(&self, index: usize) -> Option<&Definition>
-        ensures definition { slice_get (table_of self.now).definitions index ≡ option_map (λ d. definition_view (key_at self.now index) d.now) result }
-        ensures entry { option_map (λ d. d.now) result ≡ option_map (λ e. e.1) (slice_get self.now.definitions.entries index) }
-        ensures forms { IfSome result (λ d. StoresFinalForm (table_of self.now) index (definition_view (key_at self.now index) d.now) d.now) }
+        ensures definition { slice_get (table_of self.now).definitions index ≡ option_map (λ d.
+            definition_view (key_at self.now index) d.now) result }
+        ensures entry { option_map (λ d. d.now) result ≡
+            option_map (λ e. e.1) (slice_get self.now.definitions.entries index) }
+        ensures forms { IfSome result (λ d.
+            StoresFinalForm (table_of self.now) index
+            (definition_view (key_at self.now index) d.now) d.now) }
     {
         match self.definitions.get_index(index) {
             Some((_, definition)) => Some(definition),
@@ -227,7 +238,8 @@ impl Symbols {
         ensures table { table_of self.new ≡ table_of self.old }
         ensures definitions { self.new.definitions ≡ self.old.definitions }
         ensures scopes { self.new.scopes ≡ self.old.scopes }
-        ensures number { IfOk result (λ w. position (bytes_eq name.now) (interned_names_of self.new) ≡ Some w) }
+        ensures number { IfOk result (λ w.
+            position (bytes_eq name.now) (interned_names_of self.new) ≡ Some w) }
     {
         intern(alloc, &mut self.interned_names, name)
     }
@@ -241,7 +253,9 @@ impl Symbols {
     ) -> Result<ScopeKey, AllocError>
         ensures table { table_of self.new ≡ table_of self.old }
         ensures scopes { self.new.scopes ≡ self.old.scopes }
-        ensures opening { IfOk result (λ k. IsScopeKey (interned_names_of self.new) (length self.new.scopes.entries) within (option_map (λ n. n.now) name.entry) k) }
+        ensures opening { IfOk result (λ k.
+            IsScopeKey (interned_names_of self.new) (length self.new.scopes.entries) within
+            (option_map (λ n. n.now) name.entry) k) }
     {
         match name {
             Some(name) => {
@@ -257,9 +271,12 @@ impl Symbols {
 
     /// Adds a scope, unless its key is in the table.
     fn add_scope(&mut self, scope_key: ScopeKey, is_proc: bool) -> Result<(), AllocError>
-        requires number { first_number (interned_names_of self.old) (scope_name_id scope_key) ≡ scope_name_id scope_key }
+        requires number { first_number (interned_names_of self.old) (scope_name_id scope_key) ≡
+            scope_name_id scope_key }
         requires distinct { HasNumber (length self.old.scopes.entries) scope_key }
-        ensures { OnOk result (position (same_scope_key scope_key) (keys self.old.scopes) ≡ None → table_of self.new ≡ with_scope (table_of self.old) (scope_by (interned_names_of self.old) scope_key is_proc)) }
+        ensures { OnOk result (position (same_scope_key scope_key) (keys self.old.scopes) ≡ None →
+            table_of self.new ≡ with_scope (table_of self.old)
+            (scope_by (interned_names_of self.old) scope_key is_proc)) }
     {
         match self.scope_index(scope_key) {
             Some(_) => Ok(()),
@@ -278,7 +295,15 @@ impl Symbols {
         name: Option<&[u8]>,
         is_proc: bool,
     ) -> Result<(), AllocError>
-        ensures { OnOk result (opened_twice (table_of self.old).scopes within (option_map (λ n. n.now) name.entry) ≡ None → table_of self.new ≡ with_scope (table_of self.old) (record { within = within; name = option_map (λ n. n.now) name.entry; is_proc = is_proc })) }
+        ensures { OnOk result (opened_twice (table_of self.old).scopes within
+            (option_map (λ n. n.now) name.entry) ≡ None →
+            table_of self.new ≡ with_scope (table_of self.old)
+            (record {
+              within = within;
+              name = option_map
+                  (λ n. n.now) name.entry;
+              is_proc = is_proc;
+            })) }
     {
         let scope_key = self.new_scope_key(alloc, within, name)?;
         self.add_scope(scope_key, is_proc)
@@ -291,7 +316,8 @@ impl Symbols {
         names: &[ListVec<u8>],
         is_zero_page: bool,
     ) -> Result<(), AllocError>
-        ensures { OnOk result (table_of self.new ≡ with_names (table_of self.old) is_zero_page names.now) }
+        ensures { OnOk result (table_of self.new ≡
+            with_names (table_of self.old) is_zero_page names.now) }
     {
         self.searched.clear();
         add_names(alloc, &mut self.imports, names)?;

@@ -41,7 +41,8 @@ pub fn compute_link<S: Store>(
     line: &LinkArgs<'_>,
     store: &mut S,
 ) -> Result<Outcome, AllocError>
-    ensures computed { IfSome (S.files store.old) (λ m. IfOk result (ComputesOutcome (link (link_view line.now)) m
+    ensures computed { IfSome (S.files store.old) (λ m.
+        IfOk result (ComputesOutcome (link (link_view line.now)) m
         (S.last_failure store.new) (S.failures store.old) (S.failures store.new))) }
     ensures frame { ComputeFrame S.files S.failures store.old store.new result }
 {

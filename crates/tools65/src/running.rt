@@ -34,7 +34,8 @@ fn memory_name<'a>(line: &'a Line<'_>) -> &'a str
 
 /// Reads the files that a line names, and computes its outcome. Prints and writes nothing.
 fn compute<S: Store>(alloc: Global, line: &Line<'_>, store: &mut S) -> Result<Outcome, AllocError>
-    ensures computed { IfSome (S.files store.old) (λ m. IfOk result (ComputesOutcome (view line.now) m
+    ensures computed { IfSome (S.files store.old) (λ m.
+        IfOk result (ComputesOutcome (view line.now) m
         (S.last_failure store.new) (S.failures store.old) (S.failures store.new))) }
     ensures frame { ComputeFrame S.files S.failures store.old store.new result }
 {
@@ -58,20 +59,26 @@ pub fn run_line_with_streams<S: Store, W: Write, E: Write>(
     requires out { out.old.has_failed ≡ false }
     requires err { err.old.has_failed ≡ false }
     ensures same { HaveSameWriters out.old out.new err.old err.new }
-    ensures done { IfSome (S.files store.old) (λ m. NoneFailed (S.failures store.old) (S.failures store.new) →
-        RunSatisfies (IsOutcomeOfCommand (view line.now)) (command_memory_message (view line.now)) m (S.files store.new)
+    ensures done { IfSome (S.files store.old) (λ m.
+        NoneFailed (S.failures store.old) (S.failures store.new) →
+        RunSatisfies (IsOutcomeOfCommand (view line.now)) (command_memory_message (view line.now)) m
+        (S.files store.new)
         (stream_states W.contents E.contents out.old out.new err.old err.new) result) }
-    ensures fits { IfSome (S.files store.old) (λ m. NoneFailed (S.failures store.old) (S.failures store.new) →
+    ensures fits { IfSome (S.files store.old) (λ m.
+        NoneFailed (S.failures store.old) (S.failures store.new) →
         RunObjectFits (view line.now) m (S.files store.new)
         (stream_states W.contents E.contents out.old out.new err.old err.new) result) }
-    ensures failed { IfSome (S.files store.old) (λ m. HasFailed (S.failures store.old) (S.failures store.new) →
+    ensures failed { IfSome (S.files store.old) (λ m.
+        HasFailed (S.failures store.old) (S.failures store.new) →
         CommandRunFails (view line.now) m (S.files store.new) (S.last_failure store.new)
         (stream_states W.contents E.contents out.old out.new err.old err.new) result) }
-    ensures one_program { IfSome (S.files store.old) (λ m. NoneFailed (S.failures store.old) (S.failures store.new) →
+    ensures one_program { IfSome (S.files store.old) (λ m.
+        NoneFailed (S.failures store.old) (S.failures store.new) →
         CommandLinksWholeProgram (view line.now) m (S.files store.new)
         (stream_states W.contents E.contents out.old out.new err.old err.new) result) }
     ensures later { S.failures store.old ≤ S.failures store.new }
-    ensures status { HasFailed (S.failures store.old) (S.failures store.new) → result ≡ Status.Failure }
+    ensures status { HasFailed (S.failures store.old) (S.failures store.new) →
+        result ≡ Status.Failure }
 {
     match compute(alloc, line, store) {
         Ok(outcome) => commit_outcome(&outcome, store, out, err, memory_name(line)),
@@ -90,20 +97,31 @@ pub fn run_line<S: Store, W: Write, E: Write>(
     out: &mut W,
     err: &mut E,
 ) -> Status
-    ensures done { IfSome (S.files store.old) (λ m. NoneFailed (S.failures store.old) (S.failures store.new) →
-        ForStreamsOverWriters (W.contents out.old) (W.contents out.new) (E.contents err.old) (E.contents err.new)
-        (λ io. RunSatisfies (IsOutcomeOfCommand (view line.now)) (command_memory_message (view line.now)) m (S.files store.new) io result)) }
-    ensures fits { IfSome (S.files store.old) (λ m. NoneFailed (S.failures store.old) (S.failures store.new) →
-        ForStreamsOverWriters (W.contents out.old) (W.contents out.new) (E.contents err.old) (E.contents err.new)
+    ensures done { IfSome (S.files store.old) (λ m.
+        NoneFailed (S.failures store.old) (S.failures store.new) →
+        ForStreamsOverWriters (W.contents out.old) (W.contents out.new) (E.contents err.old)
+        (E.contents err.new)
+        (λ io. RunSatisfies (IsOutcomeOfCommand (view line.now))
+        (command_memory_message (view line.now)) m (S.files store.new) io result)) }
+    ensures fits { IfSome (S.files store.old) (λ m.
+        NoneFailed (S.failures store.old) (S.failures store.new) →
+        ForStreamsOverWriters (W.contents out.old) (W.contents out.new) (E.contents err.old)
+        (E.contents err.new)
         (λ io. RunObjectFits (view line.now) m (S.files store.new) io result)) }
-    ensures failed { IfSome (S.files store.old) (λ m. HasFailed (S.failures store.old) (S.failures store.new) →
-        ForStreamsOverWriters (W.contents out.old) (W.contents out.new) (E.contents err.old) (E.contents err.new)
-        (λ io. CommandRunFails (view line.now) m (S.files store.new) (S.last_failure store.new) io result)) }
-    ensures one_program { IfSome (S.files store.old) (λ m. NoneFailed (S.failures store.old) (S.failures store.new) →
-        ForStreamsOverWriters (W.contents out.old) (W.contents out.new) (E.contents err.old) (E.contents err.new)
+    ensures failed { IfSome (S.files store.old) (λ m.
+        HasFailed (S.failures store.old) (S.failures store.new) →
+        ForStreamsOverWriters (W.contents out.old) (W.contents out.new) (E.contents err.old)
+        (E.contents err.new)
+        (λ io. CommandRunFails (view line.now) m (S.files store.new)
+        (S.last_failure store.new) io result)) }
+    ensures one_program { IfSome (S.files store.old) (λ m.
+        NoneFailed (S.failures store.old) (S.failures store.new) →
+        ForStreamsOverWriters (W.contents out.old) (W.contents out.new) (E.contents err.old)
+        (E.contents err.new)
         (λ io. CommandLinksWholeProgram (view line.now) m (S.files store.new) io result)) }
     ensures later { S.failures store.old ≤ S.failures store.new }
-    ensures status { HasFailed (S.failures store.old) (S.failures store.new) → result ≡ Status.Failure }
+    ensures status { HasFailed (S.failures store.old) (S.failures store.new) →
+        result ≡ Status.Failure }
 {
     run_line_with_streams(
         alloc,
@@ -126,20 +144,26 @@ pub fn run_with_streams<A: AsStr, S: Store, W: Write, E: Write>(
     requires out { out.old.has_failed ≡ false }
     requires err { err.old.has_failed ≡ false }
     ensures same { HaveSameWriters out.old out.new err.old err.new }
-    ensures done { IfSome (S.files store.old) (λ m. NoneFailed (S.failures store.old) (S.failures store.new) →
+    ensures done { IfSome (S.files store.old) (λ m.
+        NoneFailed (S.failures store.old) (S.failures store.new) →
         RunsCommand (map A.text args.now) m (S.files store.new)
         (stream_states W.contents E.contents out.old out.new err.old err.new) result) }
-    ensures fits { IfSome (S.files store.old) (λ m. NoneFailed (S.failures store.old) (S.failures store.new) →
+    ensures fits { IfSome (S.files store.old) (λ m.
+        NoneFailed (S.failures store.old) (S.failures store.new) →
         ArgsObjectFits (map A.text args.now) m (S.files store.new)
         (stream_states W.contents E.contents out.old out.new err.old err.new) result) }
-    ensures failed { IfSome (S.files store.old) (λ m. HasFailed (S.failures store.old) (S.failures store.new) →
-        ArgsRunFails (S.failures store.old) (map A.text args.now) m (S.files store.new) (S.last_failure store.new)
+    ensures failed { IfSome (S.files store.old) (λ m.
+        HasFailed (S.failures store.old) (S.failures store.new) →
+        ArgsRunFails (S.failures store.old) (map A.text args.now) m (S.files store.new)
+        (S.last_failure store.new)
         (stream_states W.contents E.contents out.old out.new err.old err.new) result) }
-    ensures one_program { IfSome (S.files store.old) (λ m. NoneFailed (S.failures store.old) (S.failures store.new) →
+    ensures one_program { IfSome (S.files store.old) (λ m.
+        NoneFailed (S.failures store.old) (S.failures store.new) →
         ArgsLinkWholeProgram (line_of (map A.text args.now)) m (S.files store.new)
         (stream_states W.contents E.contents out.old out.new err.old err.new) result) }
     ensures later { S.failures store.old ≤ S.failures store.new }
-    ensures status { HasFailed (S.failures store.old) (S.failures store.new) → result ≡ Status.Failure }
+    ensures status { HasFailed (S.failures store.old) (S.failures store.new) →
+        result ≡ Status.Failure }
 {
     match read_line(alloc, args) {
         Ok(line) => run_line_with_streams(alloc, &line, store, out, err),
@@ -159,20 +183,31 @@ pub fn run<A: AsStr, S: Store, W: Write, E: Write>(
     out: &mut W,
     err: &mut E,
 ) -> Status
-    ensures done { IfSome (S.files store.old) (λ m. NoneFailed (S.failures store.old) (S.failures store.new) →
-        ForStreamsOverWriters (W.contents out.old) (W.contents out.new) (E.contents err.old) (E.contents err.new)
+    ensures done { IfSome (S.files store.old) (λ m.
+        NoneFailed (S.failures store.old) (S.failures store.new) →
+        ForStreamsOverWriters (W.contents out.old) (W.contents out.new) (E.contents err.old)
+        (E.contents err.new)
         (λ io. RunsCommand (map A.text args.now) m (S.files store.new) io result)) }
-    ensures fits { IfSome (S.files store.old) (λ m. NoneFailed (S.failures store.old) (S.failures store.new) →
-        ForStreamsOverWriters (W.contents out.old) (W.contents out.new) (E.contents err.old) (E.contents err.new)
+    ensures fits { IfSome (S.files store.old) (λ m.
+        NoneFailed (S.failures store.old) (S.failures store.new) →
+        ForStreamsOverWriters (W.contents out.old) (W.contents out.new) (E.contents err.old)
+        (E.contents err.new)
         (λ io. ArgsObjectFits (map A.text args.now) m (S.files store.new) io result)) }
-    ensures failed { IfSome (S.files store.old) (λ m. HasFailed (S.failures store.old) (S.failures store.new) →
-        ForStreamsOverWriters (W.contents out.old) (W.contents out.new) (E.contents err.old) (E.contents err.new)
-        (λ io. ArgsRunFails (S.failures store.old) (map A.text args.now) m (S.files store.new) (S.last_failure store.new) io result)) }
-    ensures one_program { IfSome (S.files store.old) (λ m. NoneFailed (S.failures store.old) (S.failures store.new) →
-        ForStreamsOverWriters (W.contents out.old) (W.contents out.new) (E.contents err.old) (E.contents err.new)
-        (λ io. ArgsLinkWholeProgram (line_of (map A.text args.now)) m (S.files store.new) io result)) }
+    ensures failed { IfSome (S.files store.old) (λ m.
+        HasFailed (S.failures store.old) (S.failures store.new) →
+        ForStreamsOverWriters (W.contents out.old) (W.contents out.new) (E.contents err.old)
+        (E.contents err.new)
+        (λ io. ArgsRunFails (S.failures store.old) (map A.text args.now) m (S.files store.new)
+        (S.last_failure store.new) io result)) }
+    ensures one_program { IfSome (S.files store.old) (λ m.
+        NoneFailed (S.failures store.old) (S.failures store.new) →
+        ForStreamsOverWriters (W.contents out.old) (W.contents out.new) (E.contents err.old)
+        (E.contents err.new)
+        (λ io. ArgsLinkWholeProgram (line_of (map A.text args.now)) m
+        (S.files store.new) io result)) }
     ensures later { S.failures store.old ≤ S.failures store.new }
-    ensures status { HasFailed (S.failures store.old) (S.failures store.new) → result ≡ Status.Failure }
+    ensures status { HasFailed (S.failures store.old) (S.failures store.new) →
+        result ≡ Status.Failure }
 {
     run_with_streams(
         alloc,

@@ -68,7 +68,8 @@ fn add_entry(
     requires distinct { IsDistinct nat_eq sections.now.keys }
     ensures drafts { OnOk result (by_section.new.drafts.items ≡
         map (with_entry entry) by_section.old.drafts.items) }
-    ensures declarations { OnOk result (by_section.new.declarations ≡ by_section.old.declarations ++ declarations_of entry) }
+    ensures declarations { OnOk result (by_section.new.declarations ≡
+        by_section.old.declarations ++ declarations_of entry) }
 {
     match entry {
         SectionEntry::DeclarationEntry(located) => by_section
@@ -100,7 +101,8 @@ pub fn group_by_section(
 ) -> Result<EntriesBySection, AllocError>
     ensures drafts { IfOk result (λ p. p.drafts.items ≡
         map (draft_of entries.items) sections.now.keys) }
-    ensures declarations { IfOk result (λ p. p.declarations ≡ flat_map declarations_of entries.items) }
+    ensures declarations { IfOk result (λ p.
+        p.declarations ≡ flat_map declarations_of entries.items) }
 {
     let mut by_section = EntriesBySection {
         drafts: new_drafts(alloc, sections.as_slice())?,

@@ -55,8 +55,10 @@ pub fn declaration_tables(
     numbers: &Numbers,
     declarations: ListVec<LocatedDeclaration>,
 ) -> Result<DeclarationTables, AllocError>
-    ensures exports { IfOk result (λ d. d.exports ≡ filter_map (export_by numbers.now) declarations) }
-    ensures asserts { IfOk result (λ d. d.asserts ≡ filter_map (assert_by numbers.now) declarations) }
+    ensures exports { IfOk result (λ d.
+        d.exports ≡ filter_map (export_by numbers.now) declarations) }
+    ensures asserts { IfOk result (λ d.
+        d.asserts ≡ filter_map (assert_by numbers.now) declarations) }
     ensures fits { IfOk result DeclarationsFit }
 {
     let mut declared = DeclarationTables {

@@ -64,7 +64,8 @@ pub fn origin_of(numbers: &Numbers, pos: SourcePos) -> Result<Origin, AllocError
 
 /// Replaces the keys of the sections and imports in a form by their numbers.
 fn renumber(numbers: &Numbers, form: &mut Norm) -> Result<(), AllocError>
-    ensures form { OnOk result (form.new ≡ renumbered_form numbers.now.sections.keys numbers.now.imports.keys form.old) }
+    ensures form { OnOk result (form.new ≡
+        renumbered_form numbers.now.sections.keys numbers.now.imports.keys form.old) }
     ensures bits { OnOk result (FitsBits form.new) }
 {
     let leaf = match form.node() {
@@ -90,7 +91,8 @@ fn renumber(numbers: &Numbers, form: &mut Norm) -> Result<(), AllocError>
 
 /// Returns a form with the numbers of its sections and imports instead of their keys.
 pub fn numbered(numbers: &Numbers, form: Norm) -> Result<Norm, AllocError>
-    ensures form { IfOk result (λ f. f ≡ renumbered_form numbers.now.sections.keys numbers.now.imports.keys form) }
+    ensures form { IfOk result (λ f.
+        f ≡ renumbered_form numbers.now.sections.keys numbers.now.imports.keys form) }
     ensures bits { IfOk result FitsBits }
 {
     let mut form = form;
@@ -135,7 +137,8 @@ fn add_declaration(
     declaration: &Declaration,
 ) -> Result<(), AllocError>
     ensures { OnOk result (keys.new.keys ≡ distinct_keys keys.old.keys
-        (declaration_imports (names_of imports.now) (declaration_at any_location declaration.now))) }
+        (declaration_imports (names_of imports.now)
+        (declaration_at any_location declaration.now))) }
 {
     match declaration {
         Declaration::ExportedSymbol { form, .. } | Declaration::LinkAssertion { form, .. } => {
@@ -152,7 +155,8 @@ fn add_entry(
     entry: &SectionEntry,
 ) -> Result<(), AllocError>
     ensures { OnOk result (keys.new.keys
-        ≡ distinct_keys keys.old.keys (content_imports (names_of imports.now) (content_of [] entry.now))) }
+        ≡ distinct_keys keys.old.keys
+        (content_imports (names_of imports.now) (content_of [] entry.now))) }
 {
     match entry {
         SectionEntry::Value { form, .. } => add_form(keys, form),

@@ -110,7 +110,8 @@ pub fn files_in_order(
     alloc: Global,
     by_section: &EntriesBySection,
 ) -> Result<IndexSet<u32>, AllocError>
-    ensures { IfOk result (λ s. s.keys ≡ files_in_order by_section.now.drafts.items by_section.now.declarations) }
+    ensures { IfOk result (λ s.
+        s.keys ≡ files_in_order by_section.now.drafts.items by_section.now.declarations) }
 {
     let mut order = FileOrder {
         files: IndexSet::new(alloc),
@@ -140,7 +141,8 @@ pub fn file_names(
     table: &[String],
     indices: &[u32],
 ) -> Result<ListVec<ListVec<u8>>, AllocError>
-    ensures names { IfOk result (λ names. names ≡ map (name_of (map string_bytes table.now)) indices.now) }
+    ensures names { IfOk result (λ names.
+        names ≡ map (name_of (map string_bytes table.now)) indices.now) }
     ensures texts { IfOk result (AllByRecursion (λ name. is_utf8 name ≡ true)) }
 {
     let mut names = ListVec::new(alloc);

@@ -63,7 +63,8 @@ pub fn check_unread(
 /// Returns a value as a number of bytes, or an error if it is negative or above `count`.
 fn checked_count(count: usize, value: i64) -> Result<usize, AsmFault>
     ensures count { Refines is_out_of_memory (λ n. n) result
-        (unless_fault (fault_if (not (is_in_range count value)) BadPart) (nat_or_zero (Some value))) }
+        (unless_fault (fault_if (not (is_in_range count value)) BadPart)
+        (nat_or_zero (Some value))) }
     ensures within { IfOk result (λ n. n ≤ count) }
 {
     if 0 <= value && value as u64 <= count as u64 {
@@ -102,7 +103,8 @@ pub fn file_part(
     ensures { (y : Table) (start len : Option Tree) →
         AreEvaluations y (context_of cursor.now) (own_size cursor.now)
         (Incbin bytes.now start len) found.now →
-        Refines is_out_of_memory (λ m. m) result (layout_or_error y cursor.now (Incbin bytes.now start len)) }
+        Refines is_out_of_memory (λ m. m) result
+        (layout_or_error y cursor.now (Incbin bytes.now start len)) }
 {
     let start = optional_constant(&found.first)?;
     let len = optional_constant(&found.second)?;
@@ -138,7 +140,8 @@ pub fn instruction(
 ) -> Result<StatementLayout, AsmFault>
     ensures { (y : Table) → IsEvaluated y (context_of cursor.now) (own_size cursor.now)
         (operand_tree operand.now) found.now →
-        Refines is_out_of_memory (λ m. m) result (layout_or_error y cursor.now (Instruction mnemonic operand.now)) }
+        Refines is_out_of_memory (λ m. m) result
+        (layout_or_error y cursor.now (Instruction mnemonic operand.now)) }
 {
     let Some(mode) = mode(mnemonic, operand, found) else {
         return Err(AsmFault::NoSuchForm);

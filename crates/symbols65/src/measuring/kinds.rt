@@ -23,7 +23,8 @@ use syntax65::{Expr, ExprKind};
 
 /// Rejects an import or export of names if a scope other than the global one is open.
 pub fn check_global_only(scope: usize, statement: &Statement) -> Result<(), AsmFault>
-    ensures { ChecksStatement result (fault_if (is_global_only statement.now && is_not_global scope) NotUnderstood) }
+    ensures { ChecksStatement result
+        (fault_if (is_global_only statement.now && is_not_global scope) NotUnderstood) }
 {
     match statement {
         Statement::Import { .. }
@@ -43,7 +44,8 @@ fn check_new_scope(
     scope: usize,
     name: &[u8],
 ) -> Result<(), AsmFault>
-    ensures { ChecksStatement result (fault_if_some (scope_in (table_of symbols.now).scopes scope name.now)
+    ensures { ChecksStatement result
+        (fault_if_some (scope_in (table_of symbols.now).scopes scope name.now)
         (ScopeTwice name.now)) }
 {
     match symbols.scope_in(scope, name) {
@@ -76,7 +78,8 @@ pub fn check_opened(
 /// Rejects a name whose key is already defined.
 #[inline(never)]
 fn check_key(alloc: Global, symbols: &Symbols, key: Key<'_>, name: &[u8]) -> Result<(), AsmFault>
-    ensures { ChecksStatement result (fault_if_some (definition_index (table_of symbols.now) (key_of key.entry))
+    ensures { ChecksStatement result
+        (fault_if_some (definition_index (table_of symbols.now) (key_of key.entry))
         (DefinedTwice name.now)) }
 {
     match symbols.defined(key) {

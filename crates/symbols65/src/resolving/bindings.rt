@@ -91,7 +91,9 @@ pub enum Binding {
 
 /// Returns the meaning of a definition's index or, if there is none, of an imported name.
 fn defined_or_imported(symbols: &Symbols, defined: Option<usize>, name: &[u8]) -> Option<Binding>
-    ensures { (fault : AsmFault) → binding_or_fault fault defined (import_index (table_of symbols.now) name.now) ≡ ok_or (option_map binding_in result) fault }
+    ensures { (fault : AsmFault) →
+        binding_or_fault fault defined (import_index (table_of symbols.now) name.now) ≡
+        ok_or (option_map binding_in result) fault }
 {
     if let Some(index) = defined {
         return Some(Binding::Defined(index));
@@ -102,7 +104,9 @@ fn defined_or_imported(symbols: &Symbols, defined: Option<usize>, name: &[u8]) -
 
 /// Returns the meaning of a name in one scope, if it has one there. Imports are in the global scope.
 fn member_binding(symbols: &Symbols, scope: usize, name: &[u8]) -> Option<Binding>
-    ensures { (absent lost : AsmFault) → member_binding (table_of symbols.now) name.now absent lost (Some scope) ≡ ok_or (option_map binding_in result) absent }
+    ensures { (absent lost : AsmFault) →
+        member_binding (table_of symbols.now) name.now absent lost (Some scope) ≡
+        ok_or (option_map binding_in result) absent }
 {
     let defined = symbols.defined(Key::Named { scope, name });
     if scope == 0 {
@@ -117,7 +121,8 @@ fn member_binding(symbols: &Symbols, scope: usize, name: &[u8]) -> Option<Bindin
 /// Returns the meaning of a plain name, if it has one: the definition in the innermost scope that has one,
 /// from the use outward, or else an import.
 fn plain_binding(symbols: &Symbols, scope: usize, name: &[u8]) -> Option<Binding>
-    ensures { plain_binding (table_of symbols.now) scope name.now ≡ ok_or (option_map binding_in result) (Undefined name.now) }
+    ensures { plain_binding (table_of symbols.now) scope name.now ≡
+        ok_or (option_map binding_in result) (Undefined name.now) }
 {
     let defined = defined_outward(symbols, scope, name);
     defined_or_imported(symbols, defined, name)
@@ -126,7 +131,9 @@ fn plain_binding(symbols: &Symbols, scope: usize, name: &[u8]) -> Option<Binding
 /// Returns the meaning of a name with `::`, if it has one. Only scopes that were opened before the use are
 /// considered.
 fn scoped_binding(symbols: &Symbols, context: Context, name: &Name) -> Option<Binding>
-    ensures { scoped_binding (table_of symbols.now) context name.now.is_global name.now.parts ≡ ok_or (option_map binding_in result) (name_fault (table_of symbols.now) context name.now.is_global name.now.parts None) }
+    ensures { scoped_binding (table_of symbols.now) context name.now.is_global name.now.parts ≡
+        ok_or (option_map binding_in result)
+        (name_fault (table_of symbols.now) context name.now.is_global name.now.parts None) }
 {
     let parts = name.parts.as_slice();
     let opened = context.opened as usize;
@@ -168,7 +175,8 @@ pub fn plain_part(name: &Name) -> Option<&[u8]>
 
 /// Returns the unnamed label after `count` others, if there is one.
 fn unnamed_label(symbols: &Symbols, count: usize) -> Option<Binding>
-    ensures { unnamed_binding (table_of symbols.now) count ≡ ok_or (option_map binding_in result) NoSuchLabel }
+    ensures { unnamed_binding (table_of symbols.now) count ≡
+        ok_or (option_map binding_in result) NoSuchLabel }
 {
     let index = symbols.defined(Key::Unnamed(count))?;
     Some(Binding::Defined(index))
@@ -176,7 +184,8 @@ fn unnamed_label(symbols: &Symbols, count: usize) -> Option<Binding>
 
 /// Returns an unnamed label after a use, given the number of labels before the use.
 fn label_after(symbols: &Symbols, before: u32, steps: usize) -> Option<Binding>
-    ensures { unnamed_binding (table_of symbols.now) (before + steps - 1) ≡ ok_or (option_map binding_in result) NoSuchLabel }
+    ensures { unnamed_binding (table_of symbols.now) (before + steps - 1) ≡
+        ok_or (option_map binding_in result) NoSuchLabel }
 {
     let count = match steps.checked_sub(1) {
         // There are fewer labels than `usize` can count.
@@ -188,7 +197,8 @@ fn label_after(symbols: &Symbols, before: u32, steps: usize) -> Option<Binding>
 
 /// Returns an unnamed label before a use, given the number of labels before the use.
 fn label_before(symbols: &Symbols, before: u32, steps: usize) -> Option<Binding>
-    ensures { backward_binding (table_of symbols.now) before steps ≡ ok_or (option_map binding_in result) NoSuchLabel }
+    ensures { backward_binding (table_of symbols.now) before steps ≡
+        ok_or (option_map binding_in result) NoSuchLabel }
 {
     let count = (before as usize).checked_sub(steps)?;
     unnamed_label(symbols, count)
@@ -196,7 +206,9 @@ fn label_before(symbols: &Symbols, before: u32, steps: usize) -> Option<Binding>
 
 /// Returns the meaning of an operand in its context, if it has one.
 pub fn binding_at(symbols: &Symbols, context: Context, operand: &Expr) -> Option<Binding>
-    ensures { binding_of (table_of symbols.now) context operand.now ≡ ok_or (option_map binding_in result) (binding_fault (table_of symbols.now) context operand.now) }
+    ensures { binding_of (table_of symbols.now) context operand.now ≡
+        ok_or (option_map binding_in result)
+        (binding_fault (table_of symbols.now) context operand.now) }
 {
     match operand.kind() {
         ExprKind::Plain(name) => plain_binding(symbols, context.scope as usize, name.as_slice()),
@@ -233,7 +245,8 @@ fn scoped_name_fault(
     context: Context,
     name: &Name,
 ) -> Result<AsmFault, AllocError>
-    ensures { IfOk result (λ e. e ≡ name_fault (table_of symbols.now) context name.now.is_global name.now.parts None) }
+    ensures { IfOk result (λ e.
+        e ≡ name_fault (table_of symbols.now) context name.now.is_global name.now.parts None) }
 {
     let parts = name.parts.as_slice();
     let opened = context.opened as usize;
@@ -273,7 +286,8 @@ pub fn binding_of(
     context: Context,
     operand: &Expr,
 ) -> Result<Binding, AsmFault>
-    ensures { Refines is_out_of_memory binding_in result (binding_of (table_of symbols.now) context operand.now) }
+    ensures { Refines is_out_of_memory binding_in result
+        (binding_of (table_of symbols.now) context operand.now) }
 {
     match binding_at(symbols, context, operand) {
         Some(meaning) => Ok(meaning),

@@ -94,7 +94,8 @@ pub fn find_plain_form(
     context: Context,
     value: &Expr,
 ) -> Result<Option<Norm>, AllocError>
-    ensures { IfOk result (λ f. f ≡ plain_result (norm_of (table_of symbols.now) context value.now)) }
+    ensures { IfOk result (λ f.
+        f ≡ plain_result (norm_of (table_of symbols.now) context value.now)) }
 {
     let mut known: FormCache = IndexMap::new(alloc);
     match run_search(alloc, symbols, &mut known, context, value) {

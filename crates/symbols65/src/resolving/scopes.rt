@@ -50,8 +50,11 @@ const GLOBAL: usize = GLOBAL_SCOPE as usize;
 /// Returns the index of the definition of an interned name in a scope, if it has one. Unless `is_inner`,
 /// only the global scope defines it.
 fn defined_in(symbols: &Symbols, scope: usize, name_id: usize, is_inner: bool) -> Option<usize>
-    requires { is_inner ≡ false → (inner : ℕ) (n : List ℕ) → position (bytes_eq n) (interned_names_of symbols.now) ≡ Some name_id → definition_index (table_of symbols.now) (named (suc inner) n) ≡ None }
-    ensures { (n : List ℕ) → position (bytes_eq n) (interned_names_of symbols.now) ≡ Some name_id → result ≡ definition_index (table_of symbols.now) (named scope n) }
+    requires { is_inner ≡ false → (inner : ℕ) (n : List ℕ) →
+        position (bytes_eq n) (interned_names_of symbols.now) ≡ Some name_id →
+        definition_index (table_of symbols.now) (named (suc inner) n) ≡ None }
+    ensures { (n : List ℕ) → position (bytes_eq n) (interned_names_of symbols.now) ≡ Some name_id →
+        result ≡ definition_index (table_of symbols.now) (named scope n) }
 {
     if !is_inner && scope != GLOBAL {
         return None;
@@ -62,7 +65,8 @@ fn defined_in(symbols: &Symbols, scope: usize, name_id: usize, is_inner: bool) -
 /// Returns the index of the definition of a name in the innermost scope that defines it, from a scope
 /// outward, if one does.
 pub fn defined_outward(symbols: &Symbols, scope: usize, name: &[u8]) -> Option<usize>
-    ensures { result ≡ first_found (λ s. definition_index (table_of symbols.now) (named s name.now)) (scopes_from (table_of symbols.now).scopes scope) }
+    ensures { result ≡ first_found (λ s. definition_index (table_of symbols.now) (named s name.now))
+        (scopes_from (table_of symbols.now).scopes scope) }
 {
     let name_id = symbols.name_id(name)?;
     let is_inner = symbols.is_inner(name_id);
@@ -107,7 +111,9 @@ fn enclosing(symbols: &Symbols, opened: usize, scope: usize) -> usize
 /// Searches a scope, and then the enclosing ones, for a scope with this name among the first `opened`
 /// scopes. Returns the first one.
 fn scope_outward(symbols: &Symbols, opened: usize, scope: usize, name: &[u8]) -> Option<usize>
-    ensures { result ≡ first_found (λ s. scope_in (take opened (table_of symbols.now).scopes) s name.now) (scopes_from (take opened (table_of symbols.now).scopes) scope) }
+    ensures { result ≡ first_found (λ s.
+        scope_in (take opened (table_of symbols.now).scopes) s name.now)
+        (scopes_from (take opened (table_of symbols.now).scopes) scope) }
 {
     let mut scope = scope;
     let mut left = scope;
@@ -131,7 +137,8 @@ fn inner_scope(
     scope: usize,
     names: &[ListVec<u8>],
 ) -> Option<usize>
-    ensures { result ≡ nested_scope (take opened (table_of symbols.now).scopes) names.now (Some scope) }
+    ensures { result ≡ nested_scope
+        (take opened (table_of symbols.now).scopes) names.now (Some scope) }
 {
     let mut scope = scope;
     for name in names {
@@ -149,7 +156,8 @@ pub fn scope_of(
     is_global: bool,
     names: &[ListVec<u8>],
 ) -> Option<usize>
-    ensures { result ≡ scope_from (take opened (table_of symbols.now).scopes) scope is_global names.now }
+    ensures { result ≡ scope_from
+        (take opened (table_of symbols.now).scopes) scope is_global names.now }
 {
     if is_global {
         return inner_scope(symbols, opened, GLOBAL, names);

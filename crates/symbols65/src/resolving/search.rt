@@ -59,7 +59,8 @@ pub fn run_search(
 ) -> Result<Norm, AsmFault>
     requires { KeepsSearches (table_of symbols.now) (get nat_eq known.old) }
     ensures form { FindsForm result (norm_of (table_of symbols.now) context value.now) }
-    ensures first { IsUnmarked (table_of symbols.now) known.old → Refines is_out_of_memory (λ f. f) result
+    ensures first { IsUnmarked (table_of symbols.now) known.old →
+        Refines is_out_of_memory (λ f. f) result
         (norm_of (table_of symbols.now) context value.now) }
     ensures entries { RefinesProp is_out_of_memory
         (λ r. KeepsSearches (table_of symbols.now) (get nat_eq known.new)) result }
@@ -113,7 +114,8 @@ pub fn defined_norm(
     index: usize,
 ) -> Result<Norm, AsmFault>
     requires { IsFormCache (table_of symbols.now) known.old }
-    ensures form { Refines is_out_of_memory (λ f. f) result (defined_form (table_of symbols.now) index) }
+    ensures form { Refines is_out_of_memory (λ f. f) result
+        (defined_form (table_of symbols.now) index) }
     ensures table { OnOk result (IsFormCache (table_of symbols.now) known.new) }
 {
     match symbols.definition(index) {

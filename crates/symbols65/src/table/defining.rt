@@ -20,7 +20,8 @@ const GLOBAL: usize = GLOBAL_SCOPE as usize;
 fn entry(alloc: Global, symbols: &mut Symbols, key: Key<'_>) -> Result<InternedKey, AllocError>
     ensures table { table_of symbols.new ≡ table_of symbols.old }
     ensures definitions { symbols.new.definitions ≡ symbols.old.definitions }
-    ensures entry { IfOk result (λ e. interned_key_of (interned_names_of symbols.new) (key_of key.entry) ≡ Some e) }
+    ensures entry { IfOk result (λ e.
+        interned_key_of (interned_names_of symbols.new) (key_of key.entry) ≡ Some e) }
     ensures counted { IfOk result IsCounted }
 {
     match key {
@@ -56,7 +57,8 @@ fn push(
 /// Records that a scope other than the global one defines an interned name.
 fn mark_inner_name(inner: &mut Vec<bool>, name_id: usize) -> Result<(), AllocError>
     ensures noted { OnOk result (slice_get inner.new.items name_id ≡ Some true) }
-    ensures kept { (w : ℕ) → slice_get inner.old.items w ≡ Some true → slice_get inner.new.items w ≡ Some true }
+    ensures kept { (w : ℕ) → slice_get inner.old.items w ≡ Some true →
+        slice_get inner.new.items w ≡ Some true }
 {
     while inner.len() <= name_id {
         inner.push(false)?;
@@ -68,7 +70,8 @@ fn mark_inner_name(inner: &mut Vec<bool>, name_id: usize) -> Result<(), AllocErr
 /// Records the name of a definition if its scope isn't the global one.
 fn mark_inner(inner: &mut Vec<bool>, entry: InternedKey) -> Result<(), AllocError>
     ensures noted { OnOk result (IsInnerKnown inner.new.items entry) }
-    ensures kept { (w : ℕ) → slice_get inner.old.items w ≡ Some true → slice_get inner.new.items w ≡ Some true }
+    ensures kept { (w : ℕ) → slice_get inner.old.items w ≡ Some true →
+        slice_get inner.new.items w ≡ Some true }
 {
     match entry {
         InternedKey::Named { scope, name_id } if scope != GLOBAL => mark_inner_name(inner, name_id),
@@ -115,12 +118,14 @@ fn add_definition(
     definition: Definition,
     keeps: bool,
 ) -> Result<(), AllocError>
-    requires number { first_number (interned_names_of symbols.old) (key_name_id entry) ≡ key_name_id entry }
+    requires number { first_number (interned_names_of symbols.old) (key_name_id entry) ≡
+        key_name_id entry }
     requires counted { IsCounted entry }
     requires form { StoresFinalForm (table_of symbols.old) (length symbols.old.definitions.entries)
         (definition_in (interned_names_of symbols.old) (entry, definition)) definition }
     requires meanings { keeps ≡ true → KeepsBindings (table_of symbols.old) (with_definition
-        (table_of symbols.old) (definition_in (interned_names_of symbols.old) (entry, definition))) }
+        (table_of symbols.old) (definition_in (interned_names_of symbols.old)
+        (entry, definition))) }
     requires new { position (same_interned_key entry) (keys symbols.old.definitions) ≡ None }
     ensures { OnOk result (table_of symbols.new ≡ with_definition (table_of symbols.old)
         (definition_in (interned_names_of symbols.old) (entry, definition))) }
@@ -139,7 +144,8 @@ pub fn define(
     definition: Definition,
 ) -> Result<(), AllocError>
     requires new { definition_index (table_of symbols.old) (key_of key) ≡ None }
-    requires form { StoresFinalForm (table_of symbols.old) (length (table_of symbols.old).definitions)
+    requires form { StoresFinalForm (table_of symbols.old)
+        (length (table_of symbols.old).definitions)
         (definition_view (key_of key) definition) definition }
     ensures { OnOk result (table_of symbols.new ≡ with_definition (table_of symbols.old)
         (definition_view (key_of key.entry) definition)) }

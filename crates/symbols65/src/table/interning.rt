@@ -22,7 +22,8 @@ pub struct NameQuery<'a, T>(pub &'a [T]);
 impl<T: Copy + Eq + Hash> Equivalent<SmallVec<T, SHORT>> for NameQuery<'_, T> {
     ghost equivalent = { λ q k. pointwise T.eq q.0.now k.items };
 
-    ghost respects_hash = { λ q k. (items_Alike (record { fed = T.respects_eq })).fed q.0.now k.items };
+    ghost respects_hash = { λ q k.
+        (items_Alike (record { fed = T.respects_eq })).fed q.0.now k.items };
 
     ghost respects_eq = { λ q x y. (lists_equiv T.Eq.laws).congr q.0.now x.items y.items };
 

@@ -84,14 +84,30 @@ pub struct Symbols {
     pub searched: FormCache,
     /// Whether some constant has no final form. If each has one, there is nothing to search for.
     pub has_unresolved: bool,
-    ghost entries_numbered: { AreNumbered key_name_id (map (λ k. k.items) interned_names.keys) (keys definitions) },
+    ghost entries_numbered: { AreNumbered key_name_id (map (λ k. k.items) interned_names.keys)
+        (keys definitions) },
     ghost counts_fit: { AreCounted (keys definitions) },
-    ghost openings_numbered: { AreNumbered scope_name_id (map (λ k. k.items) interned_names.keys) (keys scopes) },
+    ghost openings_numbered: { AreNumbered scope_name_id (map (λ k. k.items) interned_names.keys)
+        (keys scopes) },
     ghost inner_known: { AreInnerKnown (keys definitions) inner.items },
     ghost openings_distinct: { AreDistinct (keys scopes) },
-    ghost forms_final: { AreFinal (map (λ k. k.items) interned_names.keys) definitions.entries scopes.entries } by { AreFinal-prop (map (λ k. k.items) interned_names.keys) definitions.entries scopes.entries },
-    ghost searches_hold: { AreSearched (table_in (map (λ k. k.items) interned_names.keys) definitions.entries scopes.entries (map (λ k. k.items) imports.keys) (map (λ k. k.items) zero_page.keys)) (entries_at (length (table_in (map (λ k. k.items) interned_names.keys) definitions.entries scopes.entries (map (λ k. k.items) imports.keys) (map (λ k. k.items) zero_page.keys)).definitions) (get nat_eq searched)) } by { AreSearched-prop (table_in (map (λ k. k.items) interned_names.keys) definitions.entries scopes.entries (map (λ k. k.items) imports.keys) (map (λ k. k.items) zero_page.keys)) (entries_at (length (table_in (map (λ k. k.items) interned_names.keys) definitions.entries scopes.entries (map (λ k. k.items) imports.keys) (map (λ k. k.items) zero_page.keys)).definitions) (get nat_eq searched)) },
-    ghost searches_past: { ArePast (length (table_in (map (λ k. k.items) interned_names.keys) definitions.entries scopes.entries (map (λ k. k.items) imports.keys) (map (λ k. k.items) zero_page.keys)).definitions) (get nat_eq searched) },
+    ghost forms_final: { AreFinal (map (λ k. k.items) interned_names.keys) definitions.entries
+        scopes.entries } by { AreFinal-prop
+            (map (λ k. k.items) interned_names.keys) definitions.entries scopes.entries },
+    ghost searches_hold: { AreSearched
+        (table_in (map (λ k. k.items) interned_names.keys) definitions.entries scopes.entries
+        (map (λ k. k.items) imports.keys) (map (λ k. k.items) zero_page.keys))
+        (entries_at (length (table_in (map (λ k. k.items) interned_names.keys) definitions.entries
+        scopes.entries (map (λ k. k.items) imports.keys)
+        (map (λ k. k.items) zero_page.keys)).definitions) (get nat_eq searched)) } by { AreSearched-prop (table_in (map (λ k. k.items) interned_names.keys) definitions.entries
+            scopes.entries (map (λ k. k.items) imports.keys) (map (λ k. k.items) zero_page.keys))
+            (entries_at (length (table_in (map (λ k. k.items) interned_names.keys) definitions.entries
+            scopes.entries (map (λ k. k.items) imports.keys)
+            (map (λ k. k.items) zero_page.keys)).definitions) (get nat_eq searched)) },
+    ghost searches_past: { ArePast
+        (length (table_in (map (λ k. k.items) interned_names.keys) definitions.entries
+        scopes.entries (map (λ k. k.items) imports.keys)
+        (map (λ k. k.items) zero_page.keys)).definitions) (get nat_eq searched) },
 }
 
 impl Symbols {

@@ -15,7 +15,8 @@ pub fn asm_message(
     source: &str,
     located: &Diagnostic,
 ) -> Result<ListVec<u8>, AllocError>
-    ensures { IfOk result (λ message. message ≡ asm_message source.now (located_fault located.now)) }
+    ensures { IfOk result (λ message.
+        message ≡ asm_message source.now (located_fault located.now)) }
 {
     let mut text = ListVec::new(alloc);
     text.extend_from_slice(located.fault.message_text().as_bytes())?;

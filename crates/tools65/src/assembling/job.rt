@@ -23,7 +23,8 @@ pub fn folders_of(alloc: Global, include: &[&str]) -> Result<Vec<PathString>, Al
 
 /// Returns the constants of a line.
 pub fn defines_of<'a>(alloc: Global, defines: &[Given<'a>]) -> Result<Vec<Define<'a>>, AllocError>
-    ensures { IfOk result (λ ds. map define_of ds.items ≡ map define_in (map define_view defines.now)) }
+    ensures { IfOk result (λ ds.
+        map define_of ds.items ≡ map define_in (map define_view defines.now)) }
 {
     let mut found = Vec::new(alloc);
     for define in defines {

@@ -21,7 +21,8 @@ use std::alloc::{AllocError, Global};
 
 /// Returns the name of the object's file.
 fn output_name(alloc: Global, line: &AssembleArgs<'_>) -> Result<PathString, AllocError>
-    ensures { IfOk result (λ name. IsOutputName (assemble_view line.now).output line.now.source.now name) }
+    ensures { IfOk result (λ name.
+        IsOutputName (assemble_view line.now).output line.now.source.now name) }
 {
     match line.output {
         Some(name) => PathString::copy_of(alloc, name),
@@ -48,7 +49,8 @@ fn failed_outcome(
     texts: (ListVec<u8>, ListVec<u8>),
     located: &Diagnostic,
 ) -> Result<Outcome, AllocError>
-    ensures { IfOk result (λ outcome. outcome ≡ failed_assembly_outcome source.now texts.0 texts.1 (located_fault located.now)) }
+    ensures { IfOk result (λ outcome.
+        outcome ≡ failed_assembly_outcome source.now texts.0 texts.1 (located_fault located.now)) }
 {
     if located.fault.is_memory() {
         return Ok(Outcome {
@@ -75,7 +77,9 @@ fn asm_outcome(
     assembly: Assembly,
 ) -> Result<Outcome, AllocError>
     requires { IfOk assembly.result (λ object. is_well_formed_object object ≡ true) }
-    ensures { IfOk result (λ outcome. IsAssemblyOutcome (assemble_view line.now) (assembly_outcome assembly assembly.result) outcome) }
+    ensures { IfOk result (λ outcome.
+        IsAssemblyOutcome (assemble_view line.now)
+        (assembly_outcome assembly assembly.result) outcome) }
 {
     let Assembly { result, out, err } = assembly;
     match result {
@@ -99,7 +103,8 @@ pub fn compute_assembly<S: Store>(
     line: &AssembleArgs<'_>,
     store: &mut S,
 ) -> Result<Outcome, AllocError>
-    ensures computed { IfSome (S.files store.old) (λ m. IfOk result (ComputesOutcome (assemble (assemble_view line.now)) m
+    ensures computed { IfSome (S.files store.old) (λ m.
+        IfOk result (ComputesOutcome (assemble (assemble_view line.now)) m
         (S.last_failure store.new) (S.failures store.old) (S.failures store.new))) }
     ensures frame { ComputeFrame S.files S.failures store.old store.new result }
 {

@@ -57,7 +57,7 @@ fn add_file<S: Store>(
     library: &mut Library,
     file: &str,
 ) -> Result<(), LibraryFault>
-    ensures put { IfSome (S.files store.old) (λ m.
+    ensures inserted { IfSome (S.files store.old) (λ m.
         Refines is_library_system_error (λ _. library.new) result
         (with_file m library.old file.now)) }
     ensures bytes { IfSome (S.files store.old) (λ m. HasOnlyBytes (map.get m file.now) result) }
@@ -75,7 +75,7 @@ pub fn add_files<S: Store>(
     library: &mut Library,
     files: &[&str],
 ) -> Result<(), ArchiveFault>
-    ensures put { IfSome (S.files store.old) (λ m.
+    ensures inserted { IfSome (S.files store.old) (λ m.
         Refines is_system_error (λ _. library.new) result
         (with_files m library.old 0 (map (λ s. s.now) files.now))) }
     ensures bytes { IfSome (S.files store.old) (λ m.

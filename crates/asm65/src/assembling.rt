@@ -69,11 +69,11 @@ fn define_one(
     define: &Define<'_>,
 ) -> Result<(), AsmFault>
     requires { HasHeadroom 1 assembler.old }
-    ensures taken { (count : ℕ) (t : State) → count + 1 ≤ opening_limit →
+    ensures transitions { (count : ℕ) (t : State) → count + 1 ≤ opening_limit →
         Represents count t assembler.old → let d = define_of define.now in
         RefinesTransition ⊤ (StepsTo t (location_of_ref at.entry) (Constant d.0 (number d.1)))
         count t assembler.new result }
-    ensures inside { IfErr result (λ e. is_failure e ≡ false) }
+    ensures no_failure { IfErr result (λ e. is_failure e ≡ false) }
 {
     let name = Identifier::copy_of(alloc, define.name)?;
     let value = Expr::new(ExprKind::Number(define.value));
@@ -90,7 +90,7 @@ pub fn define_all(
     ensures defined { RefinesTransition ⊤
         (DefinesConstants StepsTo initial_state (no_line (job_of job.now).source)
         (job_of job.now).defines) 0 initial_state assembler.new result }
-    ensures inside { IfErr result (λ e. is_failure e ≡ false) }
+    ensures no_failure { IfErr result (λ e. is_failure e ≡ false) }
 {
     let at = LocationRef {
         file: job.source,
@@ -186,7 +186,7 @@ fn fail_with_output(
     ensures failed { IfErr result.result (λ e. is_store_failure e ≡ is_failure fault) }
     ensures stopped { is_failure fault ≡ true → IfErr result.result (λ e.
         located_fault e ≡ record { place = location_of expander; fault = fault }) }
-    ensures said { is_failure fault ≡ true →
+    ensures reported { is_failure fault ≡ true →
         (result.out ≡ assembler.texts.out) × (result.err ≡ assembler.texts.err) }
     ensures silent { is_memory_error_result result.result ≡ true → (result.out ≡ []) ×
         (result.err ≡ []) }

@@ -49,10 +49,10 @@ fn assemble_well_formed(
     statement: Statement,
 ) -> Result<(), AsmFault>
     requires { HasHeadroom 1 assembler.old }
-    ensures taken { RefinesAllTransitions (IsWellFormedStatement statement) (λ t. StepsTo t
+    ensures transitions { RefinesAllTransitions (IsWellFormedStatement statement) (λ t. StepsTo t
         (location_of_ref at.entry) statement)
         1 assembler.old assembler.new result }
-    ensures inside { IfErr result (λ e. is_failure e ≡ false) }
+    ensures no_failure { IfErr result (λ e. is_failure e ≡ false) }
 {
     if is_well_formed(&statement) {
         assembler.assemble_statement(alloc, at, statement)
@@ -96,11 +96,11 @@ fn assemble_optional_label(
     label: Option<Statement>,
 ) -> Result<(), AsmFault>
     requires { HasHeadroom 1 assembler.old }
-    ensures taken { RefinesAllTransitions (IfSome label IsWellFormedStatement) (λ t.
+    ensures transitions { RefinesAllTransitions (IfSome label IsWellFormedStatement) (λ t.
         AssemblesLabel StepsTo t
         (location_of_ref at.entry) label)
         1 assembler.old assembler.new result }
-    ensures inside { IfErr result (λ e. is_failure e ≡ false) }
+    ensures no_failure { IfErr result (λ e. is_failure e ≡ false) }
 {
     match label {
         Some(label) => assemble_well_formed(alloc, assembler, at, label),
@@ -146,7 +146,7 @@ fn assemble_nonempty_rest<S: Store>(
     tokens: &[Token<'_>],
 ) -> Result<(), AsmFault>
     requires { HasHeadroom 1 assembler.old }
-    ensures taken { AssemblesStatements (S.files store.old) (S.last_failure store.new)
+    ensures transitions { AssemblesStatements (S.files store.old) (S.last_failure store.new)
         (location_of_ref at.entry) (rest_statements (lexemes tokens.now))
         assembler.old assembler.new result }
     ensures frame { AsmStoreFrame S.files S.failures store.old store.new result }
@@ -167,7 +167,7 @@ pub fn assemble_parts<S: Store>(
     parts: Parts<'_, '_>,
 ) -> Result<(), AsmFault>
     requires { HasHeadroom 4 assembler.old }
-    ensures taken { AssemblesStatements (S.files store.old) (S.last_failure store.new)
+    ensures transitions { AssemblesStatements (S.files store.old) (S.last_failure store.new)
         (location_of_ref at.entry)
         (line_statements (lexemes parts.entry.label.now) (lexemes parts.entry.rest.now))
         assembler.old assembler.new result }
@@ -340,7 +340,7 @@ pub fn assemble_all<S: Store>(alloc: Global, store: &mut S, run: &mut Run) -> Re
         RunRepresents t run.old → RefinesRun m job run.new result) }
     ensures stopped { IfSome (S.files store.old) (λ m.
         RunReportsFailure m (S.last_failure store.new) run.old run.new result) }
-    ensures held { OnOk result ((t : State) × IsReached t × RepresentsSome t run.new.assembler) }
+    ensures represented { OnOk result ((t : State) × IsReached t × RepresentsSome t run.new.assembler) }
     ensures frame { AsmStoreFrame S.files S.failures store.old store.new result }
 {
     'statements: loop {

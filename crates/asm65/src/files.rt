@@ -40,7 +40,7 @@ fn bytes_beside<S: Store>(
     ensures failed { IfErr result (λ e. is_failure e ≡ true → e ≡ FileError) }
     ensures last_failure { IfErr result (λ e. is_failure e ≡ true →
         FailedOn (S.last_failure store.new) (sibling_path file.now name.now)) }
-    ensures inside { IfErr result (λ e. is_failure e ≡ true → IfSome (S.files store.old)
+    ensures no_failure { IfErr result (λ e. is_failure e ≡ true → IfSome (S.files store.old)
         (λ m. let path = sibling_path file.now name.now in
         FailedWithin (S.last_failure store.new) path 0 (length (bytes_in (map.get m path))))) }
     ensures frame { AsmStoreFrame S.files S.failures store.old store.new result }
@@ -61,7 +61,7 @@ fn check_range(alloc: Global, assembler: &Assembler, range: IncbinRange<'_>) -> 
     ensures checked { (count : ℕ) (t : State) → Represents count t assembler.now →
         Refines is_out_of_memory (λ u. u) result (unless_fault (unread_fault t.symbols t.cursor
         range.entry.start.now range.entry.len.now) tt) }
-    ensures inside { IfErr result (λ e. is_failure e ≡ false) }
+    ensures no_failure { IfErr result (λ e. is_failure e ≡ false) }
 {
     let before = LineState {
         symbols: &assembler.symbols,
@@ -83,7 +83,7 @@ fn with_bytes<S: Store>(
     requires { IsRepresentable assembler.old }
     ensures bytes { IfSome (S.files store.old) (λ m. IfOk result (λ x. x ≡ read_bytes m
         (location_of_ref at.entry) statement)) }
-    ensures held { (count : ℕ) (t : State) → Represents count t assembler.old →
+    ensures represented { (count : ℕ) (t : State) → Represents count t assembler.old →
         OnOk result (Represents count t assembler.new) }
     ensures refused { (count : ℕ) (t : State) → Represents count t assembler.old → IfErr result
         (IsRejectedUnread (S.files store.old) (S.last_failure store.new) t
@@ -119,7 +119,7 @@ pub fn read_incbin<S: Store>(
     requires { IsRepresentable assembler.old }
     ensures bytes { IfSome (S.files store.old) (λ m. OnOk result (statement.new ≡
         read_bytes m (location_of_ref at.entry) statement.old)) }
-    ensures held { (count : ℕ) (t : State) → Represents count t assembler.old →
+    ensures represented { (count : ℕ) (t : State) → Represents count t assembler.old →
         OnOk result (Represents count t assembler.new) }
     ensures refused { (count : ℕ) (t : State) → Represents count t assembler.old → IfErr result
         (IsRejectedUnread (S.files store.old) (S.last_failure store.new) t

@@ -57,7 +57,7 @@ fn apply_resolved(
     requires { PieceHasLocation fixup_location.pos made }
     ensures entry { IfOk result (CanReplace (fixup_files fixup_location.entry)
         (result_of_piece fixup_location.entry made).content) }
-    ensures standing { IfOk result (HasLocation fixup_location.entry.pos) }
+    ensures located { IfOk result (HasLocation fixup_location.entry.pos) }
     ensures err { OnOk result (err.new ≡
         err.old ++ (result_of_piece fixup_location.entry made).warning) }
 {
@@ -93,7 +93,7 @@ fn resolve_fixup(
         resolve_state.old resolve_state.new result }
     ensures found { OnOk result
         (IsResolveState (table_of tables.entry.symbols.now) resolve_state.new) }
-    ensures inside { IfErr result (λ e. is_store_failure e ≡ false) }
+    ensures no_failure { IfErr result (λ e. is_store_failure e ≡ false) }
 {
     let fixup_location = FixupLocation {
         files: tables.files,
@@ -135,7 +135,7 @@ fn resolve_entry(
         resolve_state.old resolve_state.new (result_with entry.new result) }
     ensures found { OnOk result
         (IsResolveState (table_of tables.entry.symbols.now) resolve_state.new) }
-    ensures inside { IfErr result (λ e. is_store_failure e ≡ false) }
+    ensures no_failure { IfErr result (λ e. is_store_failure e ≡ false) }
 {
     let SectionEntry::FixupEntry(_) = entry else {
         return Ok(());
@@ -164,7 +164,7 @@ fn resolve_entries(
         ResolvesSlots (table_of tables.entry.symbols.now) files
         (map (slot_of files) entries.old.items)
         resolve_state.old resolve_state.new (result_with entries.new.items result) }
-    ensures inside { IfErr result (λ e. is_store_failure e ≡ false) }
+    ensures no_failure { IfErr result (λ e. is_store_failure e ≡ false) }
 {
     for entry in entries.iter_mut() {
         resolve_entry(alloc, tables, resolve_state, entry)?;
@@ -188,7 +188,7 @@ fn object_of(
         RefinesObject (table_of symbols.now) segments.now xs resolve_state.old.err
         resolve_state.new.err result }
     ensures numbers { IfOk result ObjectFits }
-    ensures inside { IfErr result (λ e. is_store_failure e ≡ false) }
+    ensures no_failure { IfErr result (λ e. is_store_failure e ≡ false) }
 {
     let Ok(closed) = sections.close() else {
         return Err(Diagnostic::without_memory());
@@ -257,7 +257,7 @@ pub fn finish_assembly(alloc: Global, assembler: Assembler) -> Assembly
         AreWellFormedContents t.cursor.segments t.symbols.imports cs) →
         is_well_formed_object o ≡ true) }
     ensures numbers { IfOk result.result ObjectFits }
-    ensures inside { IfErr result.result (λ e. is_store_failure e ≡ false) }
+    ensures no_failure { IfErr result.result (λ e. is_store_failure e ≡ false) }
     ensures silent { is_system_error_result result.result ≡ true →
         (result.out ≡ []) × (result.err ≡ []) }
 {
@@ -297,7 +297,7 @@ pub fn fail_at_line(
           fault = fault;
         }))) result }
     ensures none { IfOk result.result (λ o. ⊥) }
-    ensures inside { is_system_error fault ≡ false →
+    ensures no_failure { is_system_error fault ≡ false →
         IfErr result.result (λ e. is_store_failure e ≡ false) }
     ensures silent { is_system_error_result result.result ≡ true →
         (result.out ≡ []) × (result.err ≡ []) }

@@ -61,7 +61,7 @@ impl<'a> FixupLocation<'a> {
 
 /// Returns the result of a piece that emits nothing.
 fn empty_piece() -> ResolvedPiece
-    ensures made { (fixup_location : FixupLocation) →
+    ensures piece { (fixup_location : FixupLocation) →
         result_of_piece fixup_location result ≡ without_warning (declaration_content []) }
     ensures entry { result.entry ≡ None }
 {
@@ -73,7 +73,7 @@ fn empty_piece() -> ResolvedPiece
 
 /// Returns the result of a piece that has one entry.
 fn one(entry: SectionEntry) -> ResolvedPiece
-    ensures made { (fixup_location : FixupLocation) →
+    ensures piece { (fixup_location : FixupLocation) →
         result_of_piece fixup_location result ≡
         without_warning (entry_content fixup_location entry) }
     ensures entry { result.entry ≡ Some entry }
@@ -90,10 +90,10 @@ fn declaration_piece(
     fixup_location: FixupLocation<'_>,
     declaration: Declaration,
 ) -> Result<ResolvedPiece, AllocError>
-    ensures made { IfOk result (λ m. result_of_piece fixup_location.entry m ≡
+    ensures piece { IfOk result (λ m. result_of_piece fixup_location.entry m ≡
         without_warning (declaration_content
         (declaration_at (location_of_fixup fixup_location.entry) declaration ∷ []))) }
-    ensures standing { IfOk result (PieceHasLocation fixup_location.entry.pos) }
+    ensures located { IfOk result (PieceHasLocation fixup_location.entry.pos) }
 {
     let located = LocatedDeclaration {
         pos: fixup_location.pos,
@@ -108,9 +108,9 @@ fn checked_declaration(
     fixup_location: FixupLocation<'_>,
     declaration: Declaration,
 ) -> Result<ResolvedPiece, AsmFault>
-    ensures made { Refines is_out_of_memory (result_of_piece fixup_location.entry) result
+    ensures piece { Refines is_out_of_memory (result_of_piece fixup_location.entry) result
         (declaration_result (location_of_fixup fixup_location.entry) declaration) }
-    ensures standing { IfOk result (PieceHasLocation fixup_location.entry.pos) }
+    ensures located { IfOk result (PieceHasLocation fixup_location.entry.pos) }
 {
     if !is_file_name(fixup_location.file()) {
         return Err(AsmFault::FileNameTooLong);
@@ -126,9 +126,9 @@ fn resolve_datum(
     context: Context,
     form: Norm,
 ) -> Result<ResolvedPiece, AsmFault>
-    ensures made { Refines is_out_of_memory (result_of_piece fixup_location.entry) result
+    ensures piece { Refines is_out_of_memory (result_of_piece fixup_location.entry) result
         (value_result (location_of_fixup fixup_location.entry) context (datum width) form) }
-    ensures standing { IfOk result (PieceHasLocation fixup_location.entry.pos) }
+    ensures located { IfOk result (PieceHasLocation fixup_location.entry.pos) }
 {
     let segment = context.segment;
     match literal_of(&form) {
@@ -161,10 +161,10 @@ fn resolve_assertion(
     text: ListVec<u8>,
     form: Norm,
 ) -> Result<ResolvedPiece, AsmFault>
-    ensures made { (s : Site) →
+    ensures piece { (s : Site) →
         Refines is_out_of_memory (result_of_piece fixup_location.entry) result
         (value_result (location_of_fixup fixup_location.entry) s (asserted action text) form) }
-    ensures standing { IfOk result (PieceHasLocation fixup_location.entry.pos) }
+    ensures located { IfOk result (PieceHasLocation fixup_location.entry.pos) }
 {
     match literal_of(&form) {
         Some(0) => match action {
@@ -216,12 +216,12 @@ fn resolve_export(
     requires table { IsFormCache (table_of symbols.now) known.old }
     requires names { AreDefinedNames (table_of symbols.now) (names_of exported.old) }
     requires index { definition_index (table_of symbols.now) (named 0 name) ≡ Some index }
-    ensures made { (must : Bool) (s : Site) →
+    ensures piece { (must : Bool) (s : Site) →
         Refines is_out_of_memory (result_of_piece fixup_location.entry) result
         (piece_result (table_of symbols.now) (names_of exported.old)
         (location_of_fixup fixup_location.entry) s
         (piece_of (Export must name))) }
-    ensures standing { IfOk result (PieceHasLocation fixup_location.entry.pos) }
+    ensures located { IfOk result (PieceHasLocation fixup_location.entry.pos) }
     ensures table { OnOk result (IsFormCache (table_of symbols.now) known.new) }
     ensures names { OnOk result (AreDefinedNames (table_of symbols.now) (names_of exported.new)) }
     ensures more { IfOk result (λ m. names_of exported.new ≡ names_of exported.old ++
@@ -249,11 +249,11 @@ pub fn resolve(
 ) -> Result<ResolvedPiece, AsmFault>
     requires table { IsFormCache (table_of symbols.now) known.old }
     requires names { AreDefinedNames (table_of symbols.now) (names_of exported.old) }
-    ensures made { Refines is_out_of_memory (result_of_piece fixup_location.entry) result
+    ensures piece { Refines is_out_of_memory (result_of_piece fixup_location.entry) result
         (piece_result (table_of symbols.now) (names_of exported.old)
         (location_of_fixup fixup_location.entry)
         fixup.context (piece_of fixup.piece)) }
-    ensures standing { IfOk result (PieceHasLocation fixup_location.entry.pos) }
+    ensures located { IfOk result (PieceHasLocation fixup_location.entry.pos) }
     ensures table { OnOk result (IsFormCache (table_of symbols.now) known.new) }
     ensures names { OnOk result (AreDefinedNames (table_of symbols.now) (names_of exported.new)) }
     ensures more { IfOk result (λ m. names_of exported.new ≡ names_of exported.old ++

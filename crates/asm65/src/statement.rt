@@ -91,7 +91,7 @@ impl Assembler {
     /// Requests the section of a statement, if it needs one.
     #[inline(always)]
     fn request_section(&mut self, segment: u32, statement: &Statement) -> Result<(), AllocError>
-        ensures asked { OnOk result (RequestsSection segment statement.now self.old self.new) }
+        ensures requested { OnOk result (RequestsSection segment statement.now self.old self.new) }
         ensures tables { ChangesOnlySections self.old self.new }
     {
         if needs_section(statement) {
@@ -233,7 +233,7 @@ impl Assembler {
             (items_in statement.now) p.analysis.forms.items) }
         ensures texts { IfErr result (λ e. is_system_error e ≡ false →
             self.new.texts ≡ self.old.texts) }
-        ensures inside { IfErr result (λ e. is_failure e ≡ false) }
+        ensures no_failure { IfErr result (λ e. is_failure e ≡ false) }
     {
         let before = LineState {
             symbols: &self.symbols,
@@ -270,7 +270,7 @@ impl Assembler {
             (operand_tree operand.now) p.analysis.form) }
         ensures texts { IfErr result (λ e. is_system_error e ≡ false →
             self.new.texts ≡ self.old.texts) }
-        ensures inside { IfErr result (λ e. is_failure e ≡ false) }
+        ensures no_failure { IfErr result (λ e. is_failure e ≡ false) }
     {
         let before = LineState {
             symbols: &self.symbols,
@@ -292,7 +292,7 @@ impl Assembler {
         operand: Operand,
     ) -> Result<(), AsmFault>
         requires { IsRepresentable self.old }
-        ensures taken { (count : ℕ) (t : State) → Represents count t self.old →
+        ensures transitions { (count : ℕ) (t : State) → Represents count t self.old →
             count < opening_limit →
             RepresentsOrFails (StepsTo t (location_of_ref at.entry)
             (Instruction mnemonic operand))
@@ -300,7 +300,7 @@ impl Assembler {
             self.new) result }
         ensures texts { IfErr result (λ e. is_system_error e ≡ false →
             self.new.texts ≡ self.old.texts) }
-        ensures inside { IfErr result (λ e. is_failure e ≡ false) }
+        ensures no_failure { IfErr result (λ e. is_failure e ≡ false) }
     {
         search_operand(alloc, &mut self.symbols, self.cursor.context(), &operand)?;
         match self.lay_out_next_instruction(alloc, mnemonic, &operand) {
@@ -322,13 +322,13 @@ impl Assembler {
         statement: Statement,
     ) -> Result<(), AsmFault>
         requires { IsRepresentable self.old }
-        ensures taken { (count : ℕ) (t : State) → Represents count t self.old →
+        ensures transitions { (count : ℕ) (t : State) → Represents count t self.old →
             count < opening_limit →
             RepresentsOrFails (StepsTo t (location_of_ref at.entry) statement)
             (λ u. Represents (count + opening_count statement) u self.new) result }
         ensures texts { IfErr result (λ e. is_system_error e ≡ false →
             self.new.texts ≡ self.old.texts) }
-        ensures inside { IfErr result (λ e. is_failure e ≡ false) }
+        ensures no_failure { IfErr result (λ e. is_failure e ≡ false) }
     {
         search_statement(alloc, &mut self.symbols, self.cursor.context(), &statement)?;
         match self.lay_out(alloc, at, &statement) {

@@ -44,7 +44,7 @@ impl Diagnostic {
     /// Creates the error *out of memory*, without a file's name.
     pub fn without_memory() -> Self
         ensures outside { is_diagnostic_system_error result ≡ true }
-        ensures inside { is_store_failure result ≡ false }
+        ensures no_failure { is_store_failure result ≡ false }
     {
         Diagnostic {
             file: None,
@@ -58,7 +58,7 @@ impl Diagnostic {
         ensures placed { is_diagnostic_system_error result ≡ false → located_fault result ≡
             record { place = location_of_ref at.entry; fault = fault } }
         ensures outside { is_system_error fault ≡ true → is_diagnostic_system_error result ≡ true }
-        ensures inside { is_failure fault ≡ false → is_store_failure result ≡ false }
+        ensures no_failure { is_failure fault ≡ false → is_store_failure result ≡ false }
         ensures kept { is_system_error fault ≡ false → is_store_failure result ≡ false }
     {
         match PathString::copy_of(alloc, at.file) {

@@ -56,7 +56,7 @@ fn define<'a>(text: &'a str) -> Result<Define<'a>, LineFault>
 /// Returns the offset of the first `=`.
 fn equal_sign_offset(bytes: &[u8]) -> Option<usize>
     ensures offset { result ≡ position (λ b. b == 61) bytes.now }
-    ensures inside { IfSome result (λ i. i < length bytes.now) }
+    ensures bound { IfSome result (λ i. i < length bytes.now) }
 {
     bytes.iter().position(|b| *b == b'=')
 }

@@ -85,7 +85,7 @@ pub fn sum_of(left: u32, right: u32) -> Result<u32, AllocError>
 impl Entries {
     pub fn new(alloc: Global) -> Self
         ensures none { (files : List (List ℕ)) → AreEquivalentSlots [] (slots_in files result) }
-        ensures standing { (count : ℕ) → HaveFilesBelow count result.done.items }
+        ensures file_bounds { (count : ℕ) → HaveFilesBelow count result.done.items }
     {
         Entries {
             alloc,
@@ -189,7 +189,7 @@ impl Entries {
     pub fn into_list(self) -> Result<Vec<SectionEntry>, AllocError>
         ensures equivalent { IfOk result (λ list. (files : List (List ℕ)) →
             AreEquivalentSlots (slots_in files self) (map (slot_of files) list.items)) }
-        ensures standing { IfOk result (λ list. (files : List (List ℕ)) →
+        ensures file_bounds { IfOk result (λ list. (files : List (List ℕ)) →
             HaveFilesBelow (length files) self.done.items →
             HaveFilesBelow (length files) list.items) }
     {

@@ -53,7 +53,7 @@ fn add_records<S: Store>(
 ) -> Result<u64, LinkFault>
     requires opened { is_open linker.old ≡ true }
     requires fresh { reader.old.ahead ≡ [] }
-    ensures fed { AddsRecords (S.files store.old)
+    ensures added { AddsRecords (S.files store.old)
         (input_of object.now) head linker.old linker.new result }
     ensures opened { is_open linker.new ≡ true }
     ensures keeps { ConfigFrame linker.old linker.new }
@@ -88,7 +88,7 @@ pub fn add_object<S: Store>(
     object: &ObjectInput<'_>,
 ) -> Result<(), LinkFault>
     requires { is_open linker.old ≡ false }
-    ensures fed { AddsObject (S.files store.old)
+    ensures added { AddsObject (S.files store.old)
         (input_of object.now) linker.old linker.new result }
     ensures opened { OnOk result (is_open linker.new ≡ false) }
     ensures keeps { ConfigFrame linker.old linker.new }
@@ -135,7 +135,7 @@ fn add_file<S: Store>(
     input: &NamedInput<'_>,
 ) -> Result<(), LinkCommandFault>
     requires { is_open linker.old ≡ false }
-    ensures fed { AddsFile (S.files store.old) input.now.input_index input.now.name.now linker.old
+    ensures added { AddsFile (S.files store.old) input.now.input_index input.now.name.now linker.old
         linker.new result }
     ensures frame { AddModulesFrame S.files S.failures S.last_failure
         (λ _ b. NamesFailure (IsObjectFailure b input.now.input_index input.now.name.now))
@@ -163,7 +163,7 @@ fn add_input<S: Store>(
     input: &NamedInput<'_>,
 ) -> Result<(), LinkCommandFault>
     requires { is_open linker.old ≡ false }
-    ensures fed { AddsInput (S.files store.old) input.now.input_index input.now.name.now linker.old
+    ensures added { AddsInput (S.files store.old) input.now.input_index input.now.name.now linker.old
         linker.new result }
     ensures frame { AddModulesFrame S.files S.failures S.last_failure
         (λ before b. NamesFailure (IsInputFailure (S.files store.old) linker.old.script before b
@@ -185,7 +185,7 @@ fn add_inputs<S: Store>(
     inputs: &[&str],
 ) -> Result<(), LinkCommandFault>
     requires { is_open linker.old ≡ false }
-    ensures fed { AddsInputs (S.files store.old)
+    ensures added { AddsInputs (S.files store.old)
         (map (λ s. s.now) inputs.now) linker.old linker.new result }
     ensures frame { AddModulesFrame S.files S.failures S.last_failure
         (λ first b. NamesFailure (IsInputListFailure (S.files store.old) linker.old.script first b

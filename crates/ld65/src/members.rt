@@ -101,7 +101,7 @@ fn add_member<S: Store>(
 ) -> Result<(), LinkCommandFault>
     requires opened { is_open linker.old ≡ false }
     requires within { member.now.entry.now.place + member.now.entry.now.size ≤ file_limit }
-    ensures fed { AddsMembers (S.files store.old) member.now.library.now
+    ensures added { AddsMembers (S.files store.old) member.now.library.now
         (member.now.entry.now ∷ []) linker.old linker.new result }
     ensures frame { AddModulesFrame S.files S.failures S.last_failure
         (λ _ b. NamesFailure (IsMemberFailure b member.now.library.now member.now.entry.now))
@@ -136,7 +136,7 @@ pub fn add_library<S: Store>(
     input: &NamedInput<'_>,
 ) -> Result<(), LinkCommandFault>
     requires { is_open linker.old ≡ false }
-    ensures fed { AddsLibrary (S.files store.old) input.now.input_index input.now.name.now
+    ensures added { AddsLibrary (S.files store.old) input.now.input_index input.now.name.now
         linker.old linker.new result }
     ensures frame { AddModulesFrame S.files S.failures S.last_failure
         (λ before b. NamesFailure (IsLibraryFailure (S.files store.old) linker.old.script before b

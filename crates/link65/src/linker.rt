@@ -68,7 +68,7 @@ impl Linker {
     /// Returns a linker without modules. `output` is the name of the output file. Rejects a script that defines a name
     /// twice.
     pub fn new(alloc: Global, script: Script, output: &str) -> Result<Self, LinkFault>
-        ensures fed { IfOk result (λ l. RepresentsModules l []) }
+        ensures modules { IfOk result (λ l. RepresentsModules l []) }
         ensures script { IfOk result (λ l. l.script ≡ script) }
         ensures output { IfOk result (λ l. l.output ≡ output.now) }
         ensures pending { IfOk result (λ l. l.pending ≡ 0) }
@@ -85,7 +85,7 @@ impl Linker {
         script: Script,
         output: &str,
     ) -> Result<Self, LinkFault>
-        ensures fed { IfOk result (λ l. RepresentsModules l []) }
+        ensures modules { IfOk result (λ l. RepresentsModules l []) }
         ensures script { IfOk result (λ l. l.script ≡ script) }
         ensures output { IfOk result (λ l. l.output ≡ output.now) }
         ensures pending { IfOk result (λ l. l.pending ≡ 0) }

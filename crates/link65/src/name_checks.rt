@@ -178,7 +178,7 @@ pub fn check_names(
     script: &Script,
     members: &[LinkedModule],
 ) -> Result<(), LinkFault>
-    ensures given { (p : Program) → names_in provided ≡ strong_names script.now p →
+    ensures provided { (p : Program) → names_in provided ≡ strong_names script.now p →
         p.members ≡ members.now →
         Refines is_memory (λ u. u) result (check_imports_defined script.now p) }
     ensures faults { HasExpectedError is_finish_fault result }

@@ -28,7 +28,7 @@ fn print_both<W: Write, E: Write>(
     ensures printed { PrintsBothTexts
         (stream_states W.contents E.contents out.old out.new err.old err.new) text.now
         error_text.now }
-    ensures took { result ≡
+    ensures accepted { result ≡
         has_accepted_both (stream_states W.contents E.contents out.old out.new err.old err.new) }
 {
     if !print(out, text) {
@@ -43,7 +43,7 @@ pub fn print_out_of_memory<E: Write>(err: &mut Stream<'_, E>, name: &str) -> boo
     ensures same { err.new.writer.ghost_name ≡ err.old.writer.ghost_name }
     ensures printed { PrintsText (E.contents err.old.writer.now) (E.contents err.new.writer.now)
         (file_memory_message name.now) (not err.new.has_failed) }
-    ensures took { result ≡ not err.new.has_failed }
+    ensures accepted { result ≡ not err.new.has_failed }
 {
     print_all(err, &[name.as_bytes(), b": Error: out of memory\n"])
 }

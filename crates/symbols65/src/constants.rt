@@ -113,7 +113,7 @@ pub struct Evaluation {
 /// Creates an evaluation from a form, which may be final, and from the size that the expression has without a value.
 fn evaluation_of(form: Option<Norm>, is_final: bool, other: AddressSize) -> Evaluation
     ensures form { result.form ≡ (if is_final then form else option_and_then plain_form form) }
-    ensures stays { result.is_final ≡ is_final }
+    ensures finality { result.is_final ≡ is_final }
     ensures size { result.size ≡ size_by other (option_and_then (λ f. literal_in (Ok f)) form) }
 {
     let Some(form) = form else {

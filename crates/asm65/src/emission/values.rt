@@ -135,7 +135,7 @@ pub fn defer(
     site: PieceContext<'_>,
     piece: FixupKind,
 ) -> Result<(), AllocError>
-    ensures waits { OnOk result (DefersPiece
+    ensures deferred { OnOk result (DefersPiece
         (location_of_ref site.entry.at) site.entry.context
         (piece_of piece) assembler.old assembler.new) }
     ensures tables { ChangesOnlySections assembler.old assembler.new }
@@ -161,7 +161,7 @@ pub fn emit_value(
     form: Option<Norm>,
     value_use: ValueUse,
 ) -> Result<bool, AllocError>
-    ensures put { (e : Tree) (action : Action) (text : List ℕ) →
+    ensures emitted { (e : Tree) (action : Action) (text : List ℕ) →
         HasFinal (table_of assembler.old.symbols) site.entry.context (Some e) form →
         IfOk result (EmitsIfResolved (location_of_ref site.entry.at) site.entry.context
         (expression_value (purpose_of value_use action text) e) assembler.old assembler.new) }

@@ -56,7 +56,7 @@ fn push(
 
 /// Records that a scope other than the global one defines an interned name.
 fn mark_inner_name(inner: &mut Vec<bool>, name_id: usize) -> Result<(), AllocError>
-    ensures noted { OnOk result (slice_get inner.new.items name_id ≡ Some true) }
+    ensures marked { OnOk result (slice_get inner.new.items name_id ≡ Some true) }
     ensures kept { (w : ℕ) → slice_get inner.old.items w ≡ Some true →
         slice_get inner.new.items w ≡ Some true }
 {
@@ -69,7 +69,7 @@ fn mark_inner_name(inner: &mut Vec<bool>, name_id: usize) -> Result<(), AllocErr
 
 /// Records the name of a definition if its scope isn't the global one.
 fn mark_inner(inner: &mut Vec<bool>, entry: InternedKey) -> Result<(), AllocError>
-    ensures noted { OnOk result (IsInnerKnown inner.new.items entry) }
+    ensures marked { OnOk result (IsInnerKnown inner.new.items entry) }
     ensures kept { (w : ℕ) → slice_get inner.old.items w ≡ Some true →
         slice_get inner.new.items w ≡ Some true }
 {
@@ -87,7 +87,7 @@ fn is_unresolved(definition: &Definition) -> bool {
 /// Removes the entries of searches, unless `keeps`.
 fn clear_unless(searched: &mut IndexMap<usize, SearchEntry>, keeps: bool)
     ensures kept { keeps ≡ true → (j : ℕ) → get nat_eq searched.new j ≡ get nat_eq searched.old j }
-    ensures forgotten { keeps ≡ false → (j : ℕ) → get nat_eq searched.new j ≡ None }
+    ensures cleared { keeps ≡ false → (j : ℕ) → get nat_eq searched.new j ≡ None }
 {
     if !keeps {
         searched.clear();

@@ -2,8 +2,8 @@ use Rattle.std.proofs.Common.{◌∙◌}
 use Rattle.ar65.proofs.Puts.{not_failed, passes_on, put_of}
 use Rattle.ar65.proofs.members.add_file.Goals as goal
 
-pub returns-clause-put : goal.returns-clause-put
-returns-clause-put g c =
+pub returns-clause-inserted : goal.returns-clause-inserted
+returns-clause-inserted g c =
     put_of _ c.args.library.now c.args.file.now c.in_ok-bytes.bytes.items c.as_bytes.result.now c.replace.new.self c.replace.result (c.as_bytes.ensures.value ∙ c.member_name.ensures) c.in_ok-bytes.ensures.read (rw c.deref.ensures.value at c.replace.ensures.replaced)
 
 pub returns-clause-frame : goal.returns-clause-frame

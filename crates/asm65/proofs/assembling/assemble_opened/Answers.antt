@@ -8,13 +8,13 @@ pub returns-in-Ok-clause-assembled : goal.returns-in-Ok-clause-assembled
 returns-in-Ok-clause-assembled g c = all_concluded (g.S.Store.files c.args.store.now) c.args.run c.assemble_all-ran.new.run c.in-Ok.field-0 c.finish_assembly.result c.finish_assembly.ensures.concluded c.in-Ok.ensures.ran
 
 pub returns-in-Ok-clause-count : goal.returns-in-Ok-clause-count
-returns-in-Ok-clause-count g c = passed_on _ _ c.in-Ok.field-0 c.finish_assembly.result.result c.in-Ok.ensures.frame.count c.finish_assembly.ensures.inside
+returns-in-Ok-clause-count g c = passed_on _ _ c.in-Ok.field-0 c.finish_assembly.result.result c.in-Ok.ensures.frame.count c.finish_assembly.ensures.no_failure
 
 pub returns-in-Ok-clause-good : goal.returns-in-Ok-clause-good
-returns-in-Ok-clause-good g c = good_answer c.finish_assembly.result c.assemble_all-ran.new.run.assembler c.in-Ok.ensures.held c.finish_assembly.ensures.concluded
+returns-in-Ok-clause-good g c = good_answer c.finish_assembly.result c.assemble_all-ran.new.run.assembler c.in-Ok.ensures.represented c.finish_assembly.ensures.concluded
 
 pub returns-in-Ok-clause-stopped : goal.returns-in-Ok-clause-stopped
-returns-in-Ok-clause-stopped g c = stops_never_from (g.S.Store.files c.args.store.now) (g.S.Store.last_failure c.assemble_all-ran.new.store) c.args.run c.finish_assembly.result c.finish_assembly.ensures.inside
+returns-in-Ok-clause-stopped g c = stops_never_from (g.S.Store.files c.args.store.now) (g.S.Store.last_failure c.assemble_all-ran.new.store) c.args.run c.finish_assembly.result c.finish_assembly.ensures.no_failure
 
 pub returns-in-Ok-clause-silent : goal.returns-in-Ok-clause-silent
 returns-in-Ok-clause-silent g c = memory_silent c.finish_assembly.result.result _ c.finish_assembly.ensures.silent
@@ -35,4 +35,4 @@ returns-in-Err-clause-numbers g c = not_answered ObjectFits c.fail_with_output.r
 
 pub returns-in-Err-clause-stopped : goal.returns-in-Err-clause-stopped
 returns-in-Err-clause-stopped g c =
-    stops_after (g.S.Store.files c.args.store.now) (g.S.Store.last_failure c.assemble_all-ran.new.store) c.args.run c.assemble_all-ran.new.run c.in-Err.fault c.fail_with_output.result c.fail_with_output.ensures.failed c.fail_with_output.ensures.stopped c.fail_with_output.ensures.said c.in-Err.ensures.stopped
+    stops_after (g.S.Store.files c.args.store.now) (g.S.Store.last_failure c.assemble_all-ran.new.store) c.args.run c.assemble_all-ran.new.run c.in-Err.fault c.fail_with_output.result c.fail_with_output.ensures.failed c.fail_with_output.ensures.stopped c.fail_with_output.ensures.reported c.in-Err.ensures.stopped

@@ -25,7 +25,7 @@ returns-in-Err-define_all-clause-assembled g c =
     define_answer (g.S.Store.files c.args.store.now) (job_of c.args.job.now) c.in-Ok.expander c.in-Err-define_all.fault c.fail_at_location-in-Err-define_all.result c.define_all.new.assembler c.in-Err-define_all.ensures.defined c.fail_at_location-in-Err-define_all.ensures.outside c.fail_at_location-in-Err-define_all.ensures.refused c.in-Ok.ensures.opened
 
 pub returns-in-Err-define_all-clause-count : goal.returns-in-Err-define_all-clause-count
-returns-in-Err-define_all-clause-count g c = none_passed _ _ c.in-Ok.expander c.in-Err-define_all.fault c.fail_at_location-in-Err-define_all.result.result c.in-Ok.ensures.count c.in-Err-define_all.ensures.inside c.fail_at_location-in-Err-define_all.ensures.none c.fail_at_location-in-Err-define_all.ensures.failed
+returns-in-Err-define_all-clause-count g c = none_passed _ _ c.in-Ok.expander c.in-Err-define_all.fault c.fail_at_location-in-Err-define_all.result.result c.in-Ok.ensures.count c.in-Err-define_all.ensures.no_failure c.fail_at_location-in-Err-define_all.ensures.none c.fail_at_location-in-Err-define_all.ensures.failed
 
 pub returns-in-Err-define_all-clause-good : goal.returns-in-Err-define_all-clause-good
 returns-in-Err-define_all-clause-good g c = not_answered (λ o. is_well_formed_object o ≡ true) c.fail_at_location-in-Err-define_all.result.result c.fail_at_location-in-Err-define_all.ensures.none
@@ -51,7 +51,7 @@ returns-in-Err-clause-silent g c = memory_silent c.fail_at_location.result.resul
 pub returns-in-Err-define_all-clause-stopped : goal.returns-in-Err-define_all-clause-stopped
 returns-in-Err-define_all-clause-stopped g c =
     let a = c.fail_at_location-in-Err-define_all.result in
-    stops_never_so (g.S.Store.files c.args.store.now) (g.S.Store.last_failure c.open_source.new.store) (job_of c.args.job.now) a (as_fault a.result c.in-Err-define_all.fault c.in-Err-define_all.ensures.inside c.fail_at_location-in-Err-define_all.ensures.failed)
+    stops_never_so (g.S.Store.files c.args.store.now) (g.S.Store.last_failure c.open_source.new.store) (job_of c.args.job.now) a (as_fault a.result c.in-Err-define_all.fault c.in-Err-define_all.ensures.no_failure c.fail_at_location-in-Err-define_all.ensures.failed)
 
 pub returns-in-Err-define_all-clause-silent : goal.returns-in-Err-define_all-clause-silent
 returns-in-Err-define_all-clause-silent g c = memory_silent c.fail_at_location-in-Err-define_all.result.result _ c.fail_at_location-in-Err-define_all.ensures.silent

@@ -22,7 +22,7 @@ returns-in_err-define_one-clause-defined c =
     let lt : i < length xs = search rules in
     let p = err_from_is_err_and c.from_residual.result c.from_residual.ensures.1 in
     let left = subst (λ (ds : List Define). SoFar location (map define_of xs) ds c.loop-one.assembler) (left_dropped xs i none lt) c.loop-one.invariant in
-    one_wrong location (map define_of xs) (map define_of (drop (i + 1) xs)) (define_of (get_or xs i none)) c.loop-one.assembler c.define_one.new.assembler c.in_err-define_one.field-0.0 c.from_residual.result (p.1 ∙ ap Err p.2) left c.in_err-define_one.ensures.taken
+    one_wrong location (map define_of xs) (map define_of (drop (i + 1) xs)) (define_of (get_or xs i none)) c.loop-one.assembler c.define_one.new.assembler c.in_err-define_one.field-0.0 c.from_residual.result (p.1 ∙ ap Err p.2) left c.in_err-define_one.ensures.transitions
 
 pub loop-one-preserved : goal.loop-one-preserved
 unfolding none
@@ -32,4 +32,4 @@ loop-one-preserved c =
     let i = c.loop-one.one-index in
     let lt : i < length xs = search rules in
     let left = subst (λ (ds : List Define). SoFar location (map define_of xs) ds c.loop-one.assembler) (left_dropped xs i none lt) c.loop-one.invariant in
-    one_more location (map define_of xs) (map define_of (drop (i + 1) xs)) (define_of (get_or xs i none)) c.loop-one.assembler c.define_one.new.assembler c.in_ok-define_one.field-0 left c.in_ok-define_one.ensures.taken
+    one_more location (map define_of xs) (map define_of (drop (i + 1) xs)) (define_of (get_or xs i none)) c.loop-one.assembler c.define_one.new.assembler c.in_ok-define_one.field-0 left c.in_ok-define_one.ensures.transitions

@@ -15,7 +15,7 @@ returns-then-is_system_error-clause-first c = λ failed. first_as c.args.fault c
 pub returns-clause-failed : goal.returns-clause-failed
 returns-clause-failed c =
     let inside = sym c.if-is_system_error.ensures in
-    inside_as c.args.fault c.fail_at_line.result.result inside (c.fail_at_line.ensures.inside inside)
+    inside_as c.args.fault c.fail_at_line.result.result inside (c.fail_at_line.ensures.no_failure inside)
 
 pub returns-clause-first : goal.returns-clause-first
 returns-clause-first c = λ failed. absurd (let both : false ≡ true = c.if-is_system_error.ensures ∙ failure_outside c.args.fault failed in cc)

@@ -56,14 +56,14 @@ returns-in-Some-clause-read g c = record {
       let some : ts ≡ [] → ⊥ = some_tokens c.args.tokens.now (some_there (length c.args.tokens.now) c.if-is_empty.ensures) in
       rest_leaves o location ts x x old new r some (c.in-Some.ensures (Ok x) (Ok c.in_ok-operand.operand, c.in_ok-operand.ensures.value, refl))
       (told_all o (λ m. x ≡ read_bytes m location x) (λ m. refl))
-      (sound_leaves location x old new r tt c.assemble_instruction.ensures.taken c.assemble_instruction.ensures.texts));
+      (sound_leaves location x old new r tt c.assemble_instruction.ensures.transitions c.assemble_instruction.ensures.texts));
   stopped = first_of (search rules, grind (arith, common_steps));
 }
 
 pub assemble_well_formed-requires : goal.assemble_well_formed-requires
 assemble_well_formed-requires g c =
     let (count, t, room, h) = c.requires in
-    (count, t, room, c.in_ok-read_incbin.ensures.held count t h)
+    (count, t, room, c.in_ok-read_incbin.ensures.represented count t h)
 
 pub returns-clause-read : goal.returns-clause-read
 returns-clause-read g c = record {
@@ -72,10 +72,10 @@ returns-clause-read g c = record {
       let ts = lexemes c.args.tokens.now in
       let x = c.in_ok-statement.statement in
       let y = c.read_incbin.new.statement in
-      takes_from (AreSymbolNames ts) (RestBy (g.S.Store.files c.args.store.now) location ts) 1 c.args.assembler.now c.read_incbin.new.assembler c.assemble_well_formed.new.assembler c.assemble_well_formed.result c.in_ok-read_incbin.ensures.held
-      (rest_leaves (g.S.Store.files c.args.store.now) location ts x y c.read_incbin.new.assembler c.assemble_well_formed.new.assembler c.assemble_well_formed.result some c.in_ok-statement.ensures.value c.in_ok-read_incbin.ensures.bytes c.assemble_well_formed.ensures.taken));
+      takes_from (AreSymbolNames ts) (RestBy (g.S.Store.files c.args.store.now) location ts) 1 c.args.assembler.now c.read_incbin.new.assembler c.assemble_well_formed.new.assembler c.assemble_well_formed.result c.in_ok-read_incbin.ensures.represented
+      (rest_leaves (g.S.Store.files c.args.store.now) location ts x y c.read_incbin.new.assembler c.assemble_well_formed.new.assembler c.assemble_well_formed.result some c.in_ok-statement.ensures.value c.in_ok-read_incbin.ensures.bytes c.assemble_well_formed.ensures.transitions));
   stopped = (let location = location_in c.args.at.file.now c.args.at.line in
-      never_stops (AnswersWithoutFile (g.S.Store.files c.args.store.now) (g.S.Store.last_failure c.read_incbin.new.store) (λ m t. AssemblesTokens m StepsTo t location (lexemes c.args.tokens.now))) 1 c.args.assembler.now c.assemble_well_formed.new.assembler c.assemble_well_formed.result c.assemble_well_formed.ensures.inside);
+      never_stops (AnswersWithoutFile (g.S.Store.files c.args.store.now) (g.S.Store.last_failure c.read_incbin.new.store) (λ m t. AssemblesTokens m StepsTo t location (lexemes c.args.tokens.now))) 1 c.args.assembler.now c.assemble_well_formed.new.assembler c.assemble_well_formed.result c.assemble_well_formed.ensures.no_failure);
 }
 
 pub assemble_instruction-requires : goal.assemble_instruction-requires

@@ -15,7 +15,7 @@ returns-clause-checked c = λ count t h.
     let Q : Cursor → Type 0 = λ w. Refines is_out_of_memory (λ (u : Unit {0}). u) c.check_unread.result (unless_fault {A = Unit {0}} (unread_fault t.symbols w range.start.now range.len.now) tt) in
     subst Q h.cursor (subst P h.symbols c.check_unread.ensures))
 
-pub returns-clause-inside : goal.returns-clause-inside
-returns-clause-inside c =
+pub returns-clause-no_failure : goal.returns-clause-no_failure
+returns-clause-no_failure c =
     let range = c.args.range in
     unread_inside c.check_unread.result (table_of c.args.assembler.now.symbols) c.args.assembler.now.cursor range.start.now range.len.now c.check_unread.ensures

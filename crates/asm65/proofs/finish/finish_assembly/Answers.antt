@@ -31,8 +31,8 @@ returns-clause-good c =
     comes_good a new r c.assembly_of.result.result c.assembly_of.ensures.answer
     (λ (xs : List Slot). λ (s : RepresentsSlots xs a.sections). λ (unsaid : all_declarations (contents_so_far xs) ≡ []). subst (λ (gs : List Segment). RefinesObject (table_of a.symbols) gs xs a.texts.err new r) c.segments.ensures (c.object_of-found.ensures.found xs s unsaid))
 
-pub returns-clause-inside : goal.returns-clause-inside
-returns-clause-inside c = grind (arith, common_steps)
+pub returns-clause-no_failure : goal.returns-clause-no_failure
+returns-clause-no_failure c = grind (arith, common_steps)
 
 pub returns-clause-numbers : goal.returns-clause-numbers
 returns-clause-numbers c = grind (arith, common_steps)

@@ -23,9 +23,9 @@ returns-in-Ok-apply_resolved-clause-resolved c =
     λ (h : nat_lt c.args.fixup.pos.file (length files) ≡ true).
     record {
       made = result_of_piece fixup_location c.in-Ok.made;
-      found = ap (with_location w.place) c.in-Ok.ensures.made;
+      found = ap (with_location w.place) c.in-Ok.ensures.piece;
       entry = c.in-Ok-apply_resolved.ensures.entry;
-      standing = stands_there (length files) c.args.fixup.pos c.in-Ok-apply_resolved.entry h c.in-Ok-apply_resolved.ensures.standing;
+      standing = stands_there (length files) c.args.fixup.pos c.in-Ok-apply_resolved.entry h c.in-Ok-apply_resolved.ensures.located;
       names = c.in-Ok.ensures.more;
       err = c.in-Ok-apply_resolved.ensures.err;
     }
@@ -43,16 +43,16 @@ returns-in-Err-clause-resolved c =
     let lost : LocatedFault → Result PieceResult LocatedFault = λ p. Err p in
     record {
       found =
-          ap (with_location w.place) (found_inside c.in-Err.fault _ c.in-Err.ensures.made inside)
+          ap (with_location w.place) (found_inside c.in-Err.fault _ c.in-Err.ensures.piece inside)
           ∙ ap (λ (p : SourceLocation). lost (record { place = p; fault = c.in-Err.fault })) (sym location)
           ∙ ap lost (sym (c.of_fault.ensures.placed e));
       err = refl;
     })
 
-pub returns-in-Err-clause-inside : goal.returns-in-Err-clause-inside
-returns-in-Err-clause-inside c =
+pub returns-in-Err-clause-no_failure : goal.returns-in-Err-clause-no_failure
+returns-in-Err-clause-no_failure c =
     let files : List (List ℕ) = map (string_bytes {Z = Global}) c.args.tables.files.now in
     let w : Fixup = fixup_of files c.args.fixup in
     let fixup_location : FixupLocation = record { files = c.args.tables.files; pos = c.args.fixup.pos } in
     let answer : Result CodeMade AsmFault = Err c.in-Err.fault in
-    c.of_fault.ensures.inside (resolved_inside answer (result_of_piece fixup_location) (table_of c.args.tables.symbols.now) (names_of c.args.resolve_state.now.exported) w.place w.context w.piece c.in-Err.ensures.made)
+    c.of_fault.ensures.no_failure (resolved_inside answer (result_of_piece fixup_location) (table_of c.args.tables.symbols.now) (names_of c.args.resolve_state.now.exported) w.place w.context w.piece c.in-Err.ensures.piece)

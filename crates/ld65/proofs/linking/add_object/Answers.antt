@@ -7,26 +7,26 @@ use Rattle.ld65.proofs.Objects.{end_free, no_head, no_records, more_after, whole
 use Rattle.ld65.proofs.FailureOrder.{later_in, read_within}
 use Rattle.ld65.proofs.linking.add_object.Goals as goal
 
-pub returns-in_err-head-clause-fed : goal.returns-in_err-head-clause-fed
-returns-in_err-head-clause-fed g c =
+pub returns-in_err-head-clause-added : goal.returns-in_err-head-clause-added
+returns-in_err-head-clause-added g c =
     let p = err_from_is_err_and c.from_residual.result c.from_residual.ensures.1 in
     rw (p.1, p.2) (no_head _ (input_of c.args.object.now) c.args.linker.now c.args.linker.now c.in_err-head.field-0.0 c.in_err-head.ensures.read)
 
-pub returns-in_err-end-clause-fed : goal.returns-in_err-end-clause-fed
-returns-in_err-end-clause-fed g c =
+pub returns-in_err-end-clause-added : goal.returns-in_err-end-clause-added
+returns-in_err-end-clause-added g c =
     let p = err_from_is_err_and c.from_residual-in_err-end.result c.from_residual-in_err-end.ensures.1 in
     let begun = c.in_ok-begin_module.ensures.begun in
     rw (p.1, p.2) (no_records _ (input_of c.args.object.now) c.args.linker.now _ c.in_ok-head.head c.begin_module.new.self c.add_records.new.linker c.in_err-end.field-0.0 c.in_ok-head.ensures.frame.files c.in_ok-head.ensures.read begun c.in_err-end.ensures.fed)
 
-pub returns-in_err-check_end-clause-fed : goal.returns-in_err-check_end-clause-fed
-returns-in_err-check_end-clause-fed g c =
+pub returns-in_err-check_end-clause-added : goal.returns-in_err-check_end-clause-added
+returns-in_err-check_end-clause-added g c =
     let p = err_from_is_err_and c.from_residual-in_err-check_end.result c.from_residual-in_err-check_end.ensures.1 in
     let begun = c.in_ok-begin_module.ensures.begun in
     let files = c.in_ok-head.ensures.frame.files in
     rw (p.1, p.2) (more_after _ (input_of c.args.object.now) c.args.linker.now _ _ c.in_ok-head.head c.in_ok-end.end c.begin_module.new.self c.add_records.new.linker c.in_err-check_end.field-0.0 files (c.in_ok-end.ensures.files ∙ files) c.in_ok-head.ensures.read begun c.in_ok-end.ensures.fed c.in_err-check_end.ensures.read)
 
-pub returns-clause-fed : goal.returns-clause-fed
-returns-clause-fed g c =
+pub returns-clause-added : goal.returns-clause-added
+returns-clause-added g c =
     let begun = c.in_ok-begin_module.ensures.begun in
     let files = c.in_ok-head.ensures.frame.files in
     let script = c.in_ok-end.ensures.keeps.script ∙ c.in_ok-begin_module.ensures.keeps.script in

@@ -22,13 +22,13 @@ records-init g c = record {
   fits = λ h. h;
 }
 
-pub returns-in_err-next-clause-fed : goal.returns-in_err-next-clause-fed
-returns-in_err-next-clause-fed g c =
+pub returns-in_err-next-clause-added : goal.returns-in_err-next-clause-added
+returns-in_err-next-clause-added g c =
     let p = err_from_is_err_and c.from_residual.result c.from_residual.ensures.1 in
     rw (p.1, p.2) (unread _ (input_of c.args.object.now) c.args.head c.records.next _ c.args.linker.now c.records.linker c.records.linker c.in_err-next.field-0.0 c.records.invariant.files c.records.invariant.stands (where_ahead _ c.args.object.now.file.now c.records.reader _ c.records.invariant.ahead c.in_err-next.ensures.read))
 
-pub returns-in_err-record-clause-fed : goal.returns-in_err-record-clause-fed
-returns-in_err-record-clause-fed g c =
+pub returns-in_err-record-clause-added : goal.returns-in_err-record-clause-added
+returns-in_err-record-clause-added g c =
     let p = err_from_is_err_and c.from_residual-in_err-record.result c.from_residual-in_err-record.ensures.1 in
     let read = seen _ (λ m. in_file (get m c.args.object.now.file.now) (record_at c.args.head.0 c.records.next c.args.object.now.end)) _ _ c.in_ok-next.next c.record-record.ensures (where_ahead _ c.args.object.now.file.now c.records.reader _ c.records.invariant.ahead c.in_ok-next.ensures.read) in
     rw (p.1, p.2) (untaken _ (input_of c.args.object.now) c.args.head c.records.next _ c.args.linker.now c.records.linker c.record.new.self (raw_record c.record-record.result.now, c.in_ok-next.next) c.in_err-record.field-0.0 c.records.invariant.files c.records.invariant.stands read c.in_err-record.ensures.accepted)
@@ -40,8 +40,8 @@ returns-in_err-record-clause-frame g c modules called entry stands =
     let free = refused_free _ (input_of c.args.object.now) c.args.head c.records.next c.args.linker.now c.records.linker c.record.new.self (raw_record c.record-record.result.now) c.in_err-record.field-0.0 c.records.invariant.stands c.in_err-record.ensures.accepted modules called entry stands in
     rw (p.1, p.2) (untouched _ _ _ _ (read.files ∙ c.records.invariant.files) (kept_count _ _ _ read.count ∙ c.records.invariant.count) (λ h. free (err_is _ _ h)))
 
-pub returns-then-record-eq-END-clause-fed : goal.returns-then-record-eq-END-clause-fed
-returns-then-record-eq-END-clause-fed g c =
+pub returns-then-record-eq-END-clause-added : goal.returns-then-record-eq-END-clause-added
+returns-then-record-eq-END-clause-added g c =
     let read = seen _ (λ m. in_file (get m c.args.object.now.file.now) (record_at c.args.head.0 c.records.next c.args.object.now.end)) _ _ c.in_ok-next.next c.record-record.ensures (where_ahead _ c.args.object.now.file.now c.records.reader _ c.records.invariant.ahead c.in_ok-next.ensures.read) in
     ends_there _ (input_of c.args.object.now) c.args.head c.records.next _ c.args.linker.now c.records.linker c.record.new.self (raw_record c.record-record.result.now, c.in_ok-next.next) c.records.invariant.files c.records.invariant.stands read c.in_ok-record.ensures.accepted c.if-record-eq-END.true
 

@@ -39,8 +39,8 @@ loop-entry_index-preserved g c =
     elim c.match-entry_at.branch [
       | in-Some+in_ok-add_member w ↦ rw (w.linker-is, w.store-is) (record {
         kept = after_others _ _ _ _ _ _ _ _ (Ok tt) (λ modules stands. let m = inv.stands modules stands in (m.0, m.1, λ h. tt)) inv.kept w.in_ok-add_member.ensures.frame;
-        stands = turn_fed _ files library entries entry_indices k 0 old mid w.add_member.new.linker (omega arith) inv.kept.files inv.kept.config.script inv.stands (entry_there files library entries _ w.in-Some.entry.now mid w.add_member.new.linker (Ok tt) w.in-Some.ensures w.in_ok-add_member.ensures.fed);
-        turned = next_turn _ files library entries entry_indices k 0 old mid w.add_member.new.linker (omega arith) inv.kept.files inv.kept.config.script inv.turned (entry_there files library entries _ w.in-Some.entry.now mid w.add_member.new.linker (Ok tt) w.in-Some.ensures w.in_ok-add_member.ensures.fed);
+        stands = turn_fed _ files library entries entry_indices k 0 old mid w.add_member.new.linker (omega arith) inv.kept.files inv.kept.config.script inv.stands (entry_there files library entries _ w.in-Some.entry.now mid w.add_member.new.linker (Ok tt) w.in-Some.ensures w.in_ok-add_member.ensures.added);
+        turned = next_turn _ files library entries entry_indices k 0 old mid w.add_member.new.linker (omega arith) inv.kept.files inv.kept.config.script inv.turned (entry_there files library entries _ w.in-Some.entry.now mid w.add_member.new.linker (Ok tt) w.in-Some.ensures w.in_ok-add_member.ensures.added);
       })
       | in_default w ↦ rw (w.linker-is, w.store-is) (record {
         kept = inv.kept;
@@ -49,8 +49,8 @@ loop-entry_index-preserved g c =
       })
     ]
 
-pub returns-in_err-add_member-clause-fed : goal.returns-in_err-add_member-clause-fed
-returns-in_err-add_member-clause-fed g c =
+pub returns-in_err-add_member-clause-added : goal.returns-in_err-add_member-clause-added
+returns-in_err-add_member-clause-added g c =
     let p = err_from_is_err_and c.from_residual-in_err-add_member.result c.from_residual-in_err-add_member.ensures.1 in
     let inv = c.loop-entry_index.invariant in
     let library = c.args.input.now.name.now in
@@ -58,7 +58,7 @@ returns-in_err-add_member-clause-fed g c =
     let e = c.in_err-add_member.field-0.0 in
     rw (p.1, p.2) (library_fed _ c.args.input.now.input_index library c.in_ok-index.index.entries entries c.in_ok-entry_indices.entry_indices.items c.as_slice-entry_index-items.result.now c.args.linker.now c.add_member.new.linker (Err e) c.as_slice-entries.ensures c.as_slice-entry_index-items.ensures.value c.in_ok-index.ensures.read c.in_ok-entry_indices.ensures.chosen
     (turn_refused _ _ library entries c.as_slice-entry_index-items.result.now c.loop-entry_index.entry_index-index _ c.args.linker.now c.loop-entry_index.linker c.add_member.new.linker (omega arith) inv.kept.files inv.kept.config.script inv.stands e
-    (entry_there _ library entries _ c.in-Some.entry.now c.loop-entry_index.linker c.add_member.new.linker (Err e) c.in-Some.ensures c.in_err-add_member.ensures.fed)))
+    (entry_there _ library entries _ c.in-Some.entry.now c.loop-entry_index.linker c.add_member.new.linker (Err e) c.in-Some.ensures c.in_err-add_member.ensures.added)))
 
 pub returns-in_err-add_member-clause-frame : goal.returns-in_err-add_member-clause-frame
 returns-in_err-add_member-clause-frame g c =
@@ -70,8 +70,8 @@ returns-in_err-add_member-clause-frame g c =
     let e = c.in_err-add_member.field-0.0 in
     rw (p.1, p.2) (after_others _ _ _ _ _ _ _ _ (Err e) (of_needed _ c.args.input.now.input_index library entries entry_indices c.loop-entry_index.entry_index-index _ c.in-Some.entry.now c.args.linker.now c.loop-entry_index.linker _ e c.args.input.now.input_index (rw c.as_slice-entries.ensures c.in_ok-index.ensures.read) (rw (c.as_slice-entries.ensures, c.as_slice-entry_index-items.ensures.value) c.in_ok-entry_indices.ensures.chosen) (omega arith) c.in-Some.ensures inv.turned) inv.kept c.in_err-add_member.ensures.frame)
 
-pub returns-clause-fed : goal.returns-clause-fed
-returns-clause-fed g c =
+pub returns-clause-added : goal.returns-clause-added
+returns-clause-added g c =
     let library = c.args.input.now.name.now in
     let entries = c.as_slice-entries.result.now in
     let entry_indices = c.as_slice-entry_index-items.result.now in

@@ -23,7 +23,7 @@ returns-in_err-check_names-clause-placed c = λ is.
     let p = err_from_is_err_and c.from_residual.result c.from_residual.ensures.1 in
     let s = c.args.script.now in
     let program = program_in c.args.program.now in
-    rw (p.1, p.2) (refused-then is_memory c.in_err-check_names.field-0.0 (check_imports_defined s program) (λ u. as_placement (place_of s (needs_of program))) (c.in_err-check_names.ensures.given program is (sym c.as_slice.ensures)))
+    rw (p.1, p.2) (refused-then is_memory c.in_err-check_names.field-0.0 (check_imports_defined s program) (λ u. as_placement (place_of s (needs_of program))) (c.in_err-check_names.ensures.provided program is (sym c.as_slice.ensures)))
 
 -- if names are defined, the placement is this
 placed_so : (s : Script) (p : Program) (needs : List SegmentNeed) → check_imports_defined s p ≡ Ok tt → needs ≡ needs_of p → as_placement (place_of s needs) ≡ placement_result s p
@@ -39,11 +39,11 @@ returns-in_err-place-clause-placed c = λ is.
     let program = program_in c.args.program.now in
     let f = c.in_err-place.field-0.0 in
     let needs = c.as_slice-3.ensures ∙ c.in_ok-needs.ensures ∙ ap (λ (cs : List SegmentContent). map need_of (segments_from cs)) c.as_slice-2.ensures.value in
-    let same = placed_so s program c.as_slice-3.result.now (c.in_ok-check_names.ensures.given program is (sym c.as_slice.ensures)) needs in
+    let same = placed_so s program c.as_slice-3.result.now (c.in_ok-check_names.ensures.provided program is (sym c.as_slice.ensures)) needs in
     rw (p.1, p.2) (subst (λ (r : Result Placement LinkFault). RefinesErr is_memory (of_place f) r) same (placed_refused f (place_of s c.as_slice-3.result.now) c.in_err-place.ensures.value))
 
 pub returns-clause-placed : goal.returns-clause-placed
 returns-clause-placed c = λ is.
     let program = program_in c.args.program.now in
     let needs = c.as_slice-3.ensures ∙ c.in_ok-needs.ensures ∙ ap (λ (cs : List SegmentContent). map need_of (segments_from cs)) c.as_slice-2.ensures.value in
-    sym (placed_so c.args.script.now program c.as_slice-3.result.now (c.in_ok-check_names.ensures.given program is (sym c.as_slice.ensures)) needs) ∙ ap as_placement c.in_ok-place.ensures.value
+    sym (placed_so c.args.script.now program c.as_slice-3.result.now (c.in_ok-check_names.ensures.provided program is (sym c.as_slice.ensures)) needs) ∙ ap as_placement c.in_ok-place.ensures.value

@@ -10,8 +10,8 @@ use Rattle.link65.specs.Representation.{names_in}
 use Rattle.link65.proofs.DefinedNameLemmas.{left_none, left_some, none_gives, wanted}
 use Rattle.link65.proofs.name_checks.check_names.Goals as goal
 
-pub returns-then-len-eq0-clause-given : goal.returns-then-len-eq0-clause-given
-returns-then-len-eq0-clause-given c = λ p is are.
+pub returns-then-len-eq0-clause-provided : goal.returns-then-len-eq0-clause-provided
+returns-then-len-eq0-clause-provided c = λ p is are.
     let provided = names_in c.args.provided in
     let members = c.args.members.now in
     let left = map (λ n. n.items) c.in_ok-names.names.keys in
@@ -23,8 +23,8 @@ returns-then-len-eq0-clause-given c = λ p is are.
     let zero : length left ≡ 0 = simp length-map (omega arith) in
     ap none_unresolved (sym same) ∙ left_none left zero
 
-pub returns-clause-given : goal.returns-clause-given
-returns-clause-given c = λ p is are.
+pub returns-clause-provided : goal.returns-clause-provided
+returns-clause-provided c = λ p is are.
     let provided = names_in c.args.provided in
     let members = c.args.members.now in
     let left = map (λ n. n.items) c.in_ok-names.names.keys in

@@ -26,7 +26,7 @@ returns-in-Some-2 c =
     let keeps = subst (HasFinal y s (Some e)) c.in-Some-2.is c.in_ok-form.ensures in
     subst (λ (s : Context). IsEvaluation y s own e c.evaluation_of-in-Some-2.result) c.context-context.ensures
     (final_found y s own e (binding_in meaning) c.in-Some-2.form c.evaluation_of-in-Some-2.result c.size_of_binding-other.result c.requires means keeps c.size_of_binding-other.ensures
-    (record { form = c.evaluation_of-in-Some-2.ensures.form; final = c.evaluation_of-in-Some-2.ensures.stays; size = c.evaluation_of-in-Some-2.ensures.size }))
+    (record { form = c.evaluation_of-in-Some-2.ensures.form; final = c.evaluation_of-in-Some-2.ensures.finality; size = c.evaluation_of-in-Some-2.ensures.size }))
 
 pub returns : goal.returns
 returns c =
@@ -38,4 +38,4 @@ returns c =
     let means : binding_of y s e ≡ Ok (binding_in meaning) = c.binding_at.ensures ∙ ap (λ o. ok_or (option_map binding_in o) (binding_fault y s e)) c.in-Some.is in
     subst (λ (s : Context). IsEvaluation y s own e c.evaluation_of-2.result) c.context-context.ensures
     (meant_found y s own e (binding_in meaning) c.evaluation_of-2.result c.in_ok-form-2.form c.size_of_binding-other.result c.requires means (c.in_ok-form-2.ensures s e means) c.size_of_binding-other.ensures
-    (record { form = c.evaluation_of-2.ensures.form; final = c.evaluation_of-2.ensures.stays; size = c.evaluation_of-2.ensures.size }))
+    (record { form = c.evaluation_of-2.ensures.form; final = c.evaluation_of-2.ensures.finality; size = c.evaluation_of-2.ensures.size }))

@@ -41,4 +41,4 @@ returns-clause-entered c =
     let location : SourceLocation = location_in c.args.site.at.file.now c.args.site.at.line in
     let s : Context = c.args.site.context in
     subst (λ (e : Tree). OnOk c.defer.result (EmitsPieces location s (expression_value constant_definition e ∷ []) old new)) c.in_ok-value.ensures
-    (ok_then c.defer.result (λ kept. waits_enters old new location s (expression_value constant_definition c.in_ok-value.value) kept) c.defer.ensures.waits)
+    (ok_then c.defer.result (λ kept. waits_enters old new location s (expression_value constant_definition c.in_ok-value.value) kept) c.defer.ensures.deferred)

@@ -25,7 +25,7 @@ loop-name-preserved c =
           subst (λ (ps : List piece.Piece). Represents count (with_fixups location s t ps) new) (taken_more f c.args.names.now c.loop-name.name-index c.name-item.result (omega arith) c.name-item.is)
           (subst (λ (u : State). Represents count u new) (sym (one_more_awaiting location s t some (f n)))
           (subst (λ (p : piece.Piece). Represents count (with_fixup (with_fixups location s t some) (record { place = location; context = s; piece = p })) new) is
-          (c.in_ok-defer.ensures.waits count (with_fixups location s t some) (c.loop-name.invariant.mentioned count t h))));
+          (c.in_ok-defer.ensures.deferred count (with_fixups location s t some) (c.loop-name.invariant.mentioned count t h))));
       tables = keeps_both c.args.self.now before new c.loop-name.invariant.tables c.in_ok-defer.ensures.tables;
     }
 

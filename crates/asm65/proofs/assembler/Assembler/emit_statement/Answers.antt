@@ -69,7 +69,7 @@ returns-then-branch c =
     let new = c.emit_value.new.assembler in
     let x : Statement = statement.Assert c.in-Assert.value c.in-Assert.action c.in-Assert.text in
     let final = subst (λ (z : Statement). HasFinal (table_of old.symbols) s (first_tree z) c.args.analysis.form) c.in-Assert.is c.requires.form in
-    let put = c.in_ok-emit_value-in-Assert.ensures.put c.in-Assert.value c.in-Assert.action c.in-Assert.text final in
+    let put = c.in_ok-emit_value-in-Assert.ensures.emitted c.in-Assert.value c.in-Assert.action c.in-Assert.text final in
     let holds = emitted_at_once old new location s (expression_value (asserted c.in-Assert.action c.in-Assert.text) c.in-Assert.value) _ put c.if-branch.true in
     taken_as location s m old new (Ok tt) x c.args.statement (sym c.in-Assert.is) (λ h. adds_pieces location s m old new x (λ y. nothing_follows y) h) holds
 
@@ -83,8 +83,8 @@ returns-else-branch c =
     let new = c.defer.new.assembler in
     let x : Statement = statement.Assert c.in-Assert.value c.in-Assert.action c.in-Assert.text in
     let final = subst (λ (z : Statement). HasFinal (table_of old.symbols) s (first_tree z) c.args.analysis.form) c.in-Assert.is c.requires.form in
-    let put = c.in_ok-emit_value-in-Assert.ensures.put c.in-Assert.value c.in-Assert.action c.in-Assert.text final in
-    let entered = ok_then c.defer.result (λ waits. tried_waits old mid new location s (expression_value (asserted c.in-Assert.action c.in-Assert.text) c.in-Assert.value) _ put c.if-branch.false waits) c.defer.ensures.waits in
+    let put = c.in_ok-emit_value-in-Assert.ensures.emitted c.in-Assert.value c.in-Assert.action c.in-Assert.text final in
+    let entered = ok_then c.defer.result (λ waits. tried_waits old mid new location s (expression_value (asserted c.in-Assert.action c.in-Assert.text) c.in-Assert.value) _ put c.if-branch.false waits) c.defer.ensures.deferred in
     taken_as location s m old new c.defer.result x c.args.statement (sym c.in-Assert.is) (λ h. adds_pieces location s m old new x (λ y. nothing_follows y) h) entered
 
 pub define_names-requires-clause-named : goal.define_names-requires-clause-named

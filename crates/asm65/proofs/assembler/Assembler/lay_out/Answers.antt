@@ -59,7 +59,7 @@ returns-clause-holds c = λ count t h.
     let same : table_of mid.symbols ≡ y = ap table_of c.in_ok-request_section.ensures.tables.symbols in
     let site : mid.cursor ≡ w = c.in_ok-request_section.ensures.tables.cursor in
     let segment = ap (λ (s : Context). s.segment) c.context-context.ensures ∙ ap (λ (v : Cursor). (layout.context_of v).segment) h.cursor in
-    let held : Represents count (with_requested_section (layout.context_of t.cursor).segment x t) mid = subst (λ (g : ℕ). Represents count (with_requested_section g x t) mid) segment (c.in_ok-request_section.ensures.asked count t h) in
+    let held : Represents count (with_requested_section (layout.context_of t.cursor).segment x t) mid = subst (λ (g : ℕ). Represents count (with_requested_section g x t) mid) segment (c.in_ok-request_section.ensures.requested count t h) in
     let moved : c.advance.new.self ≡ layout.cursor_after t.symbols t.cursor x =
     c.in_ok-advance.ensures
     ∙ ap (λ (z : Symbols). cursor_with_bytes z mid.cursor x m.length m.alignment) same
@@ -72,8 +72,8 @@ returns-in_err-analysis-clause-refused c = λ count t h.
     (let p = err_from_is_err_and c.from_residual.result c.from_residual.ensures.1 in
     rw (p.1, p.2) (refused_is count t c.args.self.now h c.args.statement.now c.in_err-analysis.field-0.0 c.in_err-analysis.ensures.measured))
 
-pub returns-in_err-analysis-clause-inside : goal.returns-in_err-analysis-clause-inside
-returns-in_err-analysis-clause-inside c =
+pub returns-in_err-analysis-clause-no_failure : goal.returns-in_err-analysis-clause-no_failure
+returns-in_err-analysis-clause-no_failure c =
     let p = err_from_is_err_and c.from_residual.result c.from_residual.ensures.1 in
     let answer : Result Analysis AsmFault = Err c.in_err-analysis.field-0.0 in
     rw (p.1, p.2) (measured_inside answer (λ a. a.measured) (table_of c.args.self.now.symbols) c.args.self.now.cursor c.args.statement.now c.in_err-analysis.ensures.measured)

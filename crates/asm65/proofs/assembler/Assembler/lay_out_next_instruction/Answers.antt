@@ -51,8 +51,8 @@ returns-in_err-analysis-clause-refused c = λ count t h.
     (let p = err_from_is_err_and c.from_residual.result c.from_residual.ensures.1 in
     rw (p.1, p.2) (refused_is count t c.args.self.now h (Instruction c.args.mnemonic c.args.operand.now) c.in_err-analysis.field-0.0 c.in_err-analysis.ensures.measured))
 
-pub returns-in_err-analysis-clause-inside : goal.returns-in_err-analysis-clause-inside
-returns-in_err-analysis-clause-inside c =
+pub returns-in_err-analysis-clause-no_failure : goal.returns-in_err-analysis-clause-no_failure
+returns-in_err-analysis-clause-no_failure c =
     let p = err_from_is_err_and c.from_residual.result c.from_residual.ensures.1 in
     let answer : Result Analysis AsmFault = Err c.in_err-analysis.field-0.0 in
     rw (p.1, p.2) (measured_inside answer (λ a. a.measured) (table_of c.args.self.now.symbols) c.args.self.now.cursor (Instruction c.args.mnemonic c.args.operand.now) c.in_err-analysis.ensures.measured)

@@ -8,8 +8,8 @@ use Rattle.asm65.specs.Internal.AssemblerState.{Represents}
 use Rattle.asm65.proofs.Waitings.{holds_entered}
 use Rattle.asm65.proofs.assembler.Assembler.request_section.Goals as goal
 
-pub returns-in_ok-request_section-clause-asked : goal.returns-in_ok-request_section-clause-asked
-returns-in_ok-request_section-clause-asked c = λ count t h.
+pub returns-in_ok-request_section-clause-requested : goal.returns-in_ok-request_section-clause-requested
+returns-in_ok-request_section-clause-requested c = λ count t h.
     (let old : Assembler = c.args.self.now in
     let new : Assembler = record old { sections = c.request_section.new.self } in
     let asks : needs_section c.args.statement.now ≡ true = sym c.needs_section.ensures ∙ c.if-needs_section.true in

@@ -9,10 +9,10 @@ use Rattle.asm65.proofs.emission.statements.emit_element.Goals as goal
 pub returns-then-branch-clause-entered : goal.returns-then-branch-clause-entered
 returns-then-branch-clause-entered c =
     emitted_at_once c.args.assembler.now c.emit_value.new.assembler (location_in c.args.site.at.file.now c.args.site.at.line) c.args.site.context (expression_value (datum c.args.width) c.args.value) _
-    (c.in_ok-emit_value.ensures.put c.args.value action.Error [] c.requires) c.if-branch.true
+    (c.in_ok-emit_value.ensures.emitted c.args.value action.Error [] c.requires) c.if-branch.true
 
 pub returns-clause-entered : goal.returns-clause-entered
 returns-clause-entered c =
     let location = location_in c.args.site.at.file.now c.args.site.at.line in
     ok_then c.defer.result (λ waits. tried_waits c.args.assembler.now c.emit_value.new.assembler c.defer.new.assembler location c.args.site.context (expression_value (datum c.args.width) c.args.value) _
-    (c.in_ok-emit_value.ensures.put c.args.value action.Error [] c.requires) c.if-branch.false waits) c.defer.ensures.waits
+    (c.in_ok-emit_value.ensures.emitted c.args.value action.Error [] c.requires) c.if-branch.false waits) c.defer.ensures.deferred

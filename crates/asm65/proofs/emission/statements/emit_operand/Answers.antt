@@ -22,7 +22,7 @@ returns-then-branch c =
     let is : operand_tree c.args.operand ≡ Some value = sym c.operand_value.ensures ∙ c.in-Some-Some.is-1 in
     let final : HasFinal (table_of old.symbols) s (Some value) c.args.form = subst (λ (o : Option Tree). HasFinal (table_of old.symbols) s o c.args.form) is c.requires in
     let one : EmitsPieces location s (operand_pieces (Some width) (Some value)) old new =
-    emitted_at_once old new location s (expression_value (operand width) value) _ (c.in_ok-emit_value-in-Some-Some.ensures.put value action.Error [] final) c.if-branch.true in
+    emitted_at_once old new location s (expression_value (operand width) value) _ (c.in_ok-emit_value-in-Some-Some.ensures.emitted value action.Error [] final) c.if-branch.true in
     rw c.in-Some-Some.is-0 (subst (λ (o : Option Tree). EmitsPieces location s (operand_pieces (Some width) o) old new) (sym is) one)
 
 pub returns-else-branch : goal.returns-else-branch
@@ -37,5 +37,5 @@ returns-else-branch c =
     let is : operand_tree c.args.operand ≡ Some value = sym c.operand_value.ensures ∙ c.in-Some-Some.is-1 in
     let final : HasFinal (table_of old.symbols) s (Some value) c.args.form = subst (λ (o : Option Tree). HasFinal (table_of old.symbols) s o c.args.form) is c.requires in
     let both : OnOk c.defer.result (EmitsPieces location s (operand_pieces (Some width) (Some value)) old new) =
-    ok_then c.defer.result (λ waits. tried_waits old mid new location s (expression_value (operand width) value) _ (c.in_ok-emit_value-in-Some-Some.ensures.put value action.Error [] final) c.if-branch.false waits) c.defer.ensures.waits in
+    ok_then c.defer.result (λ waits. tried_waits old mid new location s (expression_value (operand width) value) _ (c.in_ok-emit_value-in-Some-Some.ensures.emitted value action.Error [] final) c.if-branch.false waits) c.defer.ensures.deferred in
     rw c.in-Some-Some.is-0 (subst (λ (o : Option Tree). OnOk c.defer.result (EmitsPieces location s (operand_pieces (Some width) o) old new)) (sym is) both)

@@ -6,8 +6,8 @@ use Rattle.asm65.specs.declared.assembler.Assembler.{Assembler}
 use Rattle.asm65.proofs.Waitings.{holds_awaiting}
 use Rattle.asm65.proofs.emission.values.defer.Goals as goal
 
-pub returns-clause-waits : goal.returns-clause-waits
-returns-clause-waits c =
+pub returns-clause-deferred : goal.returns-clause-deferred
+returns-clause-deferred c =
     let old : Assembler = c.args.assembler.now in
     let new : Assembler = record old { sections = c.defer.new.self } in
     ok_then c.defer.result

@@ -16,8 +16,8 @@ use Rattle.asm65.specs.Internal.AssemblerState.{AppendsPart, EmitsIfResolved, op
 use Rattle.asm65.proofs.Enterings.{assertion_tried, datum_tried, operand_tried}
 use Rattle.asm65.proofs.emission.values.emit_value.Goals as goal
 
-pub returns-in-Datum-clause-put : goal.returns-in-Datum-clause-put
-returns-in-Datum-clause-put c = λ e action text h.
+pub returns-in-Datum-clause-emitted : goal.returns-in-Datum-clause-emitted
+returns-in-Datum-clause-emitted c = λ e action text h.
     let old : Assembler = c.args.assembler.now in
     let new = c.emit_form.new.sections in
     let location : SourceLocation = location_in c.args.site.at.file.now c.args.site.at.line in
@@ -28,8 +28,8 @@ returns-in-Datum-clause-put c = λ e action text h.
     rw c.in-Datum.is (ok_with (AppendsPart old.sections new s.segment (value_part width location f)) (EmitsIfResolved location s (expression_value (datum width) e) old (record old { sections = new })) c.emit_form.result
     (λ b put. datum_tried old new location s width e f b final put) c.emit_form.ensures)
 
-pub returns-in-Operand-clause-put : goal.returns-in-Operand-clause-put
-returns-in-Operand-clause-put c = λ e action text h.
+pub returns-in-Operand-clause-emitted : goal.returns-in-Operand-clause-emitted
+returns-in-Operand-clause-emitted c = λ e action text h.
     let old : Assembler = c.args.assembler.now in
     let new = c.emit_operand_form.new.sections in
     let location : SourceLocation = location_in c.args.site.at.file.now c.args.site.at.line in
@@ -40,8 +40,8 @@ returns-in-Operand-clause-put c = λ e action text h.
     rw c.in-Operand.is (ok_with (AppendsPart old.sections new s.segment (operand_part width s location f)) (EmitsIfResolved location s (expression_value (operand width) e) old (record old { sections = new })) c.emit_operand_form.result
     (λ b put. operand_tried old new location s width e f b final put) c.emit_operand_form.ensures)
 
-pub returns-in-Some-literal_of-clause-put : goal.returns-in-Some-literal_of-clause-put
-returns-in-Some-literal_of-clause-put c = λ e action text h.
+pub returns-in-Some-literal_of-clause-emitted : goal.returns-in-Some-literal_of-clause-emitted
+returns-in-Some-literal_of-clause-emitted c = λ e action text h.
     let old : Assembler = c.args.assembler.now in
     let location : SourceLocation = location_in c.args.site.at.file.now c.args.site.at.line in
     let s : Context = c.args.site.context in

@@ -7,5 +7,5 @@ returns c = record {
   requested = sym c.new.ensures.empty;
   latest = tt;
   equivalent = c.new-3.ensures.none (names_in c.new-2.result);
-  standing = c.new-3.ensures.standing (length (names_in c.new-2.result));
+  standing = c.new-3.ensures.file_bounds (length (names_in c.new-2.result));
 }

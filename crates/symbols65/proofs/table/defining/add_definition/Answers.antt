@@ -15,7 +15,7 @@ use Rattle.symbols65.proofs.table.defining.add_definition.Goals as goal
 pub invariant_of-symbols : goal.invariant_of-symbols
 invariant_of-symbols c =
     let t = c.args.symbols.now in
-    let kept = searches_kept (table_of t) (get nat_eq t.searched) (get nat_eq c.clear_unless.new.searched) c.args.keeps c.clear_unless.ensures.kept c.clear_unless.ensures.forgotten (t.searches_hold, t.searches_past) in
+    let kept = searches_kept (table_of t) (get nat_eq t.searched) (get nat_eq c.clear_unless.new.searched) c.args.keeps c.clear_unless.ensures.kept c.clear_unless.ensures.cleared (t.searches_hold, t.searches_past) in
     record {
       entries_numbered = t.entries_numbered;
       counts_fit = t.counts_fit;
@@ -47,13 +47,13 @@ invariant_of-symbols-2 c =
     let new = get nat_eq c.clear_unless.new.searched in
     let d = definition_in ws (c.args.entry, c.args.definition) in
     let Searches : List (InternedKey × Definition) → Type 0 = λ l. KeepsSearches (table_in ws l ss imports zero_page) new in
-    let more : KeepsSearches (with_definition (table_of t) d) new = searches_pushed (table_of t) d old new c.args.keeps c.clear_unless.ensures.kept c.clear_unless.ensures.forgotten c.requires.meanings (t.searches_hold, t.searches_past) in
+    let more : KeepsSearches (with_definition (table_of t) d) new = searches_pushed (table_of t) d old new c.args.keeps c.clear_unless.ensures.kept c.clear_unless.ensures.cleared c.requires.meanings (t.searches_hold, t.searches_past) in
     let longer : Searches (es ++ (c.args.entry, c.args.definition) ∷ []) = subst (λ ds. KeepsSearches (record (table_of t) { definitions = ds }) new) (sym (map-append (definition_in ws) es ((c.args.entry, c.args.definition) ∷ []))) more in
-    let same : Searches es = searches_kept (table_of t) old new c.args.keeps c.clear_unless.ensures.kept c.clear_unless.ensures.forgotten (t.searches_hold, t.searches_past) in
+    let same : Searches es = searches_kept (table_of t) old new c.args.keeps c.clear_unless.ensures.kept c.clear_unless.ensures.cleared (t.searches_hold, t.searches_past) in
     let searches : Searches c.push.new.definitions.entries = after c.push.result (λ e. subst Searches (sym e) longer) (λ e. subst Searches (sym e) same) pushed unchanged in
     record {
       entries_numbered = after c.push.result (λ e. subst Numbered (sym e) (numbered_pushed key_name_id ws es c.args.entry c.args.definition t.entries_numbered c.requires.number)) (λ e. subst Numbered (sym e) t.entries_numbered) pushed unchanged;
-      inner_known = after c.push.result (λ e. subst Inner (sym e) (inner_pushed es c.args.entry c.args.definition c.mark_inner.new.inner.items kept c.in_ok-mark_inner.ensures.noted)) (λ e. subst Inner (sym e) kept) pushed unchanged;
+      inner_known = after c.push.result (λ e. subst Inner (sym e) (inner_pushed es c.args.entry c.args.definition c.mark_inner.new.inner.items kept c.in_ok-mark_inner.ensures.marked)) (λ e. subst Inner (sym e) kept) pushed unchanged;
       counts_fit = after c.push.result (λ e. subst Counted (sym e) (counted_pushed es c.args.entry c.args.definition t.counts_fit c.requires.counted)) (λ e. subst Counted (sym e) t.counts_fit) pushed unchanged;
       openings_numbered = t.openings_numbered;
       openings_distinct = t.openings_distinct;

@@ -117,7 +117,7 @@ refused_answer a b m job location e ran outside refused = by (is_system_error e)
 -- a source without a fault of a line
 pub concluded_answer : (a : Assembly) (m : Files) (job : Job) (run : Run) (v : Unit {0}) → RefinesRun m job run (Ok v) → ((count : ℕ) (t : State) → Represents count t run.assembler → RefinesOutcome (outcome_of_state t None) a) → RefinesProp is_diagnostic_system_error (λ q. IsOutcome m job (assembly_outcome a q)) a.result
 concluded_answer a m job run v ran h =
-    outcome_answer a (outcome_of_state ran.0 None) m job (one_pass m job (record { following = ran.0; fault = None }) ran.1) (h ran.2.0 ran.0 ran.2.1)
+    outcome_answer a (outcome_of_state ran.0 None) m job (one_pass m job (record { state = ran.0; fault = None }) ran.1) (h ran.2.0 ran.0 ran.2.1)
 
 -- ---- What callers are told.
 

@@ -245,10 +245,10 @@ module _ (m : Files) (first old mid : Run) (same : mid.assembler ≡ old.assembl
       let scope : mid.assembler.cursor.scope ≡ u.cursor.scope = ap (λ (w : Cursor). w.scope) holds.cursor in
       let location = same_place m mid.expander a.0 a.2 in
       let all = ends m machine_semantics (AssemblesSource m machine_semantics job initial_state) s.left a.0 u s.goes a.1 in
-      let all' : RunsStatements m job (record { following = u; fault = open_scope_fault (location_of mid.expander) mid.assembler.cursor.scope }) = subst (λ n. RunsStatements m job (record { following = u; fault = open_scope_fault (location_of mid.expander) n })) (sym scope) (subst (λ p. RunsStatements m job (record { following = u; fault = open_scope_fault p u.cursor.scope })) location all) in
+      let all' : RunsStatements m job (record { state = u; fault = open_scope_fault (location_of mid.expander) mid.assembler.cursor.scope }) = subst (λ n. RunsStatements m job (record { state = u; fault = open_scope_fault (location_of mid.expander) n })) (sym scope) (subst (λ p. RunsStatements m job (record { state = u; fault = open_scope_fault p u.cursor.scope })) location all) in
       subst (RefinesRun m job mid) (sym is) (by u h.count holds (is_not_global mid.assembler.cursor.scope) all')
     where
-      by : (u : State) (count : ℕ) → Represents count u mid.assembler → (b : Bool) → RunsStatements m job (record { following = u; fault = if b then Some (record { place = location_of mid.expander; fault = BadScope }) else None }) → RefinesRun m job mid (if b then Err BadScope else Ok tt)
+      by : (u : State) (count : ℕ) → Represents count u mid.assembler → (b : Bool) → RunsStatements m job (record { state = u; fault = if b then Some (record { place = location_of mid.expander; fault = BadScope }) else None }) → RefinesRun m job mid (if b then Err BadScope else Ok tt)
       by u count holds true runs = (u, runs, (holds.out, holds.err))
       by u count holds false runs = (u, runs, (count, holds))
 

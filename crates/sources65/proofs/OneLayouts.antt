@@ -31,7 +31,7 @@ Matches R P (Ok u) = (z : _) × P (Ok z) × R z u
 Matches R P (Err e) = P (Err e)
 
 abbrev pub MatchesAll : {A B : Type 0} → (A → B → Type 0) → (ReachedState A → Type 0) → ReachedState B → Type 0
-MatchesAll R P r = (z : _) × P (record { following = z; fault = r.fault }) × R z r.following
+MatchesAll R P r = (z : _) × P (record { state = z; fault = r.fault }) × R z r.state
 
 -- whatever one kind takes, the other takes
 abbrev pub Simulates : {A B : Type 0} → (A → B → Type 0) → StepRelation A → StepRelation B → Type 0
@@ -91,7 +91,7 @@ taken_matches R a b for m s y t r stands (expansion_rejected _ _ e location h) =
     (y, expansion_rejected s y e location (next_same R a b for m s y t (fault (e, location)) stands h), stands)
 taken_matches R a b for m s y t r stands (source_ended _ u _ h) =
     let end = source_ended s u y (next_same R a b for m s y t (nothing u) stands h) in
-    (y, subst (λ scope. AssemblesRest m a s y (record { following = y; fault = open_scope_fault u.left.place scope })) (for.scope y t stands) end, stands)
+    (y, subst (λ scope. AssemblesRest m a s y (record { state = y; fault = open_scope_fault u.left.place scope })) (for.scope y t stands) end, stands)
 
 -- ---- A source.
 
@@ -176,14 +176,14 @@ taken_one m s y p q (expansion_rejected _ _ e location h) k = by q k
     by q (source_ended _ u _ j) = let d = one_next m (layout_semantics.environment y) s (fault (e, location)) (nothing u) h j in absurd cc
 taken_one m s y p q (source_ended _ t _ h) k = by q k
   where
-    by : (q : ReachedState Layout) → AssemblesRest m layout_semantics s y q → record { following = y; fault = open_scope_fault t.left.place (layout_semantics.scope y) } ≡ q
+    by : (q : ReachedState Layout) → AssemblesRest m layout_semantics s y q → record { state = y; fault = open_scope_fault t.left.place (layout_semantics.scope y) } ≡ q
     by q (statement_assembled _ u w _ v _ j f less) = let d = one_next m (layout_semantics.environment y) s (nothing t) (statement w u) h j in absurd cc
     by q (statement_rejected _ u w _ d j f) = let d = one_next m (layout_semantics.environment y) s (nothing t) (statement w u) h j in absurd cc
     by q (expansion_rejected _ _ d location j) = let d = one_next m (layout_semantics.environment y) s (nothing t) (fault (d, location)) h j in absurd cc
     by q (source_ended _ u _ j) =
         let next = one_next m (layout_semantics.environment y) s (nothing t) (nothing u) h j in
         let same : t ≡ u = cc in
-        ap (λ (v : expand.State). record { following = y; fault = open_scope_fault v.left.place (layout_semantics.scope y) }) same
+        ap (λ (v : expand.State). record { state = y; fault = open_scope_fault v.left.place (layout_semantics.scope y) }) same
 
 -- ---- A source.
 
@@ -201,4 +201,4 @@ pub one_layout : LayoutIsUnique
 one_layout m job = begun_one m job empty_layout (first_state_in m job.source job.include)
 
 pub one_answer : OutcomeIsUnique
-one_answer m job = made_one (AreLaidOut m job) (λ r. outcome_of r.following r.fault) (one_layout m job)
+one_answer m job = made_one (AreLaidOut m job) (λ r. outcome_of r.state r.fault) (one_layout m job)

@@ -170,7 +170,7 @@ stands_for y slots comes = record {
 pub runs_laid : MachineSimulatesLayout
 runs_laid m job r runs =
     let all = source_matches Follows layout_semantics machine_semantics laying_stands_in m job empty_layout initial_state r begun_follows runs in
-    let follows : Follows all.0 r.following = all.2 in
+    let follows : Follows all.0 r.state = all.2 in
     (all.0, all.1, subst (SimulatesLayout all.0) (sym follows.same) (stands_for all.0 follows.slots follows.comes))
 
 -- ---- What is answered.

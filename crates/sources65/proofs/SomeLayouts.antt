@@ -74,7 +74,7 @@ module _ {S : Type 0} (m : Files) (b : StatementSemantics S) (some : (y : S) (lo
 
     after : (n : Next) → ReachesNext m (b.environment y) s n → DecreasesInput s n → HasTaken s y
     after (statement x t) reach less = let q = given_there y t.left.place x in following t x reach less q.0 q.1 q.2
-    after (nothing t) reach less = (record { following = y; fault = open_scope_fault t.left.place (b.scope y) }, source_ended s t y reach, open_own t.left.place (b.scope y))
+    after (nothing t) reach less = (record { state = y; fault = open_scope_fault t.left.place (b.scope y) }, source_ended s t y reach, open_own t.left.place (b.scope y))
     after (fault (e, location)) reach less = (stopped_at y location (Expansion e), expansion_rejected s y e location reach, expansion_own e less)
 
   taken_within : (n : ℕ) (s : expand.State) (y : S) → input_measure s < n → IsOrdered s → HasTaken s y
@@ -115,4 +115,4 @@ some_layout m job = source_there m layout_semantics (λ y location x. (with_stat
 pub some_answer : OutcomeExists
 some_answer m job =
     let r = some_layout m job in
-    (outcome_of r.0.following r.0.fault, (r.0, r.1, refl), outcome_own r.0.following r.0.fault r.2)
+    (outcome_of r.0.state r.0.fault, (r.0, r.1, refl), outcome_own r.0.state r.0.fault r.2)

@@ -77,7 +77,7 @@ good_given m y z location (expand.plain ts) good named h = good_rest m y z locat
 
 -- ---- All statements.
 
-good_taken : (m : Files) (n : ℕ) (s : expand.State) (y : Layout) (r : ReachedState Layout) → IsStateFit m n s → IsGood y → AssemblesRest m layout_semantics s y r → IsGood r.following
+good_taken : (m : Files) (n : ℕ) (s : expand.State) (y : Layout) (r : ReachedState Layout) → IsStateFit m n s → IsGood y → AssemblesRest m layout_semantics s y r → IsGood r.state
 good_taken m n s y r fit good (statement_assembled _ t x _ z _ reaches is more) =
     let next = next_fit m n (layout_semantics.environment y) s (statement x t) fit reaches in
     good_taken m (n + length (tokens_of x)) t z r next.1 (good_given m y z t.left.place x good (are_named m (tokens_of x) next.0) is) more
@@ -96,11 +96,11 @@ good_defined y z location (d ∷ ds) good h = by h.0 h.1 h.2 (λ w. good_defined
 
 -- ---- A source.
 
-good_after : (q r : ReachedState Layout) → r ≡ q → IsGood q.following → IsGood r.following
-good_after q r e good = subst (λ (x : ReachedState Layout). IsGood x.following) (sym e) good
+good_after : (q r : ReachedState Layout) → r ≡ q → IsGood q.state → IsGood r.state
+good_after q r e good = subst (λ (x : ReachedState Layout). IsGood x.state) (sym e) good
 
-good_begun : (m : Files) (job : Job) (o : Result expand.State ExpandFault) (r : ReachedState Layout) → ((s : expand.State) → o ≡ Ok s → IsStateFit m 0 s) → AssemblesOpeningResult m layout_semantics job empty_layout o r → IsGood r.following
+good_begun : (m : Files) (job : Job) (o : Result expand.State ExpandFault) (r : ReachedState Layout) → ((s : expand.State) → o ≡ Ok s → IsStateFit m 0 s) → AssemblesOpeningResult m layout_semantics job empty_layout o r → IsGood r.state
 good_begun m job x1 r fit h = grind (arith, common_steps, good_after, nothing_good, (good_taken m 0), good_defined)
 
 pub sound_layout : LayoutIsWellFormed
-sound_layout m job r h = sound_from r.following (good_begun m job (first_state_in m job.source job.include) r (opened_fit m job.source job.include) h)
+sound_layout m job r h = sound_from r.state (good_begun m job (first_state_in m job.source job.include) r (opened_fit m job.source job.include) h)

@@ -40,8 +40,8 @@ pub is_refused : {S : Type 0} (m : Files) (b : StatementSemantics S) (IsAll : Re
 is_refused m b IsAll s y e location inv reaches = inv (stopped_at y location (Expansion e)) (expansion_rejected s y e location reaches)
 
 -- the end
-pub ends : {S : Type 0} (m : Files) (b : StatementSemantics S) (IsAll : ReachedState S → Type 0) (s t : expand.State) (y : S) → StateImpliesResult m b IsAll s y → ReachesNext m (b.environment y) s (nothing t) → IsAll (record { following = y; fault = open_scope_fault t.left.place (b.scope y) })
-ends m b IsAll s t y inv reaches = inv (record { following = y; fault = open_scope_fault t.left.place (b.scope y) }) (source_ended s t y reaches)
+pub ends : {S : Type 0} (m : Files) (b : StatementSemantics S) (IsAll : ReachedState S → Type 0) (s t : expand.State) (y : S) → StateImpliesResult m b IsAll s y → ReachesNext m (b.environment y) s (nothing t) → IsAll (record { state = y; fault = open_scope_fault t.left.place (b.scope y) })
+ends m b IsAll s t y inv reaches = inv (record { state = y; fault = open_scope_fault t.left.place (b.scope y) }) (source_ended s t y reaches)
 
 -- ---- Constants of the command line.
 

@@ -141,7 +141,7 @@ OutcomeIsUnique =
 abbrev pub LayoutIsWellFormed : Type 0
 LayoutIsWellFormed =
     (m : Files) (job : Job) (r : ReachedState Layout) →
-    AreLaidOut m job r → IsWellFormedLayout r.following
+    AreLaidOut m job r → IsWellFormedLayout r.state
 
 -- the conditions for the object of a well-formed layout hold
 abbrev pub ContentsAreWellFormed : Type 0
@@ -165,8 +165,8 @@ pub record SimulatesLayout (y : Layout) (t : State) : Type 0 where
 abbrev pub MachineSimulatesLayout : Type 0
 MachineSimulatesLayout =
     (m : Files) (job : Job) (r : ReachedState State) → RunsStatements m job r →
-    (y : Layout) × AreLaidOut m job (record { following = y; fault = r.fault })
-    × SimulatesLayout y r.following
+    (y : Layout) × AreLaidOut m job (record { state = y; fault = r.fault })
+    × SimulatesLayout y r.state
 
 -- a value whose form is final has the result of that form at its line, if that has no error and no warning
 abbrev pub FinalFormIsResolved : Type 0
@@ -178,10 +178,10 @@ FinalFormIsResolved =
 abbrev pub OnePassSuffices : Type 0
 OnePassSuffices =
     (m : Files) (job : Job) (r : ReachedState State) → RunsStatements m job r →
-    IsOutcome m job (outcome_of_state r.following r.fault)
+    IsOutcome m job (outcome_of_state r.state r.fault)
 
 -- the machine reaches each layout: no line stops it except by its error
 abbrev pub LayoutIsReachable : Type 0
 LayoutIsReachable =
     (m : Files) (job : Job) (r : ReachedState Layout) → AreLaidOut m job r →
-    (t : State) × RunsStatements m job (record { following = t; fault = r.fault })
+    (t : State) × RunsStatements m job (record { state = t; fault = r.fault })

@@ -72,11 +72,11 @@ AssemblesExpanded m Steps y location (expand.plain ts) r = AssemblesTokens m Ste
 
 -- the state after the statements up to the first error of a line, and that error, if any
 pub record ReachedState (S : Type 0) : Type 0 where
-  pub following : S
+  pub state : S
   pub fault : Option LocatedFault
 
 abbrev pub stopped_at : {S : Type 0} → S → SourceLocation → AsmFault → ReachedState S
-stopped_at y location e = record { following = y; fault = Some (record { place = location; fault = e }) }
+stopped_at y location e = record { state = y; fault = Some (record { place = location; fault = e }) }
 
 -- the error of a scope that is open after the last line
 abbrev pub open_scope_fault : SourceLocation → ℕ → Option LocatedFault
@@ -100,7 +100,7 @@ pub data AssemblesRest {S : Type 0} (m : Files) (b : StatementSemantics S) : exp
       AssemblesRest m b s y (stopped_at y location (Expansion e))
   source_ended :
       (s t : expand.State) (y : S) → ReachesNext m (b.environment y) s (nothing t) →
-      AssemblesRest m b s y (record { following = y; fault = open_scope_fault t.left.place (b.scope y) })
+      AssemblesRest m b s y (record { state = y; fault = open_scope_fault t.left.place (b.scope y) })
 
 -- ---- A source.
 
@@ -199,4 +199,4 @@ AreLaidOut m job r = AssemblesSource m layout_semantics job empty_layout r
 
 -- the outcome of a source
 abbrev pub IsOutcome : Files → Job → Outcome → Type 0
-IsOutcome m job a = (r : ReachedState Layout) × AreLaidOut m job r × (a ≡ outcome_of r.following r.fault)
+IsOutcome m job a = (r : ReachedState Layout) × AreLaidOut m job r × (a ≡ outcome_of r.state r.fault)

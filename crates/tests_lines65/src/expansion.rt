@@ -1,11 +1,12 @@
 //! Sources and the statements that they expand to. Limits, and what else a program shows, are cases for the real program.
 
-mod at_hand;
 mod files;
+mod peeking;
 mod values;
 
 use base65::{ListVec, MemStore, PathString, Store};
 use expand65::{ExpandFault, Expander, Options, Statement};
+use peeking::spell_peeked;
 use std::alloc::{AllocError, Global};
 use std::test::Fail;
 use values::Constants;
@@ -87,7 +88,21 @@ nop // .endmacro ==> nop ;b.s:2: block end without begin
 .repeat 65536 // .repeat 65536 //  // .endrepeat // .endrepeat ==> b.s:5: too many lines
 .include \"b.s\" ==> b.s:1: nested over 256
 .include \"none\" ==> b.s:1: file not found
+nop //  // ; no // \tclc\r // \r ==> nop ;clc ;
+lda #1 // .byte 1,2,3,4,5,6,7,8,9 // rts // l: inx ==> lda # 1 ;.byte 1 , 2 , 3 , 4 , 5 , 6 , 7 , 8 , 9 ;rts ;l : |inx ;
+nop // ~? // nop ==> nop ;b.s:2: bad character
 ";
+
+/// How statements are read.
+#[derive(Clone, Copy)]
+struct Reading {
+    /// Whether all names are defined, or none.
+    all: bool,
+    /// Whether buffered lines that need no expansion are read without copying.
+    peeks: bool,
+    /// The largest number of statements.
+    most: usize,
+}
 
 /// Appends the tokens of a statement.
 fn spell(alloc: Global, statement: &Statement, out: &mut Vec<u8>) -> Result<(), AllocError> {
@@ -104,7 +119,7 @@ fn spell(alloc: Global, statement: &Statement, out: &mut Vec<u8>) -> Result<(), 
 }
 
 /// Appends an error with its location.
-fn refuse(
+fn spell_fault(
     alloc: Global,
     expander: &Expander,
     fault: &ExpandFault,
@@ -116,21 +131,23 @@ fn refuse(
     out.extend_from_slice(fault.message_text())
 }
 
-/// Appends at most `count` statements of an expander, and then its error, if any.
+/// Appends the statements of an expander, and then its error, if any.
 fn spell_all<S: Store>(
     alloc: Global,
     store: &mut S,
     expander: &mut Expander,
-    all: bool,
-    many: usize,
+    reading: Reading,
 ) -> Result<Vec<u8>, AllocError> {
     let mut out = Vec::new(alloc);
-    for _ in 0..many {
-        match expander.next(store, &Constants { all }) {
+    for _ in 0..reading.most {
+        if reading.peeks && spell_peeked(alloc, expander, &mut out)? {
+            continue;
+        }
+        match expander.next(store, &Constants { all: reading.all }) {
             Ok(Some(statement)) => spell(alloc, &statement, &mut out)?,
             Ok(None) => break,
             Err(fault) => {
-                refuse(alloc, expander, &fault, &mut out)?;
+                spell_fault(alloc, expander, &fault, &mut out)?;
                 break;
             }
         }
@@ -145,17 +162,16 @@ fn in_folder(alloc: Global, folder: &str) -> Result<Options, AllocError> {
     Ok(Options { include })
 }
 
-/// Returns the first statements of `b.s` in a store, where all names are defined or none. (An
-/// expander owns much that is dropped on each way out of a function, which is expensive to prove.)
+/// Returns the statements of `b.s` in a store. (An expander owns much that is dropped on each way
+/// out of a function, which is expensive to prove.)
 fn expanded<S: Store>(
     alloc: Global,
     store: &mut S,
     options: &Options,
-    all: bool,
-    many: usize,
+    reading: Reading,
 ) -> Result<Vec<u8>, AllocError> {
     match Expander::open(alloc, store, "b.s", options) {
-        Ok(mut expander) => spell_all(alloc, store, &mut expander, all, many),
+        Ok(mut expander) => spell_all(alloc, store, &mut expander, reading),
         Err(fault) => Vec::from_slice(alloc, fault.message_text()),
     }
 }
@@ -183,16 +199,23 @@ fn rows(rt: HostRuntime) -> Result<(), Fail> {
     for row in ROWS.lines() {
         let (lines, wanted) = row.split_once(" ==> ").ok_or("no arrow")?;
         put_lines(rt.alloc(), &mut store, "b.s", lines)?;
-        let found = expanded(rt.alloc(), &mut store, &options, false, 70_000)?;
-        assert!(rt; found.as_slice() == wanted.as_bytes(), "{row}");
+        for peeks in [false, true] {
+            let reading = Reading {
+                all: false,
+                peeks,
+                most: 70_000,
+            };
+            let found = expanded(rt.alloc(), &mut store, &options, reading)?;
+            assert!(rt; found.as_slice() == wanted.as_bytes(), "{row}");
+        }
         count = count.saturating_add(1);
     }
-    assert_eq!(rt; count, 73);
+    assert_eq!(rt; count, 76);
     Ok(())
 }
 
-/// Returns whether an expander fails a call, and then each call.
-fn keeps_to_a_refusal(store: &mut MemStore, expander: &mut Expander) -> bool {
+/// Returns whether an expander fails a call, and then the next one.
+fn fails_twice(store: &mut MemStore, expander: &mut Expander) -> bool {
     let knows = Constants { all: false };
     let first = expander.next(store, &knows);
     let second = expander.next(store, &knows);
@@ -200,14 +223,14 @@ fn keeps_to_a_refusal(store: &mut MemStore, expander: &mut Expander) -> bool {
 }
 
 #[test]
-fn answers_failed_before(rt: HostRuntime) -> Result<(), Fail> {
+fn fails_after_an_error(rt: HostRuntime) -> Result<(), Fail> {
     let mut store = MemStore::new(rt.alloc());
     put_lines(rt.alloc(), &mut store, "b.s", ".endif // nop")?;
     let options = in_folder(rt.alloc(), "d")?;
-    let is_kept = match Expander::open(rt.alloc(), &mut store, "b.s", &options) {
-        Ok(mut expander) => keeps_to_a_refusal(&mut store, &mut expander),
+    let fails = match Expander::open(rt.alloc(), &mut store, "b.s", &options) {
+        Ok(mut expander) => fails_twice(&mut store, &mut expander),
         Err(_) => false,
     };
-    assert!(rt; is_kept);
+    assert!(rt; fails);
     Ok(())
 }

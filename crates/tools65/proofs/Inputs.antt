@@ -50,7 +50,7 @@ answered y (Some e) o h = absurd (ok_err o e (sym h))
 
 good_source : (m : Files) (job : Job) (a : asm.Outcome) (o : Object) → IsOutcome m job a → a.result ≡ Ok o → is_well_formed_object o ≡ true
 good_source m job a o (r, laid, same) is =
-    let y : Layout = r.following in
+    let y : Layout = r.state in
     let found : asm.object_of y ≡ Ok o = answered y r.fault o (sym (ap (λ (z : asm.Outcome). z.result) same) ∙ is) in
     let z = symbols_of y.laid in
     let (cs, there, made) = bind_ok (asm.module_resolution y.laid).found (λ (cs : List Content). Ok (object_with y.cursor.segments z.imports cs)) o found in

@@ -9,7 +9,7 @@ use Rattle.output65.specs.declared.outcome.Status.TheVariants.{Failure}
 use Rattle.output65.specs.Outputs.{error_outcome}
 use Rattle.tools65.specs.Internal.ComputedOutcomes.{ComputesOutcome}
 use Rattle.tools65.specs.ObjectFits.{IsFittingOutcome}
-use Rattle.tools65.specs.Command.{IsOutcomeOfCommand, RunsCommand, RunSatisfies, ArgsRunSatisfies, command_memory_message}
+use Rattle.tools65.specs.Command.{IsOutcomeOfCommand, RunsCommand, RunHasOutcome, ArgsRunHasOutcome, command_memory_message}
 use Rattle.output65.specs.RunEffects.{ForStreamsOverWriters, PrintsText, PrintsBothTexts, FilesAfterRun, CommitsOutcome, HasMemoryFailure, Streams, streams}
 use Rattle.cli65.specs.Line.{CommandView, line_of}
 use Rattle.cli65.specs.LineFaults.{is_system_error as is_line_system_error}
@@ -36,7 +36,7 @@ says m new out err_old err_new text out_refused err_refused status same e quiet 
     record { printed = only_errors out err_old err_new text out_refused err_refused quiet p; file_effects = nothing_written text m new status (not (out_refused || err_refused)) same e }
 
 -- where memory ran out before there was an outcome
-pub only_memory : (known new : Option Files) (IsOutcomeOf : Files → Outcome → Type 0) (out err_old err_new : Option (List ℕ)) (memory : List ℕ) (out_refused err_refused : Bool) (status : Status) (Q : Type 0) → new ≡ known → status ≡ Failure → out_refused ≡ false → PrintsText err_old err_new memory (not err_refused) → IfSome known (λ m. Q → RunSatisfies IsOutcomeOf memory m new (streams out out out_refused err_old err_new err_refused) status)
+pub only_memory : (known new : Option Files) (IsOutcomeOf : Files → Outcome → Type 0) (out err_old err_new : Option (List ℕ)) (memory : List ℕ) (out_refused err_refused : Bool) (status : Status) (Q : Type 0) → new ≡ known → status ≡ Failure → out_refused ≡ false → PrintsText err_old err_new memory (not err_refused) → IfSome known (λ m. Q → RunHasOutcome IsOutcomeOf memory m new (streams out out out_refused err_old err_new err_refused) status)
 only_memory None new IsOutcomeOf out err_old err_new memory out_refused err_refused status Q same e quiet p = tt
 only_memory (Some m) new IsOutcomeOf out err_old err_new memory out_refused err_refused status Q same e quiet p = λ _. (error_outcome memory, inr refl, inl (says m new out err_old err_new memory out_refused err_refused status same e quiet p))
 
@@ -51,7 +51,7 @@ did_not_fail fo fm same before (inl h) = absurd (omega arith)
 did_not_fail fo fm same before (inr h) = absurd (omega arith)
 
 -- an outcome that was computed is carried out
-pub line_done : (known mid new : Option Files) (fo fm fn : ℕ) (line : CommandView) (last_failure : LastFailure) (o : Outcome) (io : Streams) (status : Status) → mid ≡ known → fo ≤ fm → fm ≤ fn → IfSome known (λ m. ComputesOutcome line m last_failure fo fm o) → IfSome mid (λ m. NoneFailed fm fn → CommitsOutcome o m new io status ⊎ HasMemoryFailure o (command_memory_message line) m new io status) → IfSome known (λ m. NoneFailed fo fn → RunSatisfies (IsOutcomeOfCommand line) (command_memory_message line) m new io status)
+pub line_done : (known mid new : Option Files) (fo fm fn : ℕ) (line : CommandView) (last_failure : LastFailure) (o : Outcome) (io : Streams) (status : Status) → mid ≡ known → fo ≤ fm → fm ≤ fn → IfSome known (λ m. ComputesOutcome line m last_failure fo fm o) → IfSome mid (λ m. NoneFailed fm fn → CommitsOutcome o m new io status ⊎ HasMemoryFailure o (command_memory_message line) m new io status) → IfSome known (λ m. NoneFailed fo fn → RunHasOutcome (IsOutcomeOfCommand line) (command_memory_message line) m new io status)
 line_done None mid new fo fm fn line last_failure o io status same early later computes performs = tt
 line_done (Some m) mid new fo fm fn line last_failure o io status same early later computes performs = λ none.
     let between = none_before fo fm fn early later none in
@@ -62,7 +62,7 @@ line_done (Some m) mid new fo fm fn line last_failure o io status same early lat
     by (inr memory) = inr memory
 
 -- a line that was run
-pub line_run : (known new : Option Files) (fo fn : ℕ) (args : List (List ℕ)) (line : CommandView) (io : Streams) (status : Status) → line_of args ≡ Ok line → IfSome known (λ m. NoneFailed fo fn → RunSatisfies (IsOutcomeOfCommand line) (command_memory_message line) m new io status) → IfSome known (λ m. NoneFailed fo fn → RunsCommand args m new io status)
+pub line_run : (known new : Option Files) (fo fn : ℕ) (args : List (List ℕ)) (line : CommandView) (io : Streams) (status : Status) → line_of args ≡ Ok line → IfSome known (λ m. NoneFailed fo fn → RunHasOutcome (IsOutcomeOfCommand line) (command_memory_message line) m new io status) → IfSome known (λ m. NoneFailed fo fn → RunsCommand args m new io status)
 line_run None new fo fn args line io status e h = tt
 line_run (Some m) new fo fn args line io status e h = λ none. rw e (inl (h none))
 
@@ -76,7 +76,7 @@ refused_words (Some m) new args OutOfMemory out err_old err_new out_refused err_
     printed : CommitsOutcome (error_outcome arguments_memory_message) m new (streams out out out_refused err_old err_new err_refused) status
     printed = says m new out err_old err_new arguments_memory_message out_refused err_refused status same f quiet p
 
-    either : (r : Result CommandView LineFault) → ArgsRunSatisfies r m new (streams out out out_refused err_old err_new err_refused) status
+    either : (r : Result CommandView LineFault) → ArgsRunHasOutcome r m new (streams out out out_refused err_old err_new err_refused) status
     either (Ok line) = inr printed
     either (Err e) = (error_outcome arguments_memory_message, inr refl, inl printed)
 

@@ -21,9 +21,9 @@ no_fault y (Some f) o e = absurd cc
 
 laid_of : (x : Source) (m : Module) → IsObjectOf x m → (y : Layout) × IsLayoutOf x y × whole.IsObjectOfLayout y m
 laid_of x m (a, p, (r, laid, is), found, version) =
-    let sound = no_fault r.following r.fault p (sym (ap (λ z. z.result) is) ∙ found) in
-    let there : IsLayoutOf x r.following = subst (λ f. AreLaidOut x.files x.job (record { following = r.following; fault = f })) sound.0 laid in
-    (r.following, there, record { no_line_errors = laid_out_law x.files x.job r laid; well_formed_layout = sound_layout x.files x.job r laid; written = p; object = sound.1; version = version })
+    let sound = no_fault r.state r.fault p (sym (ap (λ z. z.result) is) ∙ found) in
+    let there : IsLayoutOf x r.state = subst (λ f. AreLaidOut x.files x.job (record { state = r.state; fault = f })) sound.0 laid in
+    (r.state, there, record { no_line_errors = laid_out_law x.files x.job r laid; well_formed_layout = sound_layout x.files x.job r laid; written = p; object = sound.1; version = version })
 
 all_laid : (xs : List Source) (ms : List Module) → AreObjectsOf xs ms → (ys : List Layout) × AreLayoutsOf xs ys × AreObjectsOfLayouts ys ms
 all_laid [] [] h = ([], tt, tt)
@@ -42,8 +42,8 @@ laid_once [] [] (z ∷ zs) h k = absurd k
 laid_once (x ∷ xs) [] zs h k = absurd h
 laid_once (x ∷ xs) (y ∷ ys) [] h k = absurd k
 laid_once (x ∷ xs) (y ∷ ys) (z ∷ zs) h k =
-    let one : Layout → ReachedState Layout = λ l. record { following = l; fault = None } in
-    let same : y ≡ z = ap (λ (r : ReachedState Layout). r.following) (one_layout x.files x.job (one y) (one z) h.0 k.0) in
+    let one : Layout → ReachedState Layout = λ l. record { state = l; fault = None } in
+    let same : y ≡ z = ap (λ (r : ReachedState Layout). r.state) (one_layout x.files x.job (one y) (one z) h.0 k.0) in
     ap (λ l. l ∷ ys) same ∙ ap (λ ls. z ∷ ls) (laid_once xs ys zs h.1 k.1)
 
 pub one_program : OneProgramLaw

@@ -15,9 +15,9 @@ use Rattle.whole65.specs.Equality.{IsLinkedTo}
 use Rattle.ld65.specs.declared.fault.LinkCommandFault.{LinkCommandFault}
 use Rattle.ld65.specs.Linkage.{IsCommandLink, output_of}
 use Rattle.ld65.specs.Faults.{link_memory_message}
-use Rattle.tools65.specs.Command.{RunsCommand, IsOutcomeOfLink, IsOutcomeOfCommand, RunSatisfies, ArgsRunSatisfies, command_memory_message, link_outcome}
+use Rattle.tools65.specs.Command.{RunsCommand, IsOutcomeOfLink, IsOutcomeOfCommand, RunHasOutcome, ArgsRunHasOutcome, command_memory_message, link_outcome}
 use Rattle.output65.specs.RunEffects.{CommitsOutcome, FilesAfterRun, WritesPrefix, HasMemoryFailure, Streams, with_outputs, has_accepted_both}
-use Rattle.tools65.specs.OneProgram.{IsWholeProgramOutcome, HasFiles, HasNoImage, IsLinkError, CommandLinksWholeProgram, LineLinksOneProgram, LinksWholeProgram, RunLinksOneProgram, SelectsSources, Source, HasImage, ArgsLinkWholeProgram, WritesWholeProgram, HasWrittenFiles}
+use Rattle.tools65.specs.OneProgram.{IsWholeProgramOutcome, HasFiles, HasNoImage, IsLinkError, CommandLinksWholeProgram, LineLinksOneProgram, LinksWholeProgram, RunLinksOneProgram, SelectsObjectsOf, Source, HasImage, ArgsLinkWholeProgram, AgreesWithWholeProgram, HasWrittenFiles}
 use Rattle.output65.specs.Outputs.{error_outcome, with_map}
 use Rattle.output65.specs.declared.outcome.Outcome.{Outcome}
 use Rattle.output65.specs.declared.outcome.Status.{Status}
@@ -73,7 +73,7 @@ left_alone : (o : Outcome) (memory : List ℕ) (m : Files) (new : Option Files) 
 left_alone o memory m new io status none fails (inl p) = settled_alone o m new status (has_accepted_both io) none fails p.file_effects
 left_alone o memory m new io status none fails (inr p) = absurd (no_place o.outputs p.index m new none p.file_effects)
 
-module _ (l : LinkView) (m : Files) (s : Script) (xs : List Source) (k : SelectsSources l m s xs) where
+module _ (l : LinkView) (m : Files) (s : Script) (xs : List Source) (k : SelectsObjectsOf l m s xs) where
   -- a link that succeeds is that of the modules that the line selects
   fed_so : (linked : Linked) → IsCommandLink m l (Ok linked) → LinkOf (output_of l) s k.modules (Ok linked)
   fed_so linked h =
@@ -135,7 +135,7 @@ module _ (l : LinkView) (m : Files) (s : Script) (xs : List Source) (k : Selects
       by_only (inl (files, w, has)) = absurd (none files w)
       by_only (inr (none_there, (e, same))) = (ap (λ (z : Outcome). z.outputs) same, ap (λ (z : Outcome). z.status) same)
 
-  writes_whole : (new : Option Files) (io : Streams) (status : Status) → RunSatisfies (IsOutcomeOfLink l) link_memory_message m new io status → WritesWholeProgram l s xs m new io status
+  writes_whole : (new : Option Files) (io : Streams) (status : Status) → RunHasOutcome (IsOutcomeOfLink l) link_memory_message m new io status → AgreesWithWholeProgram l s xs m new io status
   writes_whole new io status (o, IsOutcomeOf, left) = record {
     run_effect = (o, carried IsOutcomeOf, left);
     on_success = λ e. (let well = carried_out o link_memory_message m new io status e left in wrote o new IsOutcomeOf well.0 well.1);
@@ -149,23 +149,23 @@ module _ (l : LinkView) (m : Files) (s : Script) (xs : List Source) (k : Selects
 -- ---- Lines and arguments.
 
 module _ (m : Files) (new : Option Files) (io : Streams) (status : Status) where
-  links_whole : (line : CommandView) (l : LinkView) → RunSatisfies (IsOutcomeOfCommand line) (command_memory_message line) m new io status → line ≡ link l → LinksWholeProgram l m new io status
+  links_whole : (line : CommandView) (l : LinkView) → RunHasOutcome (IsOutcomeOfCommand line) (command_memory_message line) m new io status → line ≡ link l → LinksWholeProgram l m new io status
   links_whole line l ran same s xs k =
-      let there : RunSatisfies (IsOutcomeOfLink l) link_memory_message m new io status =
-      subst (λ (z : CommandView). RunSatisfies (IsOutcomeOfCommand z) (command_memory_message z) m new io status) same ran in
+      let there : RunHasOutcome (IsOutcomeOfLink l) link_memory_message m new io status =
+      subst (λ (z : CommandView). RunHasOutcome (IsOutcomeOfCommand z) (command_memory_message z) m new io status) same ran in
       writes_whole l m s xs k new io status there
 
-  line_links : (line : CommandView) → RunSatisfies (IsOutcomeOfCommand line) (command_memory_message line) m new io status → CommandLinksWholeProgram line m new io status
+  line_links : (line : CommandView) → RunHasOutcome (IsOutcomeOfCommand line) (command_memory_message line) m new io status → CommandLinksWholeProgram line m new io status
   unfolding CommandLinksWholeProgram
   line_links line ran l same = links_whole line l ran same
 
-  either : (l : LinkView) → ArgsRunSatisfies (Ok (link l)) m new io status → LinksWholeProgram l m new io status ⊎ CommitsOutcome (error_outcome arguments_memory_message) m new io status
+  either : (l : LinkView) → ArgsRunHasOutcome (Ok (link l)) m new io status → LinksWholeProgram l m new io status ⊎ CommitsOutcome (error_outcome arguments_memory_message) m new io status
   either l (inl ran) = inl (links_whole (link l) l ran refl)
   either l (inr p) = inr p
 
-  words_link : (parsed : Result CommandView LineFault) → ArgsRunSatisfies parsed m new io status → ArgsLinkWholeProgram parsed m new io status
+  words_link : (parsed : Result CommandView LineFault) → ArgsRunHasOutcome parsed m new io status → ArgsLinkWholeProgram parsed m new io status
   unfolding ArgsLinkWholeProgram
-  words_link parsed ran l same = either l (subst (λ (z : Result CommandView LineFault). ArgsRunSatisfies z m new io status) same ran)
+  words_link parsed ran l same = either l (subst (λ (z : Result CommandView LineFault). ArgsRunHasOutcome z m new io status) same ran)
 
 pub words_law : RunLinksOneProgram
 words_law args m new io status ran = words_link m new io status (line_of args) ran
@@ -174,7 +174,7 @@ pub lines_law : LineLinksOneProgram
 lines_law line m new io status ran = line_links m new io status line ran
 
 -- a line that was run
-pub line_whole : (known new : Option Files) (fo fn : ℕ) (line : CommandView) (io : Streams) (status : Status) → IfSome known (λ m. NoneFailed fo fn → RunSatisfies (IsOutcomeOfCommand line) (command_memory_message line) m new io status) → IfSome known (λ m. NoneFailed fo fn → CommandLinksWholeProgram line m new io status)
+pub line_whole : (known new : Option Files) (fo fn : ℕ) (line : CommandView) (io : Streams) (status : Status) → IfSome known (λ m. NoneFailed fo fn → RunHasOutcome (IsOutcomeOfCommand line) (command_memory_message line) m new io status) → IfSome known (λ m. NoneFailed fo fn → CommandLinksWholeProgram line m new io status)
 line_whole None new fo fn line io status h = tt
 line_whole (Some m) new fo fn line io status h = λ none. line_links m new io status line (h none)
 

@@ -9,7 +9,7 @@ use Rattle.semantics65.specs.Module.{LocatedFault}
 use Rattle.sources65.specs.Reading.{Define, Job}
 use Rattle.tools65.specs.Naming.{IsObjectName}
 
--- a constant of a line, as the assembler has it
+-- a constant that a command line defines, as the assembler has it
 abbrev pub define_in : DefineView → Define
 define_in d = (d.name, d.value)
 
@@ -17,7 +17,7 @@ define_in d = (d.name, d.value)
 abbrev pub job_in : AssembleView → Job
 job_in a = record { source = a.source; include = a.include; defines = map define_in a.defines }
 
--- the name of the object's file: the one that the line gives, or else the source's with `.o`
+-- the name of the object's file: the one that the command line gives, or else the source's with `.o`
 abbrev pub IsOutputName : Option (List ℕ) → List ℕ → List ℕ → Type 0
 IsOutputName None source name = IsObjectName source name
 IsOutputName (Some given) source name = name ≡ given

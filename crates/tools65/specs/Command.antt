@@ -1,5 +1,5 @@
--- The outcome of a command: two texts, files and a status. (`asm.Outcome` is the assembler's: an object or an error, and two
--- texts.)
+-- The outcome of a command: the texts for standard output and standard error, files and a status. (`asm.Outcome` is the
+-- assembler's: an object or an error, and two such texts.)
 use Rattle.std.specs.Prelude.{◌≡◌, ℕ, ◌⊎◌, List, [], ◌++◌, Option, Result, Ok, Err, if◌then◌else◌}
 use Rattle.base65.specs.Store.{Files}
 use Rattle.object65.specs.declared.object.Object.{Object}
@@ -51,11 +51,11 @@ IsAssemblyOutcome a x o = IsResultOutcome a x.out x.err x.result o
 abbrev pub IsOutcomeOfAssemble : AssembleView → Files → Outcome → Type 0
 IsOutcomeOfAssemble a m o = (x : asm.Outcome) × IsOutcome m (job_in a) x × IsAssemblyOutcome a x o
 
--- The outcome of a run is one that the files determine, or only reports that memory ran out. The run commits the outcome, or
--- memory ran out while it wrote the files. `Files` are the files before the run, and `Option Files` those after it: `None` means
--- that the store doesn't reveal them, and then no run satisfies this.
-abbrev pub RunSatisfies : (Files → Outcome → Type 0) → List ℕ → Files → Option Files → Streams → Status → Type 0
-RunSatisfies IsOutcomeOf memory_text m new io status =
+-- A run has an outcome that `IsOutcomeOf` allows for the files before the run, or one that only reports that memory ran out. The
+-- run prints the outcome's texts, writes its files and returns its status, or memory ran out while it wrote the files. `Option
+-- Files` are the files after the run: `None` means that they aren't known, and then no run satisfies this.
+abbrev pub RunHasOutcome : (Files → Outcome → Type 0) → List ℕ → Files → Option Files → Streams → Status → Type 0
+RunHasOutcome IsOutcomeOf memory_text m new io status =
     (o : Outcome) × (IsOutcomeOf m o ⊎ (o ≡ error_outcome memory_text)) × (CommitsOutcome o m new io status ⊎ HasMemoryFailure o memory_text m new io status)
 
 -- the outcome of a command line, given the files
@@ -75,13 +75,14 @@ command_memory_message (assemble a) = file_memory_message a.source
 command_memory_message (link l) = link_memory_message
 command_memory_message (archive a) = file_memory_message a.library
 
--- A run with these arguments: a run of the command line that they parse to, or, if they don't parse, of an error message.
--- Memory may also run out before they are parsed.
-abbrev pub ArgsRunSatisfies : Result CommandView LineFault → Files → Option Files → Streams → Status → Type 0
-ArgsRunSatisfies (Ok line) m new io status =
-    RunSatisfies (IsOutcomeOfCommand line) (command_memory_message line) m new io status ⊎ CommitsOutcome (error_outcome arguments_memory_message) m new io status
-ArgsRunSatisfies (Err e) m new io status =
-    RunSatisfies (IsOutcomeOfArgs (Err e)) arguments_memory_message m new io status
+-- A run with these arguments: of the command line that they parse to; if they don't parse, the run reports an error. Memory may
+-- also run out before they are parsed.
+abbrev pub ArgsRunHasOutcome : Result CommandView LineFault → Files → Option Files → Streams → Status → Type 0
+ArgsRunHasOutcome (Ok line) m new io status =
+    RunHasOutcome (IsOutcomeOfCommand line) (command_memory_message line) m new io status ⊎ CommitsOutcome (error_outcome arguments_memory_message) m new io status
+ArgsRunHasOutcome (Err e) m new io status =
+    RunHasOutcome (IsOutcomeOfArgs (Err e)) arguments_memory_message m new io status
 
+-- Clause `done`: what a run with these arguments prints, writes and returns.
 abbrev pub RunsCommand : List (List ℕ) → Files → Option Files → Streams → Status → Type 0
-RunsCommand args = ArgsRunSatisfies (line_of args)
+RunsCommand args = ArgsRunHasOutcome (line_of args)

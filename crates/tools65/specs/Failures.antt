@@ -15,7 +15,7 @@ use Rattle.cli65.specs.Line.{CommandView, assemble, link, archive, line_of}
 use Rattle.semantics65.specs.Module.{LocatedFault}
 use Rattle.asm65.specs.Failing.{IsStoreFailureOutcome}
 use Rattle.tools65.specs.Assembling.{asm_message, job_in}
-use Rattle.tools65.specs.Command.{ArgsRunSatisfies, command_memory_message}
+use Rattle.tools65.specs.Command.{ArgsRunHasOutcome, command_memory_message}
 use Rattle.tools65.specs.ObjectFits.{IsFittingOutcome}
 use Rattle.output65.specs.RunEffects.{CommitsOutcome, Streams}
 use Rattle.output65.specs.WriteFailures.{HasWriteFailure}
@@ -70,7 +70,7 @@ ParsedRunFails count (Ok line) m new last_failure io status =
     CommandRunFails line m new last_failure io status
     ⊎ ((count ≡ max_failures) × CommitsOutcome (error_outcome arguments_memory_message) m new io status)
 ParsedRunFails count (Err e) m new last_failure io status =
-    ArgsRunSatisfies (Err e) m new io status
+    ArgsRunHasOutcome (Err e) m new io status
 
 unfoldable pub ArgsRunFails : ℕ → List (List ℕ) → Files → Option Files → LastFailure → Streams → Status → Type 0
 ArgsRunFails count args = ParsedRunFails count (line_of args)

@@ -12,7 +12,7 @@ use Rattle.script65.specs.Scripts.{IsScript}
 use Rattle.script65.specs.declared.script.Script.{Script}
 use Rattle.cli65.specs.Line.{LinkView}
 use Rattle.ld65.specs.Linkage.{member_input}
-use Rattle.tools65.specs.OneProgram.{AreModulesOfInput, IsModuleOf, IsObjectOf, SelectsSources, Source}
+use Rattle.tools65.specs.OneProgram.{AreModulesOfInput, IsModuleOf, IsObjectOf, SelectsObjectsOf, Source}
 use Rattle.tools65.specs.ObjectFiles.{IsOneOf, IsSourceInput, IsObjectFileOf}
 
 -- the bytes that ca65 wrote from a source encode an object of the grammar
@@ -40,4 +40,4 @@ abbrev pub SourcesSelectedLaw : Type 0
 SourcesSelectedLaw =
     (sources : List Source) (l : LinkView) (m : Files) (text : List ℕ) (s : Script) →
     get m l.script ≡ Some text → IsScript text (Ok s) → AllByRecursion (IsSourceInput sources m) l.inputs →
-    (xs : List Source) × AllByRecursion (IsOneOf sources) xs × SelectsSources l m s xs
+    (xs : List Source) × AllByRecursion (IsOneOf sources) xs × SelectsObjectsOf l m s xs

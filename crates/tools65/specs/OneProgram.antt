@@ -1,4 +1,4 @@
--- The link of objects that ca65 wrote, and the whole program of their sources.
+-- The link of objects that the assembler wrote, and the whole program of their sources.
 use Rattle.std.specs.Prelude.{◌≡◌, ℕ, ◌⊎◌, ◌↔◌, true, List, [], ◌∷◌, ◌++◌, Option, Some, None, Result, Ok, ⊤}
 use Rattle.std.specs.FinMap.{get}
 use Rattle.base65.specs.Store.{Files}
@@ -26,19 +26,20 @@ use Rattle.ld65.specs.declared.fault.LinkCommandFault.{LinkCommandFault}
 use Rattle.output65.specs.declared.outcome.Outcome.{Outcome}
 use Rattle.output65.specs.declared.outcome.Status.{Status}
 use Rattle.output65.specs.declared.outcome.Status.TheVariants.{Failure, Success}
-use Rattle.tools65.specs.Command.{RunsCommand, IsOutcomeOfLink, IsOutcomeOfCommand, RunSatisfies, command_memory_message}
+use Rattle.tools65.specs.Command.{RunsCommand, IsOutcomeOfLink, IsOutcomeOfCommand, RunHasOutcome, command_memory_message}
 use Rattle.output65.specs.RunEffects.{CommitsOutcome, with_outputs, Streams}
 use Rattle.output65.specs.Outputs.{error_outcome, with_map}
 
--- ---- Sources, what ca65 writes from them, and what they are as one program.
+-- ---- Sources, their objects, and what they are as one program.
 
--- a source as ca65 is given it: files, and what is assembled of them
+-- the input of a run of the assembler: all files at that time, and the job, which names the source file, the folders of included files
+-- and the constants that the command line defines
 pub record Source : Type 0 where
   pub files : Files
   pub job : Job
 
--- A module's object is one that ca65 wrote from a source: the result of assembling it, or version 1 of this object, which names
--- no files: its locations have only lines.
+-- A module's object is the one that the assembler makes of a source, or this object in version 1 of the file format, which has no
+-- file names: its locations have only lines.
 abbrev pub IsObjectOf : Source → Module → Type 0
 IsObjectOf x m = (o : asm.Outcome) × (p : Object) × IsOutcome x.files x.job o × (o.result ≡ Ok p) × IsEitherVersion p m.object
 
@@ -48,10 +49,11 @@ AreObjectsOf (x ∷ xs) (m ∷ ms) = IsObjectOf x m × AreObjectsOf xs ms
 AreObjectsOf [] (m ∷ ms) = ⊥
 AreObjectsOf (x ∷ xs) [] = ⊥
 
--- The expanded statements of a source have this layout, and none has an error at its line. (`AreLaidOut` states which state a
--- source reaches: `following` is the layout of the statements before the first error at a line, and `fault` is that error.)
+-- The expanded statements of a source have this layout, and none is rejected at its line. (Errors that are found after the last
+-- line are stated elsewhere. `AreLaidOut` states which state a source reaches: `state` is the layout of the statements before the
+-- first rejected one, and `fault` is its error.)
 abbrev pub IsLayoutOf : Source → Layout → Type 0
-IsLayoutOf x y = AreLaidOut x.files x.job (record { following = y; fault = None })
+IsLayoutOf x y = AreLaidOut x.files x.job (record { state = y; fault = None })
 
 -- the same for each of these sources
 abbrev pub AreLayoutsOf : List Source → List Layout → Type 0
@@ -60,25 +62,25 @@ AreLayoutsOf (x ∷ xs) (y ∷ ys) = IsLayoutOf x y × AreLayoutsOf xs ys
 AreLayoutsOf [] (y ∷ ys) = ⊥
 AreLayoutsOf (x ∷ xs) [] = ⊥
 
--- the sources, laid out and evaluated as one program, have this image
+-- the sources, each laid out by itself and all evaluated as one program, have this image
 abbrev pub HasImage : List ℕ → Script → List Source → List OutputFile → Type 0
 HasImage output s xs files = (ys : List Layout) × AreLayoutsOf xs ys × IsWholeProgramImage output s ys files
 
--- Linking the objects that ca65 wrote from sources gives files if and only if the sources have an image as one program, and
+-- Linking the objects that the assembler makes of sources gives files if and only if the sources have an image as one program, and
 -- these files are the image.
 abbrev pub OneProgramLaw : Type 0
 OneProgramLaw =
     (output : List ℕ) (s : Script) (xs : List Source) (ms : List Module) (files : List OutputFile) →
     AreObjectsOf xs ms → HasImage output s xs files ↔ IsLinkedTo output s ms files
 
--- It is decided whether sources have an image: they have one, or a proof that they have none.
+-- It is decidable whether sources have an image: there is one, or a proof that there is none.
 abbrev pub ImageIsDecidable : Type 0
 ImageIsDecidable =
     (output : List ℕ) (s : Script) (xs : List Source) (ms : List Module) → AreObjectsOf xs ms →
     ((files : List OutputFile) × HasImage output s xs files)
     ⊎ ((files : List OutputFile) → HasImage output s xs files → ⊥)
 
--- ---- The modules that a line selects: the objects given, and of each library the members that are needed.
+-- ---- The modules that a command line selects: the objects given, and of each library the members that are needed.
 
 -- the module of an input's object; a library's member agrees with its index entry
 abbrev pub IsModuleOf : Files → Input → Module → Type 0
@@ -111,9 +113,9 @@ AreModulesOfInputs s m before (name ∷ names) ms =
 
 -- ---- A run.
 
--- The script of a command line is this one, and the modules that the line selects are objects that ca65 wrote from these
--- sources, in this order, each of either version.
-pub record SelectsSources (l : LinkView) (m : Files) (s : Script) (xs : List Source) : Type 0 where
+-- The script of a command line is this one, and the modules that the command line selects are the objects that the assembler makes
+-- of these sources, in this order, each in either version of the format.
+pub record SelectsObjectsOf (l : LinkView) (m : Files) (s : Script) (xs : List Source) : Type 0 where
   pub text : List ℕ
   pub file : get m l.script ≡ Some text
   pub script : IsScript text (Ok s)
@@ -121,7 +123,7 @@ pub record SelectsSources (l : LinkView) (m : Files) (s : Script) (xs : List Sou
   pub selected : AreModulesOfInputs s m [] l.inputs modules
   pub objects : AreObjectsOf xs modules
 
--- a link's outcome has the files of an image, and then the map
+-- a link succeeds: its outcome has these files, and then the map; it prints nothing but warnings
 abbrev pub HasFiles : LinkView → List OutputFile → Outcome → Type 0
 HasFiles l files o =
     (warnings : List ℕ) × (map : List ℕ) × (o ≡ record { out = []; err = warnings; outputs = with_map l.map files map; status = Success })
@@ -138,8 +140,8 @@ IsLinkError l o = (e : LinkCommandFault) × (o ≡ error_outcome (error_message 
 abbrev pub HasNoImage : LinkView → Script → List Source → Type 0
 HasNoImage l s xs = (files : List OutputFile) → HasImage (output_of l) s xs files → ⊥
 
--- An outcome of a link's command line with these files: it is determined by the image of the sources as one program. (That the
--- modules are objects of these sources is a premise of `LinksWholeProgram`.)
+-- An outcome of a link's command line with these files: whether it succeeds, and which files it has but for the map, is determined
+-- by the image of the sources as one program. (That the modules are objects of these sources is a premise of `LinksWholeProgram`.)
 pub record IsWholeProgramOutcome (l : LinkView) (s : Script) (xs : List Source) (m : Files) (o : Outcome) : Type 0 where
   pub is_link_outcome : IsOutcomeOfLink l m o
   -- if the sources have an image as one program, the outcome has its files, and then the map
@@ -149,29 +151,29 @@ pub record IsWholeProgramOutcome (l : LinkView) (s : Script) (xs : List Source) 
       ((files : List OutputFile) × HasImage (output_of l) s xs files × HasFiles l files o)
       ⊎ (HasNoImage l s xs × IsLinkError l o)
 
--- A run of a link of sources' objects writes the image that the sources have as one program, or reports an error if they have
+-- What `one_program` states of a run: a link of sources' objects writes the image that the sources have as one program, or reports an error if they have
 -- none; or memory runs out, which it reports.
-pub record WritesWholeProgram (l : LinkView) (s : Script) (xs : List Source) (m : Files) (new : Option Files) (io : Streams) (status : Status) : Type 0 where
+pub record AgreesWithWholeProgram (l : LinkView) (s : Script) (xs : List Source) (m : Files) (new : Option Files) (io : Streams) (status : Status) : Type 0 where
   -- the run commits an outcome of the whole program, or memory ran out while it wrote the files; or it only reports that memory
   -- ran out
-  pub run_effect : RunSatisfies (IsWholeProgramOutcome l s xs) link_memory_message m new io status
+  pub run_effect : RunHasOutcome (IsWholeProgramOutcome l s xs) link_memory_message m new io status
   -- a run that succeeds wrote the image and the map
   pub on_success :
       status ≡ Success → (files : List OutputFile) × HasImage (output_of l) s xs files × HasWrittenFiles l files m new
   -- if the sources have no image, no file is written and the run fails
   pub on_no_image : HasNoImage l s xs → (new ≡ Some m) × (status ≡ Failure)
 
--- the same for every script and list of sources that the command line selects
+-- the same for every script, and for all sources whose objects the command line selects; of other objects this states nothing
 abbrev pub LinksWholeProgram : LinkView → Files → Option Files → Streams → Status → Type 0
 LinksWholeProgram l m new io status =
-    (s : Script) (xs : List Source) → SelectsSources l m s xs → WritesWholeProgram l s xs m new io status
+    (s : Script) (xs : List Source) → SelectsObjectsOf l m s xs → AgreesWithWholeProgram l s xs m new io status
 
--- the same for a command line, if it is a link
+-- Clause `one_program` for a parsed command line: the same if it is a link; of other commands this states nothing.
 unfoldable pub CommandLinksWholeProgram : CommandView → Files → Option Files → Streams → Status → Type 0
 CommandLinksWholeProgram line m new io status =
     (l : LinkView) → line ≡ link l → LinksWholeProgram l m new io status
 
--- The same for arguments that parse to a link, unless memory ran out while they were parsed.
+-- Clause `one_program` for arguments: the same if they parse to a link, unless memory ran out while they were parsed.
 unfoldable pub ArgsLinkWholeProgram : Result CommandView LineFault → Files → Option Files → Streams → Status → Type 0
 ArgsLinkWholeProgram parsed m new io status =
     (l : LinkView) → parsed ≡ Ok (link l)
@@ -186,4 +188,4 @@ RunLinksOneProgram =
 abbrev pub LineLinksOneProgram : Type 0
 LineLinksOneProgram =
     (line : CommandView) (m : Files) (new : Option Files) (io : Streams) (status : Status) →
-    RunSatisfies (IsOutcomeOfCommand line) (command_memory_message line) m new io status → CommandLinksWholeProgram line m new io status
+    RunHasOutcome (IsOutcomeOfCommand line) (command_memory_message line) m new io status → CommandLinksWholeProgram line m new io status

@@ -5,7 +5,7 @@ ghost use Rattle.base65.specs.Store.{HasFailed, NoneFailed};
 ghost use Rattle.cli65.specs.Line.{line_of, view};
 ghost use Rattle.cli65.specs.Messages.{file_memory_message};
 ghost use Rattle.output65.specs.RunEffects.{HaveSameWriters, ForStreamsOverWriters, stream_states};
-ghost use Rattle.tools65.specs.Command.{RunsCommand, IsOutcomeOfCommand, RunSatisfies, command_memory_message};
+ghost use Rattle.tools65.specs.Command.{RunsCommand, IsOutcomeOfCommand, RunHasOutcome, command_memory_message};
 ghost use Rattle.tools65.specs.Failures.{CommandRunFails, ArgsRunFails};
 ghost use Rattle.tools65.specs.ObjectFits.{RunObjectFits, ArgsObjectFits};
 ghost use Rattle.tools65.specs.Internal.ComputedOutcomes.{ComputesOutcome, ComputeFrame};
@@ -61,7 +61,7 @@ pub fn run_line_with_streams<S: Store, W: Write, E: Write>(
     ensures same { HaveSameWriters out.old out.new err.old err.new }
     ensures done { IfSome (S.files store.old) (λ m.
         NoneFailed (S.failures store.old) (S.failures store.new) →
-        RunSatisfies (IsOutcomeOfCommand (view line.now)) (command_memory_message (view line.now)) m
+        RunHasOutcome (IsOutcomeOfCommand (view line.now)) (command_memory_message (view line.now)) m
         (S.files store.new)
         (stream_states W.contents E.contents out.old out.new err.old err.new) result) }
     ensures fits { IfSome (S.files store.old) (λ m.
@@ -101,7 +101,7 @@ pub fn run_line<S: Store, W: Write, E: Write>(
         NoneFailed (S.failures store.old) (S.failures store.new) →
         ForStreamsOverWriters (W.contents out.old) (W.contents out.new) (E.contents err.old)
         (E.contents err.new)
-        (λ io. RunSatisfies (IsOutcomeOfCommand (view line.now))
+        (λ io. RunHasOutcome (IsOutcomeOfCommand (view line.now))
         (command_memory_message (view line.now)) m (S.files store.new) io result)) }
     ensures fits { IfSome (S.files store.old) (λ m.
         NoneFailed (S.failures store.old) (S.failures store.new) →

@@ -25,7 +25,7 @@ use Rattle.whole65.proofs.SameValues.{bind_ok, written_ok, same_values_law}
 use Rattle.whole65.proofs.SectionBytes.{in_middle}
 use Rattle.whole65.proofs.Statements.{AreStated, IsSaidBy, SaidOnce, a_line, are_stated, left_out, no_line, no_name, said_append, said_first, stated}
 use Rattle.whole65.specs.Objects.{IsLinkerView, HasValue, LinkerView, form_value}
-use Rattle.whole65.specs.Segments.{segment_statement, segment_statements_after}
+use Rattle.whole65.specs.Segments.{module_statement, module_statements_after}
 use Rattle.whole65.specs.Values.{Program, Value}
 use Rattle.whole65.specs.Whole.{SatisfiesAssertion, AssertionHolds, PassAssertions}
 use Rattle.std.specs.Ordering.{int_eq}
@@ -111,13 +111,13 @@ module _ {E : Type 0} (p : Program) (o : LinkerView E) (h : IsLinkerView p o) (o
       let value : (v : ℤ) → Value p owner number e v ↔ HasValue o owner f v = λ v. same_values_law E p o h (suc (length (o.symbols owner).definitions)) owner number e f v q in
       grind (arith, common_steps, decided_passes)
 
-  line_passes : (names : List (List ℕ)) (before : List LaidOutStatement) (l : LaidOutStatement) (ss : List Declaration) → o.contexts owner (length before) ≡ l.context → IsSaidBy (o.symbols owner) names l l.stated ss → SatisfiesAssertion p (segment_statement owner before l) ↔ AllPass o owner ss
+  line_passes : (names : List (List ℕ)) (before : List LaidOutStatement) (l : LaidOutStatement) (ss : List Declaration) → o.contexts owner (length before) ≡ l.context → IsSaidBy (o.symbols owner) names l l.stated ss → SatisfiesAssertion p (module_statement owner before l) ↔ AllPass o owner ss
   line_passes names before l ss at d = go l.stated d
     where
       silent : AllPass o owner ss → ⊤ ↔ AllPass o owner ss
       silent all = (λ k. all, λ k. tt)
 
-      go : (x : Statement) → IsSaidBy (o.symbols owner) names l x ss → SatisfiesAssertion p (segment_statement owner before (record l { stated = x })) ↔ AllPass o owner ss
+      go : (x : Statement) → IsSaidBy (o.symbols owner) names l x ss → SatisfiesAssertion p (module_statement owner before (record l { stated = x })) ↔ AllPass o owner ss
       go (Export ns) d = silent (exports_pass o owner d)
       go (Global size ns) d = silent (exports_pass o owner d)
       go (ForceImport ns) d = silent (subst (AllPass o owner) (sym d) (demanded_pass o owner ns))
@@ -126,7 +126,7 @@ module _ {E : Type 0} (p : Program) (o : LinkerView E) (h : IsLinkerView p o) (o
 
   -- ---- Lines.
 
-  pub lines_pass : (all : List LaidOutStatement) → ((index : ℕ) (l : LaidOutStatement) → slice_get all index ≡ Some l → o.contexts owner index ≡ l.context) → (before ls : List LaidOutStatement) (names : List (List ℕ)) (cs : List Content) → before ++ ls ≡ all → AreStated (o.symbols owner) names ls cs → AllByRecursion (SatisfiesAssertion p) (segment_statements_after owner before ls) ↔ AllPass o owner (all_declarations cs)
+  pub lines_pass : (all : List LaidOutStatement) → ((index : ℕ) (l : LaidOutStatement) → slice_get all index ≡ Some l → o.contexts owner index ≡ l.context) → (before ls : List LaidOutStatement) (names : List (List ℕ)) (cs : List Content) → before ++ ls ≡ all → AreStated (o.symbols owner) names ls cs → AllByRecursion (SatisfiesAssertion p) (module_statements_after owner before ls) ↔ AllPass o owner (all_declarations cs)
   lines_pass all contexts before [] names _ w no_line = (λ k. tt, λ k. tt)
   lines_pass all contexts before (l ∷ ls) names _ w (a_line ds cs found more) =
       let next : (before ++ l ∷ []) ++ ls ≡ all = append_assoc before (l ∷ []) ls ∙ w in
@@ -246,12 +246,12 @@ module _ (s : Script) (placement : Placement) (ys : List Layout) (ms : List Modu
     context_there : (index : ℕ) (x : LaidOutStatement) → slice_get y.laid index ≡ Some x → o.contexts owner index ≡ x.context
     context_there index x e = ap (λ r. context_in r index) at_y ∙ ap (context_or (global_context y)) e
 
-    lines_agree : AllByRecursion (SatisfiesAssertion p) (segment_statements_after owner [] y.laid) ↔ AllByRecursion (IsPassed o owner) (all_declarations cs)
+    lines_agree : AllByRecursion (SatisfiesAssertion p) (module_statements_after owner [] y.laid) ↔ AllByRecursion (IsPassed o owner) (all_declarations cs)
     lines_agree =
         lines_pass p o (sources_law s placement ys ms h) owner y.laid context_there [] y.laid [] cs refl
         (subst (λ z. AreStated z [] y.laid cs) (sym table_there) (are_stated y cs found))
 
-  one_source : (owner : ℕ) (y : Layout) (m : Module) → slice_get ys owner ≡ Some y → slice_get ms owner ≡ Some m → IsObjectOfLayout y m → AllByRecursion Passing (map (linked.linked_assertion owner) m.object.asserts) ↔ AllByRecursion (SatisfiesAssertion p) (segment_statements_after owner [] y.laid)
+  one_source : (owner : ℕ) (y : Layout) (m : Module) → slice_get ys owner ≡ Some y → slice_get ms owner ≡ Some m → IsObjectOfLayout y m → AllByRecursion Passing (map (linked.linked_assertion owner) m.object.asserts) ↔ AllByRecursion (SatisfiesAssertion p) (module_statements_after owner [] y.laid)
   one_source owner y m at_y at_m source =
       let c : HasContents y m = contents_of y m source in
       let cs : List Content = c.contents in

@@ -21,7 +21,7 @@ use Rattle.whole65.proofs.Positions.{IsAbsent, other_part, all_front, itself, al
 use Rattle.whole65.proofs.Multiples.{equal}
 use Rattle.whole65.proofs.Offsets.{placed}
 use Rattle.whole65.specs.Offsets.{HasNoLineErrors, no_statement, following, statements_with_segment, section_start}
-use Rattle.whole65.specs.Segments.{SegmentItem, end_of, has_section, preceding_items, segment_items_from, segment_items, largest_multiple, statement_item, statement_end, segment_statements_after, statements_in_segment, module_items, rounding, segment_name_at, is_in_segment, position_of}
+use Rattle.whole65.specs.Segments.{SegmentItem, end_of, has_section, preceding_items, segment_items_from, segment_items, largest_multiple, statement_item, statement_end, module_statements_after, statements_in_segment, module_items, rounding, segment_name_at, is_in_segment, position_of}
 use Rattle.std.specs.Int.{int_wrap}
 use Rattle.std.proofs.lemmas.Bool.Decides.{nat_tests}
 use Rattle.std.proofs.lemmas.Int.{ints, int_wrap-add_left}
@@ -140,7 +140,7 @@ none_asks : (y : Layout) (name : List ℕ) (ls : List LaidOutStatement) → list
 none_asks y name [] h = tt
 none_asks y name (l ∷ ls) h = grind (arith, common_steps, (none_asks y name ls))
 
-quiet_lines : (position owner : ℕ) (y : Layout) (g : ℕ) (before ls : List LaidOutStatement) → AllByRecursion IsQuiet ls → AllByRecursion (AsksNot y (segment_name_at y g)) ls → end_of position (map statement_item (statements_with_segment g (segment_statements_after owner before ls))) ≡ position
+quiet_lines : (position owner : ℕ) (y : Layout) (g : ℕ) (before ls : List LaidOutStatement) → AllByRecursion IsQuiet ls → AllByRecursion (AsksNot y (segment_name_at y g)) ls → end_of position (map statement_item (statements_with_segment g (module_statements_after owner before ls))) ≡ position
 quiet_lines position owner y g before [] q a = refl
 quiet_lines position owner y g before (l ∷ ls) q a = grind (arith, common_steps, itself, (λ (z : ℕ). quiet_lines z owner y g (before ++ l ∷ []) ls q.1 a.1))
 

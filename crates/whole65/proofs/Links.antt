@@ -100,7 +100,7 @@ given : (m : Files) (y z : Layout) (place : SourceLocation) (x : expand.Expanded
 given m y z place (expand.label ts) d (q, l, h) = after_label m y z place ts q d l h
 given m y z place (expand.plain ts) d h = rest m y z place ts d h
 
-all_taken : (m : Files) {s : expand.State} {y : Layout} {r : ReachedState Layout} → AssemblesRest m layout_semantics s y r → HasNoLineErrors y → HasNoLineErrors r.following
+all_taken : (m : Files) {s : expand.State} {y : Layout} {r : ReachedState Layout} → AssemblesRest m layout_semantics s y r → HasNoLineErrors y → HasNoLineErrors r.state
 all_taken m (statement_assembled s t x y z r reach h more) d = all_taken m more (given m y z t.left.place x d h)
 all_taken m (statement_rejected s t x y e reach h) d = d
 all_taken m (expansion_rejected s y e place reach) d = d
@@ -110,16 +110,16 @@ all_defined : (y : Layout) (place : SourceLocation) (ds : List Define) (z : Layo
 all_defined y place [] z d h = unchanged y z d h
 all_defined y place (c ∷ cs) z d (q, is, h) = grind (arith, common_steps, (λ (w : Layout). one y w place (Constant c.0 (number c.1)) d), (λ (w : Layout). all_defined w place cs z))
 
-followed : (m : Files) (s : expand.State) (place : SourceLocation) (ds : List Define) (q : Result Layout AsmFault) (r : ReachedState Layout) → DefinesConstants IsLaidOut empty_layout place ds q → AssemblesAfterDefines m layout_semantics s place empty_layout q r → HasNoLineErrors r.following
+followed : (m : Files) (s : expand.State) (place : SourceLocation) (ds : List Define) (q : Result Layout AsmFault) (r : ReachedState Layout) → DefinesConstants IsLaidOut empty_layout place ds q → AssemblesAfterDefines m layout_semantics s place empty_layout q r → HasNoLineErrors r.state
 followed m s place ds (Ok z) r defined h = all_taken m h (all_defined empty_layout place ds z no_statement defined)
-followed m s place ds (Err e) r defined h = subst (λ (k : ReachedState Layout). HasNoLineErrors k.following) (sym h) no_statement
+followed m s place ds (Err e) r defined h = subst (λ (k : ReachedState Layout). HasNoLineErrors k.state) (sym h) no_statement
 
-opened : (m : Files) (job : Job) (o : Result expand.State ExpandFault) (r : ReachedState Layout) → AssemblesOpeningResult m layout_semantics job empty_layout o r → HasNoLineErrors r.following
-opened m job (Err e) r h = subst (λ (k : ReachedState Layout). HasNoLineErrors k.following) (sym h) no_statement
+opened : (m : Files) (job : Job) (o : Result expand.State ExpandFault) (r : ReachedState Layout) → AssemblesOpeningResult m layout_semantics job empty_layout o r → HasNoLineErrors r.state
+opened m job (Err e) r h = subst (λ (k : ReachedState Layout). HasNoLineErrors k.state) (sym h) no_statement
 opened m job (Ok s) r (q, defined, h) = followed m s (no_line job.source) job.defines q r defined h
 
 -- what a source lays, it lays so: statement by statement, none with a fault at its line
-pub laid_out_law : (m : Files) (job : Job) (r : ReachedState Layout) → AreLaidOut m job r → HasNoLineErrors r.following
+pub laid_out_law : (m : Files) (job : Job) (r : ReachedState Layout) → AreLaidOut m job r → HasNoLineErrors r.state
 laid_out_law m job r h = opened m job (first_state_in m job.source job.include) r h
 
 -- ---- Names that are given, and imports that have values.

@@ -24,7 +24,7 @@ use Rattle.semantics65.specs.Layout.{Layout}
 use Rattle.whole65.specs.Modules.{table_of}
 use Rattle.whole65.specs.Offsets.{statements_with_segment, IsMultiple, HasNoLineErrors}
 use Rattle.semantics65.specs.Symbols.{LaidOutStatement}
-use Rattle.whole65.specs.Segments.{largest_multiple, segment_statements_after, statement_item}
+use Rattle.whole65.specs.Segments.{largest_multiple, module_statements_after, statement_item}
 use Rattle.whole65.specs.Contents.{EncodesSegmentItems}
 use Rattle.whole65.specs.Values.{Program}
 
@@ -144,7 +144,7 @@ module _ {E : Type 0} (o : LinkerView E) (l : Linkage) (owner fill : ℕ) (secti
 
 -- A module's lines in a segment have the bytes of what its object's section puts there, where the forms in its parts have the
 -- values of those in the object.
-pub module_law : (E : Type 0) → (p : Program) (o : LinkerView E) (l : Linkage) (fill begin owner g : ℕ) (y : Layout) (cs : List Content) (origins : SourceLocation → Origin) (sections imports bytes : List ℕ) → IsLinkerView p o → o.symbols owner ≡ table_of y → ((index : ℕ) (x : LaidOutStatement) → slice_get y.laid index ≡ Some x → o.contexts owner index ≡ x.context) → HasNoLineErrors y → IsMultiple begin (largest_multiple (statements_with_segment g (segment_statements_after owner [] y.laid))) → (module_resolution y.laid).found ≡ Ok cs → AllByRecursion (IsValuedIn o l owner sections imports) (parts_in cs g) → EncodesSegmentItems p fill begin (map statement_item (statements_with_segment g (segment_statements_after owner [] y.laid))) bytes ↔ AreCells l fill (flat_map (fragment_cells owner) (section_of origins y.cursor.segments sections imports cs g).fragments) bytes
+pub module_law : (E : Type 0) → (p : Program) (o : LinkerView E) (l : Linkage) (fill begin owner g : ℕ) (y : Layout) (cs : List Content) (origins : SourceLocation → Origin) (sections imports bytes : List ℕ) → IsLinkerView p o → o.symbols owner ≡ table_of y → ((index : ℕ) (x : LaidOutStatement) → slice_get y.laid index ≡ Some x → o.contexts owner index ≡ x.context) → HasNoLineErrors y → IsMultiple begin (largest_multiple (statements_with_segment g (module_statements_after owner [] y.laid))) → (module_resolution y.laid).found ≡ Ok cs → AllByRecursion (IsValuedIn o l owner sections imports) (parts_in cs g) → EncodesSegmentItems p fill begin (map statement_item (statements_with_segment g (module_statements_after owner [] y.laid))) bytes ↔ AreCells l fill (flat_map (fragment_cells owner) (section_of origins y.cursor.segments sections imports cs g).fragments) bytes
 module_law E p o l fill begin owner g y cs origins sections imports bytes h table contexts d m e valued =
     let Has : Valuing = linked_value l owner in
     let lines = section_law E p o fill begin owner g y cs bytes h table contexts d m e in

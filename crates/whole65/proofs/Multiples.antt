@@ -9,7 +9,7 @@ use Rattle.whole65.specs.Offsets.{IsMultiple, IsPower, ArePowers}
 use Rattle.semantics65.specs.Symbols.{LaidOutStatement, Symbols}
 use Rattle.ast65.specs.declared.language.Statement.{Statement}
 use Rattle.ast65.specs.declared.language.Statement.TheVariants.{Align}
-use Rattle.whole65.specs.Segments.{SegmentItem, SegmentStatement, end_after, end_of, largest_multiple, statement_item, statement_end}
+use Rattle.whole65.specs.Segments.{SegmentItem, ModuleStatement, end_after, end_of, largest_multiple, statement_item, statement_end}
 use Rattle.std.specs.Prelude.{ℤ, pos, negsuc, not, ◌==◌}
 use Rattle.std.specs.List.{AllByRecursion, list_any}
 use Rattle.ast65.specs.declared.fault.AsmFault.{AsmFault}
@@ -97,14 +97,14 @@ pub end_of-append : (position : ℕ) (xs ys : List SegmentItem) → end_of posit
 end_of-append position [] ys = refl
 end_of-append position (x ∷ xs) ys = end_of-append (end_after position x) xs ys
 
-pub largest_power : (xs : List SegmentStatement) → ArePowers xs → IsPower (largest_multiple xs)
+pub largest_power : (xs : List ModuleStatement) → ArePowers xs → IsPower (largest_multiple xs)
 largest_power [] h = record { exponent = 0; below = omega arith; power = refl }
 largest_power (x ∷ xs) h = (larger x.alignment (largest_multiple xs) h.0 (largest_power xs h.1)).is_power
 
 pub line_shift : (b o alignment : ℕ) (l : LaidOutStatement) → IsMultiple b alignment → statement_end (b + o) alignment l ≡ b + statement_end o alignment l
 line_shift b o alignment l h = grind (arith, common_steps, round_shift, add_assoc)
 
-pub end_shift : (xs : List SegmentStatement) (b o : ℕ) → ArePowers xs → IsMultiple b (largest_multiple xs) → end_of (b + o) (map statement_item xs) ≡ b + end_of o (map statement_item xs)
+pub end_shift : (xs : List ModuleStatement) (b o : ℕ) → ArePowers xs → IsMultiple b (largest_multiple xs) → end_of (b + o) (map statement_item xs) ≡ b + end_of o (map statement_item xs)
 end_shift [] b o p h = refl
 end_shift (x ∷ xs) b o p h =
     let both : Larger x.alignment (largest_multiple xs) = larger x.alignment (largest_multiple xs) p.0 (largest_power xs p.1) in
@@ -115,7 +115,7 @@ end_shift (x ∷ xs) b o p h =
 
 -- Lines that begin at a multiple of the largest of their own multiples end where they end from 0 on, moved to there: so
 -- `.align` rounds a position in the whole list as it rounds an offset in the section.
-pub shift_law : (xs : List SegmentStatement) (begin : ℕ) → ArePowers xs → IsMultiple begin (largest_multiple xs) → end_of begin (map statement_item xs) ≡ begin + end_of 0 (map statement_item xs)
+pub shift_law : (xs : List ModuleStatement) (begin : ℕ) → ArePowers xs → IsMultiple begin (largest_multiple xs) → end_of begin (map statement_item xs) ≡ begin + end_of 0 (map statement_item xs)
 shift_law xs b p h = let same : b ≡ b + 0 = omega arith in ap (λ n. end_of n (map statement_item xs)) same ∙ end_shift xs b 0 p h
 
 -- ---- A line ends its length behind its offset, and aligns to a power of two.

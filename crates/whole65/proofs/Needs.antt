@@ -17,7 +17,7 @@ use Rattle.whole65.proofs.Sources.{Following, after_source, contents_of, grows, 
 use Rattle.whole65.specs.Modules.{table_of}
 use Rattle.whole65.specs.Laws.{LinkPreservesNeeds, LayoutIsSourceOfObject}
 use Rattle.whole65.specs.Offsets.{statements_with_segment}
-use Rattle.whole65.specs.Segments.{SegmentItem, SegmentStatement, alignment_of, segment_items_from, segment_items, largest_multiple, statement_item, segment_statements_after, need_of, module_items}
+use Rattle.whole65.specs.Segments.{SegmentItem, ModuleStatement, alignment_of, segment_items_from, segment_items, largest_multiple, statement_item, module_statements_after, need_of, module_items}
 use Rattle.whole65.specs.Sources.{AreObjectsOfLayouts, IsObjectOfLayout}
 
 -- ---- The alignment of a list.
@@ -30,7 +30,7 @@ alignment_of-append : (xs zs : List SegmentItem) → alignment_of (xs ++ zs) ≡
 alignment_of-append [] zs = omega (arith, some_alignment zs)
 alignment_of-append (x ∷ xs) zs = omega (arith, alignment_of-append xs zs)
 
-lines_alignment : (ls : List SegmentStatement) → alignment_of (map statement_item ls) ≡ largest_multiple ls
+lines_alignment : (ls : List ModuleStatement) → alignment_of (map statement_item ls) ≡ largest_multiple ls
 lines_alignment [] = refl
 lines_alignment (x ∷ ls) = ap (max x.alignment) (lines_alignment ls)
 
@@ -51,7 +51,7 @@ part_alignment y m owner name g h some = go (after_source y m h owner name g)
         let none : alignment_of (module_items owner y name) ≡ 1 = ap alignment_of (no_part y owner name has) in
         ap align_or e ∙ omega (arith, none, some)
     go (grows key has among lt called e) =
-        let lines : List SegmentStatement = statements_with_segment key (segment_statements_after owner [] y.laid) in
+        let lines : List ModuleStatement = statements_with_segment key (module_statements_after owner [] y.laid) in
         let part : alignment_of (module_items owner y name) ≡ max (largest_multiple lines) (alignment_of (map statement_item lines)) = ap alignment_of (whole_part y owner key name h.no_line_errors lt called has) in
         let own = alignment_law y owner key h.no_line_errors in
         ap align_or e ∙ ap (λ n. max n (linked.align_of (section_of (contents_of y m h).origins y.cursor.segments (section_keys (contents_of y m h).contents) (import_keys (table_of y).imports (contents_of y m h).contents) (contents_of y m h).contents key))) (align_or_empty name g)

@@ -16,7 +16,7 @@ use Rattle.syntax65.specs.declared.source_location.SourceLocation.{SourceLocatio
 use Rattle.whole65.proofs.Multiples.{line_ends, multiple_power, equal, end_of-append, largest_power, line_shift, Larger, larger, multiple_of_multiple}
 use Rattle.whole65.specs.Laws.{OffsetIsPosition}
 use Rattle.whole65.specs.Offsets.{ArePowers, HasNoLineErrors, IsPower, no_statement, following, statements_with_segment, IsMultiple}
-use Rattle.whole65.specs.Segments.{SegmentStatement, end_of, largest_multiple, statement_item, statement_end, segment_statement, segment_statements_after}
+use Rattle.whole65.specs.Segments.{ModuleStatement, end_of, largest_multiple, statement_item, statement_end, module_statement, module_statements_after}
 use Rattle.std.proofs.Math.Nat.{add_assoc}
 
 -- ---- Segments behind a statement: which one is the current one, their ends and alignments.
@@ -70,36 +70,36 @@ adds y w x g lt one = grind (arith, common_steps, nat_tests, grown_end, grown_al
 
 -- ---- One more line.
 
-pub lines_push : (owner : ℕ) (before ls : List LaidOutStatement) (l : LaidOutStatement) → segment_statements_after owner before (ls ++ l ∷ []) ≡ segment_statements_after owner before ls ++ segment_statement owner (before ++ ls) l ∷ []
-lines_push owner before [] l = ap (λ b. segment_statement owner b l ∷ []) (sym (append-nil before))
+pub lines_push : (owner : ℕ) (before ls : List LaidOutStatement) (l : LaidOutStatement) → module_statements_after owner before (ls ++ l ∷ []) ≡ module_statements_after owner before ls ++ module_statement owner (before ++ ls) l ∷ []
+lines_push owner before [] l = ap (λ b. module_statement owner b l ∷ []) (sym (append-nil before))
 lines_push owner before (x ∷ ls) l = grind (arith, common_steps, (lines_push owner (before ++ x ∷ []) ls l))
 
-pub largest_push : (xs ys : List SegmentStatement) → largest_multiple (xs ++ ys) ≡ max (largest_multiple xs) (largest_multiple ys)
+pub largest_push : (xs ys : List ModuleStatement) → largest_multiple (xs ++ ys) ≡ max (largest_multiple xs) (largest_multiple ys)
 largest_push [] ys = let one : 1 ≤ largest_multiple ys = largest_one ys in omega (arith, one)
   where
-    largest_one : (ys : List SegmentStatement) → 1 ≤ largest_multiple ys
+    largest_one : (ys : List ModuleStatement) → 1 ≤ largest_multiple ys
     largest_one [] = omega arith
     largest_one (y ∷ ys) = let h = largest_one ys in omega (arith, h)
 largest_push (x ∷ xs) ys = let h = largest_push xs ys in omega (arith, h)
 
-pub largest_one : (ys : List SegmentStatement) → 1 ≤ largest_multiple ys
+pub largest_one : (ys : List ModuleStatement) → 1 ≤ largest_multiple ys
 largest_one [] = omega arith
 largest_one (y ∷ ys) = let h = largest_one ys in omega (arith, h)
 
 -- the position behind the lines in a segment, and the largest multiple there
-abbrev end_at : ℕ → List SegmentStatement → ℕ
+abbrev end_at : ℕ → List ModuleStatement → ℕ
 end_at g xs = end_of 0 (map statement_item (statements_with_segment g xs))
 
-end_push : (g : ℕ) (xs : List SegmentStatement) (x : SegmentStatement) (b : Bool) → nat_eq x.laid.context.segment g ≡ b → end_at g (xs ++ x ∷ []) ≡ cond b (statement_end (end_at g xs) x.alignment x.laid) (end_at g xs)
+end_push : (g : ℕ) (xs : List ModuleStatement) (x : ModuleStatement) (b : Bool) → nat_eq x.laid.context.segment g ≡ b → end_at g (xs ++ x ∷ []) ≡ cond b (statement_end (end_at g xs) x.alignment x.laid) (end_at g xs)
 end_push g xs x b e = grind (arith, common_steps, filter-append, map-append, end_of-append)
 
-largest_at_push : (g : ℕ) (xs : List SegmentStatement) (x : SegmentStatement) (b : Bool) → nat_eq x.laid.context.segment g ≡ b → largest_multiple (statements_with_segment g (xs ++ x ∷ [])) ≡ cond b (max (largest_multiple (statements_with_segment g xs)) x.alignment) (largest_multiple (statements_with_segment g xs))
+largest_at_push : (g : ℕ) (xs : List ModuleStatement) (x : ModuleStatement) (b : Bool) → nat_eq x.laid.context.segment g ≡ b → largest_multiple (statements_with_segment g (xs ++ x ∷ [])) ≡ cond b (max (largest_multiple (statements_with_segment g xs)) x.alignment) (largest_multiple (statements_with_segment g xs))
 largest_at_push g xs x b e = grind (arith, common_steps, filter-append, largest_push, largest_one)
 
 -- ---- What holds behind each statement.
 
 abbrev HasOffset : ℕ → List LaidOutStatement → LaidOutStatement → Type 0
-HasOffset owner before l = l.context.offset ≡ end_at l.context.segment (segment_statements_after owner [] before)
+HasOffset owner before l = l.context.offset ≡ end_at l.context.segment (module_statements_after owner [] before)
 
 abbrev EachAfter : (List LaidOutStatement → LaidOutStatement → Type 0) → List LaidOutStatement → Type 0
 EachAfter M ls = (i : ℕ) (l : LaidOutStatement) → slice_get ls i ≡ Some l → M (take i ls) l
@@ -114,9 +114,9 @@ pub record Placed (owner : ℕ) (y : Layout) : Type 0 where
   pub here : y.cursor.current < length y.cursor.segments
   pub keeps : are_below (length y.cursor.segments) y.cursor.pushed_segments
   pub offsets : EachAfter (HasOffset owner) y.laid
-  pub ends : (g : ℕ) → (segment_at y.cursor.segments g).end ≡ end_at g (segment_statements_after owner [] y.laid)
-  pub aligns : (g : ℕ) → (segment_at y.cursor.segments g).align ≡ largest_multiple (statements_with_segment g (segment_statements_after owner [] y.laid))
-  pub powers : ArePowers (segment_statements_after owner [] y.laid)
+  pub ends : (g : ℕ) → (segment_at y.cursor.segments g).end ≡ end_at g (module_statements_after owner [] y.laid)
+  pub aligns : (g : ℕ) → (segment_at y.cursor.segments g).align ≡ largest_multiple (statements_with_segment g (module_statements_after owner [] y.laid))
+  pub powers : ArePowers (module_statements_after owner [] y.laid)
 
 module _ (owner : ℕ) (y : Layout) (place : SourceLocation) (x : Statement) (h : Placed owner y) (none : line_fault (symbols_of y.laid) y.cursor x ≡ None) where
   abbrev table : Symbols
@@ -125,11 +125,11 @@ module _ (owner : ℕ) (y : Layout) (place : SourceLocation) (x : Statement) (h 
   abbrev last : LaidOutStatement
   last = laid_out_statement table y.cursor place x
 
-  abbrev lines : List SegmentStatement
-  lines = segment_statements_after owner [] y.laid
+  abbrev lines : List ModuleStatement
+  lines = module_statements_after owner [] y.laid
 
-  abbrev next : SegmentStatement
-  next = segment_statement owner y.laid last
+  abbrev next : ModuleStatement
+  next = module_statement owner y.laid last
 
   added : (g : ℕ) → Adds (segment_at y.cursor.segments g) (segment_at (layout_after y place x).cursor.segments g) (nat_eq y.cursor.current g) last.length next.alignment
   added g = adds table y.cursor x g h.here (subst (λ n. 1 ≤ n) (sym (h.aligns g)) (largest_one (statements_with_segment g lines)))
@@ -153,7 +153,7 @@ module _ (owner : ℕ) (y : Layout) (place : SourceLocation) (x : Statement) (h 
       ∙ ap (λ n. cond b (max n next.alignment) n) (h.aligns g)
       ∙ sym (largest_at_push g lines next b e)
 
-  pushed : segment_statements_after owner [] (y.laid ++ last ∷ []) ≡ lines ++ next ∷ []
+  pushed : module_statements_after owner [] (y.laid ++ last ∷ []) ≡ lines ++ next ∷ []
   pushed = lines_push owner [] y.laid last
 
   step : Placed owner (layout_after y place x)
@@ -163,7 +163,7 @@ module _ (owner : ℕ) (y : Layout) (place : SourceLocation) (x : Statement) (h 
     offsets = after_push (HasOffset owner) y.laid last h.offsets (h.ends y.cursor.current);
     ends = λ g. end_next g (nat_eq y.cursor.current g) refl ∙ ap (end_at g) (sym pushed);
     aligns = λ g. align_next g (nat_eq y.cursor.current g) refl ∙ ap (λ zs. largest_multiple (statements_with_segment g zs)) (sym pushed);
-    powers = subst ArePowers (sym pushed) (all_more (λ (z : SegmentStatement). IsPower z.alignment) lines next h.powers (multiple_power table y.cursor x none));
+    powers = subst ArePowers (sym pushed) (all_more (λ (z : ModuleStatement). IsPower z.alignment) lines next h.powers (multiple_power table y.cursor x none));
   }
 
 pub placed : (owner : ℕ) {y : Layout} → HasNoLineErrors y → Placed owner y
@@ -176,15 +176,15 @@ offset_law y owner d = grind (arith, common_steps, placed)
 -- ---- Each line of a section ends its length behind its position.
 
 -- from a position on, each of these lines ends its length further on
-abbrev pub EndsAt : ℕ → List SegmentStatement → Type 0
+abbrev pub EndsAt : ℕ → List ModuleStatement → Type 0
 EndsAt position [] = Unit {0}
 EndsAt position (x ∷ xs) = (statement_end position x.alignment x.laid ≡ position + x.laid.length) × EndsAt (statement_end position x.alignment x.laid) xs
 
-ends_push : (position : ℕ) (xs : List SegmentStatement) (x : SegmentStatement) → EndsAt position xs → statement_end (end_of position (map statement_item xs)) x.alignment x.laid ≡ end_of position (map statement_item xs) + x.laid.length → EndsAt position (xs ++ x ∷ [])
+ends_push : (position : ℕ) (xs : List ModuleStatement) (x : ModuleStatement) → EndsAt position xs → statement_end (end_of position (map statement_item xs)) x.alignment x.laid ≡ end_of position (map statement_item xs) + x.laid.length → EndsAt position (xs ++ x ∷ [])
 ends_push position [] x h e = (e, tt)
 ends_push position (y ∷ ys) x h e = (h.0, ends_push (statement_end position y.alignment y.laid) ys x h.1 e)
 
-pub ends_moved : (begin position : ℕ) (xs : List SegmentStatement) → ArePowers xs → IsMultiple begin (largest_multiple xs) → EndsAt position xs → EndsAt (begin + position) xs
+pub ends_moved : (begin position : ℕ) (xs : List ModuleStatement) → ArePowers xs → IsMultiple begin (largest_multiple xs) → EndsAt position xs → EndsAt (begin + position) xs
 ends_moved begin position [] p m h = tt
 ends_moved begin position (x ∷ xs) p m h =
     let both : Larger x.alignment (largest_multiple xs) = larger x.alignment (largest_multiple xs) p.0 (largest_power xs p.1) in
@@ -196,8 +196,8 @@ ends_moved begin position (x ∷ xs) p m h =
     )
 
 module _ (owner g : ℕ) where
-  abbrev here : List LaidOutStatement → List SegmentStatement
-  here ls = statements_with_segment g (segment_statements_after owner [] ls)
+  abbrev here : List LaidOutStatement → List ModuleStatement
+  here ls = statements_with_segment g (module_statements_after owner [] ls)
 
   one_more : (y : Layout) (place : SourceLocation) (x : Statement) → Placed owner y → line_fault (symbols_of y.laid) y.cursor x ≡ None → EndsAt 0 (here y.laid) → (b : Bool) → nat_eq y.cursor.current g ≡ b → EndsAt 0 (here (y.laid ++ laid_out_statement (symbols_of y.laid) y.cursor place x ∷ []))
   one_more y place x h none ends b e = grind (arith, common_steps, pushed, lines_push, filter-append, append-nil, equal, ends_push, line_ends)

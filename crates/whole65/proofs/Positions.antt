@@ -7,7 +7,7 @@ use Rattle.std.proofs.lemmas.Bool.Decides.{nat_tests}
 use Rattle.std.proofs.lemmas.List.{append-nil, take-append-drop}
 use Rattle.semantics65.specs.Symbols.{LaidOutStatement}
 use Rattle.semantics65.specs.Layout.{Layout, with_grown_segment, layout_after, named_segments, new_segment, segment_index, segment_at, segments_after, powers}
-use Rattle.whole65.specs.Segments.{SegmentItem, SegmentStatement, has_section, is_statement, preceding_items, largest_multiple, statement_item, segment_statements_after, statements_in_segment, module_items, rounding, is_in_segment, end_of, segment_items_from, segment_name_at, position_of}
+use Rattle.whole65.specs.Segments.{SegmentItem, ModuleStatement, has_section, is_statement, preceding_items, largest_multiple, statement_item, module_statements_after, statements_in_segment, module_items, rounding, is_in_segment, end_of, segment_items_from, segment_name_at, position_of}
 use Rattle.std.specs.Str.{bytes_eq}
 use Rattle.std.proofs.lemmas.Iterator.Adapters.{position_from-zero}
 use Rattle.syntax65.specs.declared.lexing.tokens.AddressSize.{AddressSize}
@@ -42,7 +42,7 @@ alike n = grind (arith, nat_tests)
 
 -- ---- Other modules.
 
-other_lines : (first owner index : ℕ) → first ≢ owner → (q : LaidOutStatement → Bool) (before ls : List LaidOutStatement) → IsAbsent owner index (map statement_item (filter (λ (x : SegmentStatement). q x.laid) (segment_statements_after first before ls)))
+other_lines : (first owner index : ℕ) → first ≢ owner → (q : LaidOutStatement → Bool) (before ls : List LaidOutStatement) → IsAbsent owner index (map statement_item (filter (λ (x : ModuleStatement). q x.laid) (module_statements_after first before ls)))
 other_lines first owner index h q before [] = tt
 other_lines first owner index h q before (l ∷ ls) = grind (arith, common_steps, (other_lines first owner index h q (before ++ l ∷ []) ls), apart)
 
@@ -55,7 +55,7 @@ other_part first owner index h y name = go (has_section y name)
 
 -- ---- The module itself.
 
-pub stopped : (owner index : ℕ) (q : LaidOutStatement → Bool) (before ls : List LaidOutStatement) (rest : List SegmentItem) (i : ℕ) (l : LaidOutStatement) → index ≡ length before + i → slice_get ls i ≡ Some l → q l ≡ true → preceding_items owner index (map statement_item (filter (λ (x : SegmentStatement). q x.laid) (segment_statements_after owner before ls)) ++ rest) ≡ map statement_item (filter (λ (x : SegmentStatement). q x.laid) (segment_statements_after owner before (take i ls)))
+pub stopped : (owner index : ℕ) (q : LaidOutStatement → Bool) (before ls : List LaidOutStatement) (rest : List SegmentItem) (i : ℕ) (l : LaidOutStatement) → index ≡ length before + i → slice_get ls i ≡ Some l → q l ≡ true → preceding_items owner index (map statement_item (filter (λ (x : ModuleStatement). q x.laid) (module_statements_after owner before ls)) ++ rest) ≡ map statement_item (filter (λ (x : ModuleStatement). q x.laid) (module_statements_after owner before (take i ls)))
 stopped owner index q before [] rest i l e s t = cc
 stopped owner index q before (x ∷ ls) rest zero l e s t = grind (arith, common_steps, alike)
 stopped owner index q before (x ∷ ls) rest (suc i) l e s t = grind (arith, common_steps, (stopped owner index q (before ++ x ∷ []) ls rest i l))
@@ -114,7 +114,7 @@ itself xs = grind (arith, bytes_eq-Decides xs xs)
 name_or_number : (y : Layout) (g h : ℕ) → Distinct y.cursor.segments → g < length y.cursor.segments → h < length y.cursor.segments → bytes_eq (segment_name_at y h) (segment_name_at y g) ≡ nat_eq h g
 name_or_number y g h d lg lh = grind (arith, common_steps, nat_tests, itself)
 
-pub by_number : (owner : ℕ) (y : Layout) (g : ℕ) → Distinct y.cursor.segments → g < length y.cursor.segments → (before ls : List LaidOutStatement) → AllByRecursion (λ (l : LaidOutStatement). l.context.segment < length y.cursor.segments) ls → filter (λ (x : SegmentStatement). is_in_segment y (segment_name_at y g) x.laid) (segment_statements_after owner before ls) ≡ statements_with_segment g (segment_statements_after owner before ls)
+pub by_number : (owner : ℕ) (y : Layout) (g : ℕ) → Distinct y.cursor.segments → g < length y.cursor.segments → (before ls : List LaidOutStatement) → AllByRecursion (λ (l : LaidOutStatement). l.context.segment < length y.cursor.segments) ls → filter (λ (x : ModuleStatement). is_in_segment y (segment_name_at y g) x.laid) (module_statements_after owner before ls) ≡ statements_with_segment g (module_statements_after owner before ls)
 by_number owner y g d lg before [] h = refl
 by_number owner y g d lg before (l ∷ ls) h = grind (arith, common_steps, (by_number owner y g d lg (before ++ l ∷ []) ls h.1), name_or_number)
 
@@ -131,11 +131,11 @@ all_get P (y ∷ xs) (suc i) x h e = all_get P xs i x h.1 e
 
 -- ---- A front of a module's lines.
 
-lines_both : (owner : ℕ) (before xs ys : List LaidOutStatement) → segment_statements_after owner before (xs ++ ys) ≡ segment_statements_after owner before xs ++ segment_statements_after owner (before ++ xs) ys
-lines_both owner before [] ys = ap (λ b. segment_statements_after owner b ys) (sym (append-nil before))
+lines_both : (owner : ℕ) (before xs ys : List LaidOutStatement) → module_statements_after owner before (xs ++ ys) ≡ module_statements_after owner before xs ++ module_statements_after owner (before ++ xs) ys
+lines_both owner before [] ys = ap (λ b. module_statements_after owner b ys) (sym (append-nil before))
 lines_both owner before (x ∷ xs) ys = grind (arith, common_steps, (lines_both owner (before ++ x ∷ []) xs ys))
 
-pub powers_at : (g : ℕ) (xs : List SegmentStatement) → ArePowers xs → ArePowers (statements_with_segment g xs)
+pub powers_at : (g : ℕ) (xs : List ModuleStatement) → ArePowers xs → ArePowers (statements_with_segment g xs)
 powers_at g [] h = tt
 powers_at g (x ∷ xs) h = grind (arith, common_steps, (powers_at g xs h.1))
 
@@ -143,9 +143,9 @@ pub all_parts : {A : Type 0} (P : A → Type 0) (xs zs : List A) → AllByRecurs
 all_parts P [] zs h = (tt, h)
 all_parts P (x ∷ xs) zs h = let more = all_parts P xs zs h.1 in ((h.0, more.0), more.1)
 
-front_multiple : (b : ℕ) (xs ys : List SegmentStatement) → ArePowers (xs ++ ys) → IsMultiple b (largest_multiple (xs ++ ys)) → IsMultiple b (largest_multiple xs)
+front_multiple : (b : ℕ) (xs ys : List ModuleStatement) → ArePowers (xs ++ ys) → IsMultiple b (largest_multiple (xs ++ ys)) → IsMultiple b (largest_multiple xs)
 front_multiple b xs ys p h =
-    let powers = all_parts (λ (x : SegmentStatement). IsPower x.alignment) xs ys p in
+    let powers = all_parts (λ (x : ModuleStatement). IsPower x.alignment) xs ys p in
     let both = larger (largest_multiple xs) (largest_multiple ys) (largest_power xs powers.0) (largest_power ys powers.1) in
     let whole : IsMultiple b (max (largest_multiple xs) (largest_multiple ys)) = subst (IsMultiple b) (largest_push xs ys) h in
     multiple_of_multiple b (largest_multiple xs) (max (largest_multiple xs) (largest_multiple ys)) whole both.first
@@ -154,29 +154,29 @@ module _ (owner index : ℕ) (y : Layout) (l : LaidOutStatement) (d : HasNoLineE
   abbrev g : ℕ
   g = l.context.segment
 
-  abbrev front : List SegmentStatement
-  front = statements_with_segment g (segment_statements_after owner [] (take index y.laid))
+  abbrev front : List ModuleStatement
+  front = statements_with_segment g (module_statements_after owner [] (take index y.laid))
 
-  abbrev after_front : List SegmentStatement
-  after_front = statements_with_segment g (segment_statements_after owner (take index y.laid) (drop index y.laid))
+  abbrev after_front : List ModuleStatement
+  after_front = statements_with_segment g (module_statements_after owner (take index y.laid) (drop index y.laid))
 
-  in_order : statements_with_segment g (segment_statements_after owner [] y.laid) ≡ front ++ after_front
+  in_order : statements_with_segment g (module_statements_after owner [] y.laid) ≡ front ++ after_front
   in_order =
-      ap (λ ls. statements_with_segment g (segment_statements_after owner [] ls)) (sym (take-append-drop index y.laid))
+      ap (λ ls. statements_with_segment g (module_statements_after owner [] ls)) (sym (take-append-drop index y.laid))
       ∙ ap (statements_with_segment g) (lines_both owner [] (take index y.laid) (drop index y.laid))
-      ∙ filter-append (λ (x : SegmentStatement). nat_eq x.laid.context.segment g) (segment_statements_after owner [] (take index y.laid)) (segment_statements_after owner (take index y.laid) (drop index y.laid))
+      ∙ filter-append (λ (x : ModuleStatement). nat_eq x.laid.context.segment g) (module_statements_after owner [] (take index y.laid)) (module_statements_after owner (take index y.laid) (drop index y.laid))
 
   below : g < length y.cursor.segments
   below = all_get (λ (k : LaidOutStatement). k.context.segment < length y.cursor.segments) y.laid index l (named d).standing there
 
   all_powers : ArePowers (front ++ after_front)
-  all_powers = subst ArePowers in_order (powers_at g (segment_statements_after owner [] y.laid) (placed owner d).powers)
+  all_powers = subst ArePowers in_order (powers_at g (module_statements_after owner [] y.laid) (placed owner d).powers)
 
   -- the position in a list that begins with the module's part, from a position on
   pub in_part : (position : ℕ) (rest : List SegmentItem) → has_section y (segment_name_at y g) ≡ true → end_of position (preceding_items owner index (module_items owner y (segment_name_at y g) ++ rest)) ≡ next_multiple_of position (largest_multiple (statements_in_segment owner y (segment_name_at y g))) + l.context.offset
   in_part position rest asked =
       let n = named d in
-      let all : statements_in_segment owner y (segment_name_at y g) ≡ statements_with_segment g (segment_statements_after owner [] y.laid) = by_number owner y g n.distinct below [] y.laid n.standing in
+      let all : statements_in_segment owner y (segment_name_at y g) ≡ statements_with_segment g (module_statements_after owner [] y.laid) = by_number owner y g n.distinct below [] y.laid n.standing in
       let alignment : ℕ = largest_multiple (statements_in_segment owner y (segment_name_at y g)) in
       let begin : ℕ = next_multiple_of position alignment in
       let power = largest_power (front ++ after_front) all_powers in
@@ -189,7 +189,7 @@ module _ (owner index : ℕ) (y : Layout) (l : LaidOutStatement) (d : HasNoLineE
       ∙ ap (map statement_item) (by_number owner y g n.distinct below [] (take index y.laid) (all_front (λ (k : LaidOutStatement). k.context.segment < length y.cursor.segments) y.laid index n.standing)) in
       ap (λ b. end_of position (preceding_items owner index (cond b (rounding alignment ∷ map statement_item (statements_in_segment owner y (segment_name_at y g))) [] ++ rest))) asked
       ∙ ap (end_of begin) before
-      ∙ shift_law front begin (all_parts (λ (x : SegmentStatement). IsPower x.alignment) front after_front all_powers).0 (front_multiple begin front after_front all_powers is_multiple)
+      ∙ shift_law front begin (all_parts (λ (x : ModuleStatement). IsPower x.alignment) front after_front all_powers).0 (front_multiple begin front after_front all_powers is_multiple)
       ∙ ap (λ n. begin + n) (sym ((placed owner d).offsets index l there))
 
 -- ---- Module by module.
@@ -239,5 +239,5 @@ power_at (x ∷ gs) zero = refl
 power_at (x ∷ gs) (suc g) = power_at gs g
 
 -- The section of an object for a segment is aligned as the module's lines in that segment are.
-pub alignment_law : (y : Layout) (owner g : ℕ) → HasNoLineErrors y → 2 ^ segment_power (slice_get y.cursor.segments g) ≡ largest_multiple (statements_with_segment g (segment_statements_after owner [] y.laid))
+pub alignment_law : (y : Layout) (owner g : ℕ) → HasNoLineErrors y → 2 ^ segment_power (slice_get y.cursor.segments g) ≡ largest_multiple (statements_with_segment g (module_statements_after owner [] y.laid))
 alignment_law y owner g d = grind (arith, common_steps, placed, power_at, its_power, largest_power, powers_at)

@@ -26,7 +26,7 @@ use Rattle.whole65.proofs.Positions.{itself}
 use Rattle.whole65.proofs.Sources.{contents_of, size_law, Following, begin_is_multiple, after_source, grows, no_part, part_end, section_begin, size_or, size_or_empty, unchanged, whole_part}
 use Rattle.whole65.specs.Laws.{LinkPreservesPlacement}
 use Rattle.whole65.specs.Modules.{table_of, global_context, context_or}
-use Rattle.whole65.specs.Segments.{requested_segments, end_of, segment_items, need_of, segment_name_at, segments_of, SegmentItem, end_after, segment_items_from, largest_multiple, statement_item, segment_statements_after, module_items, rounding}
+use Rattle.whole65.specs.Segments.{requested_segments, end_of, segment_items, need_of, segment_name_at, segments_of, SegmentItem, end_after, segment_items_from, largest_multiple, statement_item, module_statements_after, module_items, rounding}
 use Rattle.whole65.specs.Sources.{AreObjectsOfLayouts, IsObjectOfLayout}
 use Rattle.std.specs.Int.{next_multiple_of}
 use Rattle.script65.specs.declared.placement.Placement.{Placement}
@@ -195,7 +195,7 @@ module _ (s : Script) (placement : Placement) (ys : List Layout) (ms : List Modu
     context_is : (index : ℕ) (x : LaidOutStatement) → slice_get y.laid index ≡ Some x → o.contexts owner index ≡ x.context
     context_is index x e = ap (λ r. context_in r index) at_y ∙ ap (context_or (global_context y)) e
 
-    lines_have : (begin key : ℕ) (origins : SourceLocation → Origin) (cs : List Content) (bytes : List ℕ) → (module_resolution y.laid).found ≡ Ok cs → IsMultiple begin (largest_multiple (statements_with_segment key (segment_statements_after owner [] y.laid))) → EncodesSegmentItems p fill begin (map statement_item (statements_with_segment key (segment_statements_after owner [] y.laid))) bytes ↔ AreCells l fill (flat_map (fragment_cells owner) (section_of origins y.cursor.segments (section_keys cs) (import_keys (table_of y).imports cs) cs key).fragments) bytes
+    lines_have : (begin key : ℕ) (origins : SourceLocation → Origin) (cs : List Content) (bytes : List ℕ) → (module_resolution y.laid).found ≡ Ok cs → IsMultiple begin (largest_multiple (statements_with_segment key (module_statements_after owner [] y.laid))) → EncodesSegmentItems p fill begin (map statement_item (statements_with_segment key (module_statements_after owner [] y.laid))) bytes ↔ AreCells l fill (flat_map (fragment_cells owner) (section_of origins y.cursor.segments (section_keys cs) (import_keys (table_of y).imports cs) cs key).fragments) bytes
     lines_have begin key origins cs bytes e alignment =
         let sections : List ℕ = section_keys cs in
         let imports : List ℕ = import_keys (table_of y).imports cs in
@@ -223,7 +223,7 @@ module _ (s : Script) (placement : Placement) (ys : List Layout) (ms : List Modu
             sec = section_of origins y.cursor.segments (section_keys cs) (import_keys (table_of y).imports cs) cs key
 
             alignment : ℕ
-            alignment = largest_multiple (statements_with_segment key (segment_statements_after owner [] y.laid))
+            alignment = largest_multiple (statements_with_segment key (module_statements_after owner [] y.laid))
 
             begin : ℕ
             begin = next_multiple_of (size_or g) alignment
@@ -240,22 +240,22 @@ module _ (s : Script) (placement : Placement) (ys : List Layout) (ms : List Modu
                 ∙ ap (λ n. (or_empty name g).cells ++ (replicate n filled ++ flat_map (fragment_cells owner) sec.fragments)) gap_is
                 ∙ ap (λ z. z ++ (replicate (begin - size_or g) filled ++ flat_map (fragment_cells owner) sec.fragments)) (or_empty_cells name g)
 
-            part_is : module_items owner y name ≡ rounding alignment ∷ map statement_item (statements_with_segment key (segment_statements_after owner [] y.laid))
+            part_is : module_items owner y name ≡ rounding alignment ∷ map statement_item (statements_with_segment key (module_statements_after owner [] y.laid))
             part_is = whole_part y owner key name source.no_line_errors lt called has
 
-            lines : (more : List ℕ) → EncodesSegmentItems p fill begin (map statement_item (statements_with_segment key (segment_statements_after owner [] y.laid))) more ↔ AreCells l fill (flat_map (fragment_cells owner) sec.fragments) more
+            lines : (more : List ℕ) → EncodesSegmentItems p fill begin (map statement_item (statements_with_segment key (module_statements_after owner [] y.laid))) more ↔ AreCells l fill (flat_map (fragment_cells owner) sec.fragments) more
             lines more = lines_have begin key origins cs more (contents_of y m source).found (begin_is_multiple y owner key (size_or g) source.no_line_errors)
 
             there : AreCells l fill (cells_or (after_sections owner name g m.object.sections)) bytes → Split (cells_or g) (size_or g) (module_items owner y name) bytes
             there h =
                 let a = cells_split l fill (cells_or g) (replicate (begin - size_or g) filled ++ flat_map (fragment_cells owner) sec.fragments) bytes (subst (λ z. AreCells l fill z bytes) cells_are h) in
                 let b = cells_split l fill (replicate (begin - size_or g) filled) (flat_map (fragment_cells owner) sec.fragments) a.1 a.3 in
-                let part : EncodesSegmentItems p fill (size_or g) (rounding alignment ∷ map statement_item (statements_with_segment key (segment_statements_after owner [] y.laid))) a.1 = (b.0, b.1, (of_filled l fill (begin - size_or g) b.0).1 b.2, (lines b.1).1 b.3, b.4) in
+                let part : EncodesSegmentItems p fill (size_or g) (rounding alignment ∷ map statement_item (statements_with_segment key (module_statements_after owner [] y.laid))) a.1 = (b.0, b.1, (of_filled l fill (begin - size_or g) b.0).1 b.2, (lines b.1).1 b.3, b.4) in
                 (a.0, a.1, a.2, subst (λ z. EncodesSegmentItems p fill (size_or g) z a.1) (sym part_is) part, a.4)
 
             back : Split (cells_or g) (size_or g) (module_items owner y name) bytes → AreCells l fill (cells_or (after_sections owner name g m.object.sections)) bytes
             back h =
-                let b : EncodesSegmentItems p fill (size_or g) (rounding alignment ∷ map statement_item (statements_with_segment key (segment_statements_after owner [] y.laid))) h.1 = subst (λ z. EncodesSegmentItems p fill (size_or g) z h.1) part_is h.3 in
+                let b : EncodesSegmentItems p fill (size_or g) (rounding alignment ∷ map statement_item (statements_with_segment key (module_statements_after owner [] y.laid))) h.1 = subst (λ z. EncodesSegmentItems p fill (size_or g) z h.1) part_is h.3 in
                 let rest = cells_joined l fill (replicate (begin - size_or g) filled) (flat_map (fragment_cells owner) sec.fragments) h.1 (b.0, b.1, (of_filled l fill (begin - size_or g) b.0).0 b.2, (lines b.1).0 b.3, b.4) in
                 subst (λ z. AreCells l fill z bytes) (sym cells_are) (cells_joined l fill (cells_or g) (replicate (begin - size_or g) filled ++ flat_map (fragment_cells owner) sec.fragments) bytes (h.0, h.1, h.2, rest, h.4))
 

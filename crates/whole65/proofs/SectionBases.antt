@@ -32,7 +32,7 @@ use Rattle.whole65.proofs.Sources.{contents_of, in_segment, section_begin, same_
 use Rattle.whole65.proofs.LinkedObjects.{or_empty, base_in, symbols_at, IsKeyed, IsKeyedContent, IsKeyedPart, IsKeyedSaid, provider_named, imports_linked, linked_objects}
 use Rattle.whole65.specs.Modules.{table_of}
 use Rattle.whole65.specs.Offsets.{HasNoLineErrors, section_start_from, statements_with_segment}
-use Rattle.whole65.specs.Segments.{end_of, has_section, segment_items_from, segment_items, largest_multiple, segment_statements_after, statements_in_segment, module_items, segment_name_at}
+use Rattle.whole65.specs.Segments.{end_of, has_section, segment_items_from, segment_items, largest_multiple, module_statements_after, statements_in_segment, module_items, segment_name_at}
 use Rattle.whole65.specs.Sources.{AreObjectsOfLayouts, IsObjectOfLayout}
 use Rattle.std.proofs.lemmas.List.Folds.{list_any-append}
 use Rattle.link65.specs.Names.{provider_of, script_definitions, weak_symbols}
@@ -159,7 +159,7 @@ section_base_law s placement ys ms owner g y m cs h at_y at_m e among =
     let object = same_object y m cs source e in
     let size : linked.end_of before.segments name ≡ end_of 0 (segment_items (take owner ys) name) = size_law (take owner ys) (take owner ms) name (sources_front ys ms owner h) in
     let run : ℕ = run_of s.rows placement.rows name in
-    let lines_are : statements_in_segment owner y name ≡ statements_with_segment g (segment_statements_after owner [] y.laid) = in_segment owner y g d lt in
+    let lines_are : statements_in_segment owner y name ≡ statements_with_segment g (module_statements_after owner [] y.laid) = in_segment owner y g d lt in
     grind (arith, common_steps, (resolved_at s placement ms owner m at_m), (place_at y (length before.members) origins sections imports cs A (named d).distinct before.segments sections g keys.standing keys.single among), (base_law s.rows placement.rows (section_position before.segments sec_g)), (section_begin y owner g (end_of 0 (segment_items (take owner ys) name)) origins sections imports cs d), (begins ys y name 0 0 owner at_y))
 
 -- ---- All forms have keys.

@@ -33,7 +33,7 @@ use Rattle.ast65.specs.declared.language.Statement.{Statement}
 use Rattle.ast65.specs.declared.language.Statement.TheVariants as statement
 use Rattle.ast65.specs.declared.language.Item.TheVariants as item
 use Rattle.semantics65.specs.Norms.{norm_of}
-use Rattle.whole65.specs.Segments.{SegmentStatement, statement_end, statement_item, segment_statement, segment_statements_after, largest_multiple}
+use Rattle.whole65.specs.Segments.{ModuleStatement, statement_end, statement_item, module_statement, module_statements_after, largest_multiple}
 use Rattle.whole65.specs.Values.{Program, Value}
 use Rattle.semantics65.specs.Symbols.{LaidOutStatement}
 use Rattle.semantics65.specs.Numbering.{all_declarations, parts_in}
@@ -111,7 +111,7 @@ module _ {E : Type 0} (o : LinkerView E) (owner fill : ℕ) where
 
 -- ---- The bytes of lines and those of parts.
 
-module _ {E : Type 0} (p : Program) (o : LinkerView E) (h : IsLinkerView p o) (fill : ℕ) (x : SegmentStatement) (at_context : o.contexts x.owner x.index ≡ x.laid.context) where
+module _ {E : Type 0} (p : Program) (o : LinkerView E) (h : IsLinkerView p o) (fill : ℕ) (x : ModuleStatement) (at_context : o.contexts x.owner x.index ≡ x.laid.context) where
   -- these pieces of the statement come to these contents
   abbrev Come : List (List ℕ) → List Piece → List Content → Type 0
   Come names ps cs = AllCome (o.symbols x.owner) x.laid names ps cs
@@ -192,7 +192,7 @@ module _ {E : Type 0} (p : Program) (o : LinkerView E) (h : IsLinkerView p o) (f
   none : (cs : List Content) (bytes : List ℕ) → all_put cs ≡ [] → (bytes ≡ []) ↔ HaveBytes cs bytes
   none cs bytes e = (λ k. subst (λ qs. AreParts (HasValue o x.owner) fill qs bytes) (sym e) k, λ k. subst (λ qs. AreParts (HasValue o x.owner) fill qs bytes) e k)
 
-of_line : {E : Type 0} (p : Program) (o : LinkerView E) → IsLinkerView p o → (fill position : ℕ) (x : SegmentStatement) (t : Statement) (names : List (List ℕ)) (cs : List Content) (bytes : List ℕ) → o.contexts x.owner x.index ≡ x.laid.context → statement_end position x.alignment (record x.laid { stated = t }) ≡ position + x.laid.length → AllCome (o.symbols x.owner) x.laid names (pieces_of x.laid.length x.laid.encoding t) cs → EncodesStatement p fill position (record x { laid = record x.laid { stated = t } }) bytes ↔ AreParts (HasValue o x.owner) fill (all_put cs) bytes
+of_line : {E : Type 0} (p : Program) (o : LinkerView E) → IsLinkerView p o → (fill position : ℕ) (x : ModuleStatement) (t : Statement) (names : List (List ℕ)) (cs : List Content) (bytes : List ℕ) → o.contexts x.owner x.index ≡ x.laid.context → statement_end position x.alignment (record x.laid { stated = t }) ≡ position + x.laid.length → AllCome (o.symbols x.owner) x.laid names (pieces_of x.laid.length x.laid.encoding t) cs → EncodesStatement p fill position (record x { laid = record x.laid { stated = t } }) bytes ↔ AreParts (HasValue o x.owner) fill (all_put cs) bytes
 of_line p o h fill position x (statement.Instruction m d) names cs bytes s e all = of_instruction p o h fill x s m d x.laid.encoding names cs bytes all
 of_line p o h fill position x (statement.Values width is) names cs bytes s e all = of_items p o h fill x s width names is cs bytes all
 of_line p o h fill position x (statement.Reserve n v) names cs bytes s e all = room p o h fill x s x.laid.length x.laid.length x.laid.encoding names cs bytes refl all
@@ -204,7 +204,7 @@ of_line p o h fill position x t names cs bytes s e all = none p o h fill x s cs 
 
 -- A line of the whole program has the bytes of the parts that its statement's pieces put into the section, at a position at
 -- which it ends its length further on.
-pub parts_law : (E : Type 0) → (p : Program) (o : LinkerView E) (fill position : ℕ) (x : SegmentStatement) (names : List (List ℕ)) (cs : List Content) (bytes : List ℕ) → IsLinkerView p o → o.contexts x.owner x.index ≡ x.laid.context → statement_end position x.alignment x.laid ≡ position + x.laid.length → AllCome (o.symbols x.owner) x.laid names (pieces_of x.laid.length x.laid.encoding x.laid.stated) cs → EncodesStatement p fill position x bytes ↔ AreParts (HasValue o x.owner) fill (all_put cs) bytes
+pub parts_law : (E : Type 0) → (p : Program) (o : LinkerView E) (fill position : ℕ) (x : ModuleStatement) (names : List (List ℕ)) (cs : List Content) (bytes : List ℕ) → IsLinkerView p o → o.contexts x.owner x.index ≡ x.laid.context → statement_end position x.alignment x.laid ≡ position + x.laid.length → AllCome (o.symbols x.owner) x.laid names (pieces_of x.laid.length x.laid.encoding x.laid.stated) cs → EncodesStatement p fill position x bytes ↔ AreParts (HasValue o x.owner) fill (all_put cs) bytes
 parts_law E p o fill position x names cs bytes h s e all = of_line p o h fill position x x.laid.stated names cs bytes s e all
 
 -- ---- Parts behind parts.
@@ -229,8 +229,8 @@ in_middle [] l ls = refl
 in_middle (x ∷ before) l ls = in_middle before l ls
 
 module _ {E : Type 0} (p : Program) (o : LinkerView E) (h : IsLinkerView p o) (fill owner g : ℕ) (all : List LaidOutStatement) (contexts : (index : ℕ) (l : LaidOutStatement) → slice_get all index ≡ Some l → o.contexts owner index ≡ l.context) where
-  abbrev here : List LaidOutStatement → List LaidOutStatement → List SegmentStatement
-  here before ls = statements_with_segment g (segment_statements_after owner before ls)
+  abbrev here : List LaidOutStatement → List LaidOutStatement → List ModuleStatement
+  here before ls = statements_with_segment g (module_statements_after owner before ls)
 
   of_lines : (before ls : List LaidOutStatement) (names : List (List ℕ)) (cs : List Content) (position : ℕ) (bytes : List ℕ) → before ++ ls ≡ all → EndsAt position (here before ls) → AreStated (o.symbols owner) names ls cs → EncodesSegmentItems p fill position (map statement_item (here before ls)) bytes ↔ AreParts (HasValue o owner) fill (parts_in cs g) bytes
   of_lines before [] names _ position bytes w ends no_line = (λ k. k, λ k. k)
@@ -242,17 +242,17 @@ module _ {E : Type 0} (p : Program) (o : LinkerView E) (h : IsLinkerView p o) (f
       let step = by one.own one.pieces (contexts (length before) l there) (λ z rest ends. of_lines (before ++ l ∷ []) ls (names ++ exported_names (all_declarations ds)) cs z rest next ends more) (nat_eq l.context.segment g) ends in
       (λ k. subst (λ qs. AreParts (HasValue o owner) fill qs bytes) (sym parts) (step.0 k), λ k. step.1 (subst (λ qs. AreParts (HasValue o owner) fill qs bytes) parts k))
     where
-      others : List SegmentStatement
+      others : List ModuleStatement
       others = here (before ++ l ∷ []) ls
 
       by :
           (own : List Content) → AllCome (o.symbols owner) l names (pieces_of l.length l.encoding l.stated) own → o.contexts owner (length before) ≡ l.context →
           ((z : ℕ) (rest : List ℕ) → EndsAt z others → EncodesSegmentItems p fill z (map statement_item others) rest ↔ AreParts (HasValue o owner) fill (parts_in cs g) rest) →
-          (b : Bool) → EndsAt position (cond b (segment_statement owner before l ∷ others) others) →
-          EncodesSegmentItems p fill position (map statement_item (cond b (segment_statement owner before l ∷ others) others)) bytes ↔ AreParts (HasValue o owner) fill (cond b (all_put own) [] ++ parts_in cs g) bytes
+          (b : Bool) → EndsAt position (cond b (module_statement owner before l ∷ others) others) →
+          EncodesSegmentItems p fill position (map statement_item (cond b (module_statement owner before l ∷ others) others)) bytes ↔ AreParts (HasValue o owner) fill (cond b (all_put own) [] ++ parts_in cs g) bytes
       by own pieces context deeper false ends = deeper position bytes ends
       by own pieces context deeper true ends =
-          let x : SegmentStatement = segment_statement owner before l in
+          let x : ModuleStatement = module_statement owner before l in
           let following : ℕ = statement_end position x.alignment l in
           let one : (first : List ℕ) → EncodesStatement p fill position x first ↔ AreParts (HasValue o owner) fill (all_put own) first = λ first. parts_law E p o fill position x names own first h context ends.0 pieces in (
             λ k. parts_joined (HasValue o owner) fill (all_put own) (parts_in cs g) bytes (k.0, k.1, (one k.0).0 k.2, (deeper following k.1 ends.1).0 k.3, k.4),
@@ -261,9 +261,9 @@ module _ {E : Type 0} (p : Program) (o : LinkerView E) (h : IsLinkerView p o) (f
 
 -- A module's lines in a segment, from a multiple of their alignment on, have the bytes of what its statements put into the
 -- section.
-pub section_law : (E : Type 0) → (p : Program) (o : LinkerView E) (fill begin owner g : ℕ) (y : Layout) (cs : List Content) (bytes : List ℕ) → IsLinkerView p o → o.symbols owner ≡ table_of y → ((index : ℕ) (l : LaidOutStatement) → slice_get y.laid index ≡ Some l → o.contexts owner index ≡ l.context) → HasNoLineErrors y → IsMultiple begin (largest_multiple (statements_with_segment g (segment_statements_after owner [] y.laid))) → (module_resolution y.laid).found ≡ Ok cs → EncodesSegmentItems p fill begin (map statement_item (statements_with_segment g (segment_statements_after owner [] y.laid))) bytes ↔ AreParts (HasValue o owner) fill (parts_in cs g) bytes
+pub section_law : (E : Type 0) → (p : Program) (o : LinkerView E) (fill begin owner g : ℕ) (y : Layout) (cs : List Content) (bytes : List ℕ) → IsLinkerView p o → o.symbols owner ≡ table_of y → ((index : ℕ) (l : LaidOutStatement) → slice_get y.laid index ≡ Some l → o.contexts owner index ≡ l.context) → HasNoLineErrors y → IsMultiple begin (largest_multiple (statements_with_segment g (module_statements_after owner [] y.laid))) → (module_resolution y.laid).found ≡ Ok cs → EncodesSegmentItems p fill begin (map statement_item (statements_with_segment g (module_statements_after owner [] y.laid))) bytes ↔ AreParts (HasValue o owner) fill (parts_in cs g) bytes
 section_law E p o fill begin owner g y cs bytes h table contexts d m e =
-    let lines : List SegmentStatement = statements_with_segment g (segment_statements_after owner [] y.laid) in
+    let lines : List ModuleStatement = statements_with_segment g (module_statements_after owner [] y.laid) in
     let begins : begin + 0 ≡ begin = omega arith in
-    let ends : EndsAt begin lines = subst (λ n. EndsAt n lines) begins (ends_moved begin 0 lines (powers_at g (segment_statements_after owner [] y.laid) (placed owner d).powers) m (all_end owner g d)) in
+    let ends : EndsAt begin lines = subst (λ n. EndsAt n lines) begins (ends_moved begin 0 lines (powers_at g (module_statements_after owner [] y.laid) (placed owner d).powers) m (all_end owner g d)) in
     of_lines p o h fill owner g y.laid contexts [] y.laid [] cs begin bytes refl ends (subst (λ z. AreStated z [] y.laid cs) (sym table) (are_stated y cs e))

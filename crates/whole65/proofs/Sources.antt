@@ -20,7 +20,7 @@ use Rattle.whole65.proofs.Offsets.{EndsAt, all_end, placed}
 use Rattle.whole65.proofs.Statements.{AreStated, a_line, are_stated, no_line}
 use Rattle.whole65.specs.Modules.{table_of}
 use Rattle.whole65.specs.Offsets.{statements_with_segment, HasNoLineErrors, IsMultiple}
-use Rattle.whole65.specs.Segments.{SegmentStatement, end_of, statement_item, segment_statements_after, has_section, segment_items_from, largest_multiple, statements_in_segment, module_items, rounding, segment_name_at, segment_items}
+use Rattle.whole65.specs.Segments.{ModuleStatement, end_of, statement_item, module_statements_after, has_section, segment_items_from, largest_multiple, statements_in_segment, module_items, rounding, segment_name_at, segment_items}
 use Rattle.std.specs.Int.{next_multiple_of}
 use Rattle.std.specs.Option.{option_map_or}
 use Rattle.object65.specs.Versions.{IsEitherVersion, version_one_object, line_origin}
@@ -77,8 +77,8 @@ abbrev AreMeasured : List LaidOutStatement → Type 0
 AreMeasured ls = (i : ℕ) (l : LaidOutStatement) → slice_get ls i ≡ Some l → (before : Symbols) × IsMeasured before l
 
 module _ (z : Symbols) (owner g : ℕ) where
-  abbrev here : List LaidOutStatement → List LaidOutStatement → List SegmentStatement
-  here before ls = statements_with_segment g (segment_statements_after owner before ls)
+  abbrev here : List LaidOutStatement → List LaidOutStatement → List ModuleStatement
+  here before ls = statements_with_segment g (module_statements_after owner before ls)
 
   lines_long : (before ls : List LaidOutStatement) (names : List (List ℕ)) (cs : List Content) (position : ℕ) → EndsAt position (here before ls) → AreMeasured ls → AreStated z names ls cs → end_of position (map statement_item (here before ls)) ≡ position + sum_by part_len (parts_in cs g)
   lines_long before [] names _ position ends measured no_line = sym (zero_more position)
@@ -88,7 +88,7 @@ module _ (z : Symbols) (owner g : ℕ) where
       grind (arith, common_steps, (λ (n : ℕ) (ends : EndsAt n (here (before ++ l ∷ []) ls)). lines_long (before ++ l ∷ []) ls (names ++ exported_names (all_declarations ds)) cs n ends (λ i x e. measured (suc i) x e) more))
 
 -- It is as long as they are.
-pub length_law : (y : Layout) (owner g : ℕ) (cs : List Content) (origins : SourceLocation → Origin) (sections imports : List ℕ) → HasNoLineErrors y → IsWellFormedLayout y → (module_resolution y.laid).found ≡ Ok cs → section_len (section_of origins y.cursor.segments sections imports cs g) ≡ end_of 0 (map statement_item (statements_with_segment g (segment_statements_after owner [] y.laid)))
+pub length_law : (y : Layout) (owner g : ℕ) (cs : List Content) (origins : SourceLocation → Origin) (sections imports : List ℕ) → HasNoLineErrors y → IsWellFormedLayout y → (module_resolution y.laid).found ≡ Ok cs → section_len (section_of origins y.cursor.segments sections imports cs g) ≡ end_of 0 (map statement_item (statements_with_segment g (module_statements_after owner [] y.laid)))
 length_law y owner g cs origins sections imports d s e =
     let parts = joined_parts_long origins sections imports (parts_in cs g) in
     let lines = lines_long (table_of y) owner g [] y.laid [] cs 0 (all_end owner g d) (λ i l at. (symbols_of (take i y.laid), s.measured i l at)) (are_stated y cs e) in
@@ -177,19 +177,19 @@ after_source y m h owner name g = go (has_section y name) refl
 -- ---- Where a part begins and ends.
 
 -- the lines of a name are those of its segment's number
-pub in_segment : (owner : ℕ) (y : Layout) (g : ℕ) → HasNoLineErrors y → g < length y.cursor.segments → statements_in_segment owner y (segment_name_at y g) ≡ statements_with_segment g (segment_statements_after owner [] y.laid)
+pub in_segment : (owner : ℕ) (y : Layout) (g : ℕ) → HasNoLineErrors y → g < length y.cursor.segments → statements_in_segment owner y (segment_name_at y g) ≡ statements_with_segment g (module_statements_after owner [] y.laid)
 in_segment owner y g d lt = by_number owner y g (named d).distinct lt [] y.laid (named d).standing
 
-pub section_begin : (y : Layout) (owner key position : ℕ) (origins : SourceLocation → Origin) (sections imports : List ℕ) (cs : List Content) → HasNoLineErrors y → rounded_up position (linked.align_of (section_of origins y.cursor.segments sections imports cs key)) ≡ next_multiple_of position (largest_multiple (statements_with_segment key (segment_statements_after owner [] y.laid)))
+pub section_begin : (y : Layout) (owner key position : ℕ) (origins : SourceLocation → Origin) (sections imports : List ℕ) (cs : List Content) → HasNoLineErrors y → rounded_up position (linked.align_of (section_of origins y.cursor.segments sections imports cs key)) ≡ next_multiple_of position (largest_multiple (statements_with_segment key (module_statements_after owner [] y.laid)))
 section_begin y owner key position origins sections imports cs d = grind (arith, common_steps, power_positive, largest_power, powers_at, placed, alignment_law, rounding_law)
 
-pub begin_is_multiple : (y : Layout) (owner key position : ℕ) → HasNoLineErrors y → IsMultiple (next_multiple_of position (largest_multiple (statements_with_segment key (segment_statements_after owner [] y.laid)))) (largest_multiple (statements_with_segment key (segment_statements_after owner [] y.laid)))
+pub begin_is_multiple : (y : Layout) (owner key position : ℕ) → HasNoLineErrors y → IsMultiple (next_multiple_of position (largest_multiple (statements_with_segment key (module_statements_after owner [] y.laid)))) (largest_multiple (statements_with_segment key (module_statements_after owner [] y.laid)))
 begin_is_multiple y owner key position d =
-    let lines : List SegmentStatement = statements_with_segment key (segment_statements_after owner [] y.laid) in
-    rounded position (largest_multiple lines) (power_positive (largest_multiple lines) (largest_power lines (powers_at key (segment_statements_after owner [] y.laid) (placed owner d).powers)))
+    let lines : List ModuleStatement = statements_with_segment key (module_statements_after owner [] y.laid) in
+    rounded position (largest_multiple lines) (power_positive (largest_multiple lines) (largest_power lines (powers_at key (module_statements_after owner [] y.laid) (placed owner d).powers)))
 
 -- the part of a module that has a section
-pub whole_part : (y : Layout) (owner key : ℕ) (name : List ℕ) → HasNoLineErrors y → key < length y.cursor.segments → segment_name_at y key ≡ name → has_section y name ≡ true → module_items owner y name ≡ rounding (largest_multiple (statements_with_segment key (segment_statements_after owner [] y.laid))) ∷ map statement_item (statements_with_segment key (segment_statements_after owner [] y.laid))
+pub whole_part : (y : Layout) (owner key : ℕ) (name : List ℕ) → HasNoLineErrors y → key < length y.cursor.segments → segment_name_at y key ≡ name → has_section y name ≡ true → module_items owner y name ≡ rounding (largest_multiple (statements_with_segment key (module_statements_after owner [] y.laid))) ∷ map statement_item (statements_with_segment key (module_statements_after owner [] y.laid))
 whole_part y owner key name d lt called has = grind (arith, common_steps, in_segment)
 
 pub no_part : (y : Layout) (owner : ℕ) (name : List ℕ) → has_section y name ≡ false → module_items owner y name ≡ []
@@ -205,13 +205,13 @@ part_end y m owner name g h = go (after_source y m h owner name g)
         let cs : List Content = c.contents in
         let sections : List ℕ = section_keys cs in
         let imports : List ℕ = import_keys (table_of y).imports cs in
-        let lines : List SegmentStatement = statements_with_segment key (segment_statements_after owner [] y.laid) in
+        let lines : List ModuleStatement = statements_with_segment key (module_statements_after owner [] y.laid) in
         let begin : ℕ = next_multiple_of (size_or g) (largest_multiple lines) in
         ap size_or e
         ∙ ap (λ n. rounded_up n (linked.align_of (section_of c.origins y.cursor.segments sections imports cs key)) + section_len (section_of c.origins y.cursor.segments sections imports cs key)) (size_or_empty name g)
         ∙ ap (λ n. n + section_len (section_of c.origins y.cursor.segments sections imports cs key)) (section_begin y owner key (size_or g) c.origins sections imports cs h.no_line_errors)
         ∙ ap (λ n. begin + n) (length_law y owner key cs c.origins sections imports h.no_line_errors h.well_formed_layout c.found)
-        ∙ sym (shift_law lines begin (powers_at key (segment_statements_after owner [] y.laid) (placed owner h.no_line_errors).powers) (begin_is_multiple y owner key (size_or g) h.no_line_errors))
+        ∙ sym (shift_law lines begin (powers_at key (module_statements_after owner [] y.laid) (placed owner h.no_line_errors).powers) (begin_is_multiple y owner key (size_or g) h.no_line_errors))
         ∙ ap (end_of (size_or g)) (sym (whole_part y owner key name h.no_line_errors lt called has))
 
 -- ---- Module by module.

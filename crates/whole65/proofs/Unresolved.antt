@@ -35,7 +35,7 @@ use Rattle.whole65.specs.Objects.{IsLinkerView, HasNoValue, HasValue, HasProvide
 use Rattle.whole65.specs.Objects as objects
 use Rattle.whole65.specs.Programs as whole
 use Rattle.whole65.specs.Programs.{statement_count, placed_program}
-use Rattle.whole65.specs.Segments.{segment_statement, segment_statements_after, SegmentStatement, requested_segments, end_of, has_section, segment_items_from, segment_items, largest_multiple, statement_item, need_of, needs_of, module_items, rounding, segment_name_at, segments_of}
+use Rattle.whole65.specs.Segments.{module_statement, module_statements_after, ModuleStatement, requested_segments, end_of, has_section, segment_items_from, segment_items, largest_multiple, statement_item, need_of, needs_of, module_items, rounding, segment_name_at, segments_of}
 use Rattle.whole65.specs.Sources.{AreObjectsOfLayouts, IsObjectOfLayout}
 use Rattle.whole65.specs.Values.{Program, by_nobody}
 use Rattle.whole65.specs.Whole.{SatisfiesAssertion, HasExportValue, IsProvided, PassAssertions, HaveExportValues, HaveForcedImports, EncodesRow}
@@ -172,17 +172,17 @@ module _ (s : Script) (placement : Placement) (ys : List Layout) (ms : List Modu
 
   -- ---- Assertions.
 
-  check_valued : (before : List LaidOutStatement) (l : LaidOutStatement) (x : Declaration) → o.contexts owner (length before) ≡ l.context → SatisfiesAssertion p (segment_statement owner before l) → IsAsserted z l x → IsValuedCheck x
+  check_valued : (before : List LaidOutStatement) (l : LaidOutStatement) (x : Declaration) → o.contexts owner (length before) ≡ l.context → SatisfiesAssertion p (module_statement owner before l) → IsAsserted z l x → IsValuedCheck x
   check_valued before l (LinkAssertion act place words f) context has (e, stated, normal) =
       let same = same_values_law ValueFault p o (sources_law s placement ys ms h) (suc (length z.definitions)) owner (length before) e f in
       grind (arith, common_steps)
   check_valued before l _ context has k = tt
 
-  line_valued : (before : List LaidOutStatement) (l : LaidOutStatement) (ss : List Declaration) → o.contexts owner (length before) ≡ l.context → SatisfiesAssertion p (segment_statement owner before l) → AllByRecursion (IsAsserted z l) ss → AllByRecursion IsValuedCheck ss
+  line_valued : (before : List LaidOutStatement) (l : LaidOutStatement) (ss : List Declaration) → o.contexts owner (length before) ≡ l.context → SatisfiesAssertion p (module_statement owner before l) → AllByRecursion (IsAsserted z l) ss → AllByRecursion IsValuedCheck ss
   line_valued before l [] context has k = tt
   line_valued before l (x ∷ ss) context has k = (check_valued before l x context has k.0, line_valued before l ss context has k.1)
 
-  checks_valued : (before ls : List LaidOutStatement) (names : List (List ℕ)) (cs : List Content) → before ++ ls ≡ y.laid → AreStated z names ls cs → AllByRecursion (SatisfiesAssertion p) (segment_statements_after owner before ls) → AllByRecursion IsValuedCheck (all_declarations cs)
+  checks_valued : (before ls : List LaidOutStatement) (names : List (List ℕ)) (cs : List Content) → before ++ ls ≡ y.laid → AreStated z names ls cs → AllByRecursion (SatisfiesAssertion p) (module_statements_after owner before ls) → AllByRecursion IsValuedCheck (all_declarations cs)
   checks_valued before [] names _ w no_line has = tt
   checks_valued before (l ∷ ls) names _ w (a_line ds cs found more) has =
       let next : (before ++ l ∷ []) ++ ls ≡ y.laid = append_assoc before (l ∷ []) ls ∙ w in
@@ -194,7 +194,7 @@ module _ (s : Script) (placement : Placement) (ys : List Layout) (ms : List Modu
 
   -- ---- All imports of the object.
 
-  pub module_given : (m : Module) (source : IsObjectOfLayout y m) → AllByRecursion (IsProvided p) (forced_imports_of y) → AllByRecursion (HasExportValue p owner) (exports_of y) → AllByRecursion (SatisfiesAssertion p) (segment_statements_after owner [] y.laid) → Asked IsValuedPart (contents_of y m source).contents → AllByRecursion (IsProvided p) m.object.imports
+  pub module_given : (m : Module) (source : IsObjectOfLayout y m) → AllByRecursion (IsProvided p) (forced_imports_of y) → AllByRecursion (HasExportValue p owner) (exports_of y) → AllByRecursion (SatisfiesAssertion p) (module_statements_after owner [] y.laid) → Asked IsValuedPart (contents_of y m source).contents → AllByRecursion (IsProvided p) m.object.imports
   module_given m source given exported asserted asked =
       let c = contents_of y m source in
       let cs : List Content = c.contents in
@@ -281,7 +281,7 @@ module _ (s : Script) (placement : Placement) (ys : List Layout) (ms : List Modu
       let all : EncodesSegmentItems whole_program r.fill_value 0 (segment_items ys name) (bytes r) = subst (λ n. EncodesSegmentItems whole_program r.fill_value 0 (segment_items ys n) (bytes r)) called row in
       let (position, own, part) = part_bytes whole_program r.fill_value name ys 0 0 owner (bytes r) y at_y all in
       let first : 0 + owner ≡ owner = omega arith in
-      let lines : List SegmentStatement = statements_with_segment g (segment_statements_after owner [] y.laid) in
+      let lines : List ModuleStatement = statements_with_segment g (module_statements_after owner [] y.laid) in
       let begin : ℕ = next_multiple_of position (largest_multiple lines) in
       let mine : EncodesSegmentItems whole_program r.fill_value position (rounding (largest_multiple lines) ∷ map statement_item lines) own =
       subst (λ xs. EncodesSegmentItems whole_program r.fill_value position xs own) (whole_part y owner g name d below refl has) (subst (λ n. EncodesSegmentItems whole_program r.fill_value position (module_items n y name) own) first part) in

@@ -16,7 +16,7 @@ use Rattle.ast65.specs.declared.language.Statement.{Statement}
 use Rattle.ast65.specs.declared.language.Statement.TheVariants.{Instruction, Values, Reserve, Align, Incbin}
 use Rattle.ast65.specs.declared.language.Item.TheVariants as item
 use Rattle.semantics65.specs.Norms.{width_of}
-use Rattle.whole65.specs.Segments.{SegmentStatement, end_after, statement_end, statement_item, rounding}
+use Rattle.whole65.specs.Segments.{ModuleStatement, end_after, statement_end, statement_item, rounding}
 use Rattle.whole65.specs.Segments as segments
 use Rattle.whole65.specs.Values.{Program, Value}
 
@@ -32,12 +32,12 @@ abbrev pub EncodesValue : Width → ℤ → List ℕ → Type 0
 EncodesValue width v bytes = (fits_width width v ≡ true) × (bytes ≡ value_bytes width v)
 
 -- the bytes of an element of a list of data: a stored value, or the string's own bytes
-abbrev pub EncodesDataItem : Program → SegmentStatement → Width → Item → List ℕ → Type 0
+abbrev pub EncodesDataItem : Program → ModuleStatement → Width → Item → List ℕ → Type 0
 EncodesDataItem p x width (item.Value e) bytes = (v : ℤ) × Value p x.owner x.index e v × EncodesValue width v bytes
 EncodesDataItem p x width (item.StringLiteral own) bytes = bytes ≡ own
 
 -- the bytes of a list of data: the first element's own bytes, and then the rest
-abbrev pub EncodesDataItems : Program → SegmentStatement → Width → List Item → List ℕ → Type 0
+abbrev pub EncodesDataItems : Program → ModuleStatement → Width → List Item → List ℕ → Type 0
 EncodesDataItems p x width [] bytes = bytes ≡ []
 EncodesDataItems p x width (i ∷ is) bytes =
     (own : List ℕ) × (rest : List ℕ) × EncodesDataItem p x width i own × EncodesDataItems p x width is rest × (bytes ≡ own ++ rest)
@@ -45,7 +45,7 @@ EncodesDataItems p x width (i ∷ is) bytes =
 -- ---- Instructions.
 
 -- the stored value of an instruction's operand; no byte if the mode has no operand
-abbrev pub EncodesOperand : Program → SegmentStatement → Option Width → Option Tree → List ℕ → Type 0
+abbrev pub EncodesOperand : Program → ModuleStatement → Option Width → Option Tree → List ℕ → Type 0
 EncodesOperand p x (Some width) (Some e) bytes =
     (v : ℤ) × Value p x.owner x.index e v × EncodesValue width (operand_value width (p.address x.owner x.index) v) bytes
 EncodesOperand p x width e bytes = bytes ≡ []
@@ -55,7 +55,7 @@ code_bytes None = []
 code_bytes (Some code) = code ∷ []
 
 -- the opcode and the operand
-abbrev pub EncodesInstruction : Program → SegmentStatement → Mnemonic → Operand → EncodingChoice → List ℕ → Type 0
+abbrev pub EncodesInstruction : Program → ModuleStatement → Mnemonic → Operand → EncodingChoice → List ℕ → Type 0
 EncodesInstruction p x m o (InMode mode) bytes =
     (own : List ℕ) × EncodesOperand p x (width_of mode) (operand_tree o) own × (bytes ≡ code_bytes (opcode_of m mode) ++ own)
 EncodesInstruction p x m o _ bytes = bytes ≡ []
@@ -68,7 +68,7 @@ reserve_byte fill (FillByte byte) = byte
 reserve_byte fill _ = fill
 
 -- the bytes of a statement at a position, given the fill value of the segment's row
-abbrev pub EncodesStatement : Program → ℕ → ℕ → SegmentStatement → List ℕ → Type 0
+abbrev pub EncodesStatement : Program → ℕ → ℕ → ModuleStatement → List ℕ → Type 0
 EncodesStatement p fill position x bytes = go x.laid.stated
   where
     go : Statement → Type 0

@@ -11,7 +11,7 @@ use Rattle.semantics65.specs.Layout.{Layout, segment_at}
 use Rattle.semantics65.specs.Norms.{norm}
 use Rattle.whole65.specs.Offsets.{ArePowers, HasNoLineErrors, statements_with_segment}
 use Rattle.whole65.specs.Sources.{AreObjectsOfLayouts, IsObjectOfLayout}
-use Rattle.whole65.specs.Segments.{end_of, largest_multiple, statement_item, segment_statements_after, need_of, needs_of}
+use Rattle.whole65.specs.Segments.{end_of, largest_multiple, statement_item, module_statements_after, need_of, needs_of}
 use Rattle.link65.specs.Programs.{Module, Cell, fragment_cells, segment_of}
 use Rattle.link65.specs.Programs as linked
 use Rattle.link65.specs.Values as places
@@ -51,14 +51,14 @@ NormalFormPreservesValue E =
 pub record AgreesWithPositions (y : Layout) (owner : ℕ) : Type 0 where
   pub offset :
       (index : ℕ) (l : LaidOutStatement) → slice_get y.laid index ≡ Some l →
-      l.context.offset ≡ end_of 0 (map statement_item (statements_with_segment l.context.segment (segment_statements_after owner [] (take index y.laid))))
+      l.context.offset ≡ end_of 0 (map statement_item (statements_with_segment l.context.segment (module_statements_after owner [] (take index y.laid))))
   pub size :
       (g : ℕ) →
-      (segment_at y.cursor.segments g).end ≡ end_of 0 (map statement_item (statements_with_segment g (segment_statements_after owner [] y.laid)))
+      (segment_at y.cursor.segments g).end ≡ end_of 0 (map statement_item (statements_with_segment g (module_statements_after owner [] y.laid)))
   pub same_alignment :
       (g : ℕ) →
-      (segment_at y.cursor.segments g).align ≡ largest_multiple (statements_with_segment g (segment_statements_after owner [] y.laid))
-  pub powers : ArePowers (segment_statements_after owner [] y.laid)
+      (segment_at y.cursor.segments g).align ≡ largest_multiple (statements_with_segment g (module_statements_after owner [] y.laid))
+  pub powers : ArePowers (module_statements_after owner [] y.laid)
 
 abbrev pub OffsetIsPosition : Type 0
 OffsetIsPosition = (y : Layout) (owner : ℕ) → HasNoLineErrors y → AgreesWithPositions y owner

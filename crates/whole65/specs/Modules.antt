@@ -11,7 +11,7 @@ use Rattle.semantics65.specs.Layout.{Layout}
 use Rattle.semantics65.specs.Symbols as names
 use Rattle.whole65.specs.Values.{SymbolBinding, label_at, constant_at, import_of}
 
--- A module is its laid-out statements. A statement is referred to by its index among them.
+-- A module is given by its layout. A statement is referred to by its index in it.
 abbrev pub table_of : Layout → Symbols
 table_of y = symbols_of y.laid
 
@@ -23,7 +23,7 @@ abbrev pub definers_from : ℕ → List LaidOutStatement → List ℕ
 definers_from index [] = []
 definers_from index (l ∷ ls) = map (λ d. index) (definitions_of l) ++ definers_from (suc index) ls
 
--- ---- The binding of an operand.
+-- ---- The binding of a name.
 
 -- the binding to the definition that the statement with this index makes: a constant if it has a value, otherwise a label
 abbrev pub definition_at : ℕ → Option LaidOutStatement → Option SymbolBinding
@@ -65,7 +65,7 @@ context_or other (Some l) = l.context
 abbrev pub context_at : Layout → ℕ → Context
 context_at y index = context_or (global_context y) (slice_get y.laid index)
 
--- the binding of an operand of a statement, by the symbol table of the whole module
+-- the binding of a name in an expression of a statement, by the symbol table of the whole module
 abbrev pub binding_in : Layout → ℕ → Tree → Option SymbolBinding
 binding_in y index e = binding_by y (names.binding_of (table_of y) (context_at y index) e)
 

@@ -6,7 +6,7 @@ use Rattle.syntax65.specs.declared.source_location.SourceLocation.{SourceLocatio
 use Rattle.ast65.specs.declared.language.Statement.{Statement}
 use Rattle.semantics65.specs.Layout.{Layout, layout_after, empty_layout, line_fault}
 use Rattle.semantics65.specs.Symbols.{symbols_of}
-use Rattle.whole65.specs.Segments.{SegmentStatement, end_of, largest_multiple, statements_in_segment, module_items}
+use Rattle.whole65.specs.Segments.{ModuleStatement, end_of, largest_multiple, statements_in_segment, module_items}
 
 pub record IsMultiple (n of : ℕ) : Type 0 where
   pub factor : ℕ
@@ -18,7 +18,7 @@ pub record IsPower (n : ℕ) : Type 0 where
   pub below : exponent < 16
   pub power : n ≡ 2 ^ exponent
 
-abbrev pub ArePowers : List SegmentStatement → Type 0
+abbrev pub ArePowers : List ModuleStatement → Type 0
 ArePowers xs = AllByRecursion (λ x. IsPower x.alignment) xs
 
 -- Statements laid out in order, none of which has an error at its line. (`IsWellFormedLayout` of semantics65 states something else:
@@ -30,7 +30,7 @@ pub data HasNoLineErrors : Layout → Type 0 where
       HasNoLineErrors y → line_fault (symbols_of y.laid) y.cursor x ≡ None → HasNoLineErrors (layout_after y place x)
 
 -- the statements of a module in its segment with this index
-abbrev pub statements_with_segment : ℕ → List SegmentStatement → List SegmentStatement
+abbrev pub statements_with_segment : ℕ → List ModuleStatement → List ModuleStatement
 statements_with_segment g xs = filter (λ x. nat_eq x.laid.context.segment g) xs
 
 -- The position at which the section of one of these modules begins: of that after the first `count`. The first module has the

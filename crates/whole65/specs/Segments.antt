@@ -10,7 +10,7 @@ use Rattle.ast65.specs.declared.language.Statement.TheVariants.{Align}
 use Rattle.semantics65.specs.Layout.{Layout, statement_alignment, segment_at}
 
 -- a statement, the index of its module, and its index in the module
-pub record SegmentStatement : Type 0 where
+pub record ModuleStatement : Type 0 where
   pub owner : ℕ
   pub index : ℕ
   -- the operand of an `.align`; 1 for other statements
@@ -21,7 +21,7 @@ pub record SegmentStatement : Type 0 where
 pub data SegmentItem : Type 0 where
   -- before a module's statements: the position is rounded up to a multiple
   rounding : ℕ → SegmentItem
-  statement_item : SegmentStatement → SegmentItem
+  statement_item : ModuleStatement → SegmentItem
 
 -- ---- The list of a segment.
 
@@ -29,8 +29,8 @@ abbrev pub segment_name_at : Layout → ℕ → List ℕ
 segment_name_at y g = (segment_at y.cursor.segments g).name
 
 -- a statement of a module, given the statements before it
-abbrev pub segment_statement : ℕ → List LaidOutStatement → LaidOutStatement → SegmentStatement
-segment_statement owner before l = record {
+abbrev pub module_statement : ℕ → List LaidOutStatement → LaidOutStatement → ModuleStatement
+module_statement owner before l = record {
   owner = owner;
   index = length before;
   alignment = statement_alignment (symbols_of before) l.context l.stated;
@@ -38,24 +38,24 @@ segment_statement owner before l = record {
 }
 
 -- statements of a module, given the statements before them
-abbrev pub segment_statements_after : ℕ → List LaidOutStatement → List LaidOutStatement → List SegmentStatement
-segment_statements_after owner before [] = []
-segment_statements_after owner before (l ∷ ls) = segment_statement owner before l ∷ segment_statements_after owner (before ++ l ∷ []) ls
+abbrev pub module_statements_after : ℕ → List LaidOutStatement → List LaidOutStatement → List ModuleStatement
+module_statements_after owner before [] = []
+module_statements_after owner before (l ∷ ls) = module_statement owner before l ∷ module_statements_after owner (before ++ l ∷ []) ls
 
 -- whether a statement of a module is in the segment of a name
 abbrev pub is_in_segment : Layout → List ℕ → LaidOutStatement → Bool
 is_in_segment y name l = bytes_eq (segment_name_at y l.context.segment) name
 
 -- the statements of a module in the segment of a name
-abbrev pub statements_in_segment : ℕ → Layout → List ℕ → List SegmentStatement
-statements_in_segment owner y name = filter (λ x. is_in_segment y name x.laid) (segment_statements_after owner [] y.laid)
+abbrev pub statements_in_segment : ℕ → Layout → List ℕ → List ModuleStatement
+statements_in_segment owner y name = filter (λ x. is_in_segment y name x.laid) (module_statements_after owner [] y.laid)
 
 -- whether the module has a section of this name: one of its statements there requests it
 abbrev pub has_section : Layout → List ℕ → Bool
 has_section y name = list_any (λ l. is_in_segment y name l && needs_section l.stated) y.laid
 
 -- the largest multiple to which statements are aligned
-abbrev pub largest_multiple : List SegmentStatement → ℕ
+abbrev pub largest_multiple : List ModuleStatement → ℕ
 largest_multiple [] = 1
 largest_multiple (x ∷ xs) = max x.alignment (largest_multiple xs)
 
@@ -112,7 +112,7 @@ position_of ys name owner index = end_of 0 (preceding_items owner index (segment
 abbrev pub requested_segments : Layout → List (List ℕ)
 requested_segments y = map (λ l. segment_name_at y l.context.segment) (filter (λ l. needs_section l.stated) y.laid)
 
--- the segments in which a module requests a section, each once, in the order of the first requests
+-- the segments in which one of these modules requests a section, each once, in the order of the first requests
 abbrev pub segments_of : List Layout → List (List ℕ)
 segments_of ys = with_new_names [] (flat_map requested_segments ys)
 

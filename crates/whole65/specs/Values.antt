@@ -26,15 +26,16 @@ pub data Provider : Type 0 where
 -- A module is referred to by its index in the order of linking, which is called `owner`; a statement by `owner` and its index
 -- in the module.
 pub record Program : Type 0 where
-  -- the binding of an operand of a statement, if it has one
+  -- the binding of a name in an expression of a statement, if it has one
   pub binding : (owner index : ℕ) → Tree → Option SymbolBinding
-  -- the index after the last statement of a module: its context is `global_context` of Modules, in the global scope
+  -- the index after the last statement of a module. No statement has it; exported names are evaluated there, in the global scope
+  -- (`global_context` of Modules).
   pub global_index : (owner : ℕ) → ℕ
   pub provider : List ℕ → Provider
   -- the address of a statement
   pub address : (owner index : ℕ) → ℤ
 
--- the definition that an operand refers to; numbers, `*` and operations have values of their own
+-- the definition that an expression refers to if it is a name; numbers, `*` and operations have values of their own
 abbrev pub operand_binding : Program → (owner index : ℕ) → Tree → Option SymbolBinding
 operand_binding p owner index (tree.number n) = None
 operand_binding p owner index tree.here = None

@@ -18,7 +18,7 @@ use Rattle.semantics65.specs.Layout.{Layout}
 use Rattle.whole65.specs.Contents.{EncodesSegmentItems}
 use Rattle.whole65.specs.Modules.{exports_of, forced_imports_of}
 use Rattle.whole65.specs.Programs.{placed_program}
-use Rattle.whole65.specs.Segments.{SegmentStatement, segment_items, segment_statements_after, needs_of}
+use Rattle.whole65.specs.Segments.{ModuleStatement, segment_items, module_statements_after, needs_of}
 use Rattle.whole65.specs.Values.{Program, Value, by_nobody}
 
 -- ---- Names and expressions that must have a value even if they aren't used.
@@ -34,7 +34,7 @@ AssertionHolds action.Error v = v ≢ pos 0
 AssertionHolds action.Warning v = ⊤
 
 -- the assertion of a statement has a value and holds; any other statement satisfies this
-abbrev pub SatisfiesAssertion : Program → SegmentStatement → Type 0
+abbrev pub SatisfiesAssertion : Program → ModuleStatement → Type 0
 SatisfiesAssertion p x = go x.laid.stated
   where
     go : Statement → Type 0
@@ -49,16 +49,16 @@ IsProvided p x = p.provider x ≢ by_nobody
 pub record SatisfiesDeclarations (p : Program) (owner : ℕ) (y : Layout) : Type 0 where
   pub forced : AllByRecursion (IsProvided p) (forced_imports_of y)
   pub exports : AllByRecursion (HasExportValue p owner) (exports_of y)
-  pub assertions : AllByRecursion (SatisfiesAssertion p) (segment_statements_after owner [] y.laid)
+  pub assertions : AllByRecursion (SatisfiesAssertion p) (module_statements_after owner [] y.laid)
 
--- the same for these modules, the first of which has the index `owner`
+-- the same for these modules; the first has the index `owner`
 abbrev pub SatisfiesAllDeclarations : Program → ℕ → List Layout → Type 0
 SatisfiesAllDeclarations p owner [] = ⊤
 SatisfiesAllDeclarations p owner (y ∷ ys) = SatisfiesDeclarations p owner y × SatisfiesAllDeclarations p (suc owner) ys
 
 -- ---- The image.
 
--- the names that the script provides, weak names aside, and then those that the modules export: no name may occur twice
+-- the names that the script provides, weak names aside, and then those that the modules export
 abbrev pub provided_names : Script → List Layout → List (List ℕ)
 provided_names s ys = script_names s ++ flat_map exports_of ys
 
@@ -73,11 +73,10 @@ pub record IsPlacedImage (output_name : List ℕ) (s : Script) (ys : List Layout
   -- the bytes of each row, whether or not they are in a file
   pub bytes : RowBytes
   pub rows : AllByRecursion (EncodesRow p ys bytes) s.rows
-  -- each area adds its rows' bytes, in the script's order, to the file of its name; the output's name is that of an area without
-  -- a name of its own
+  -- each area adds its rows' bytes, in the script's order, to the file of its `file` attribute, or else to the output
   pub image : AddsAreas output_name (IsAreaFile s.rows placement bytes) 0 s.areas [] files
 
--- Laid out and evaluated as one program, the modules have this image: a list of files by name.
+-- Evaluated as one program, the modules have this image: a list of files by name. No name may be provided twice.
 pub record IsWholeProgramImage (output_name : List ℕ) (s : Script) (ys : List Layout) (files : List OutputFile) : Type 0 where
   pub no_repetition : first_duplicate [] (provided_names s ys) ≡ None
   pub placement : Placement
@@ -96,7 +95,7 @@ HaveExportValues p owner (y ∷ ys) = AllByRecursion (HasExportValue p owner) (e
 -- the assertions of these modules have values and hold; the first module has the index `owner`
 abbrev pub PassAssertions : Program → ℕ → List Layout → Type 0
 PassAssertions p owner [] = ⊤
-PassAssertions p owner (y ∷ ys) = AllByRecursion (SatisfiesAssertion p) (segment_statements_after owner [] y.laid) × PassAssertions p (suc owner) ys
+PassAssertions p owner (y ∷ ys) = AllByRecursion (SatisfiesAssertion p) (module_statements_after owner [] y.laid) × PassAssertions p (suc owner) ys
 
 -- the names that modules import even if they don't use them are provided
 abbrev pub HaveForcedImports : Program → List Layout → Type 0

@@ -140,7 +140,7 @@ RepresentsSome t a = (count : ℕ) × Represents count t a
 -- the result of the statements of a source, or their first error, unless it is a system error
 abbrev pub RefinesRun : Files → Job → Run → Result (Unit {0}) AsmFault → Type 0
 RefinesRun m job new (Ok x) =
-    (u : State) × RunsStatements m job (record { following = u; fault = None }) × RepresentsSome u new.assembler
+    (u : State) × RunsStatements m job (record { state = u; fault = None }) × RepresentsSome u new.assembler
 RefinesRun m job new (Err e) = Unless (is_system_error e)
     ((u : State) × RunsStatements m job (stopped_at u (location_of new.expander) e) × HasSameOutput u new.assembler)
 

@@ -3,7 +3,7 @@
 ghost use Rattle.std.specs.Prelude.{None};
 ghost use Rattle.std.proofs.Common.{rules};
 
-use super::{expanded, in_folder, put_lines};
+use super::{Reading, expanded, in_folder, put_lines};
 use base65::{MemStore, Store, StoreFault};
 use std::test::Fail;
 
@@ -46,7 +46,12 @@ fn rows(rt: HostRuntime) -> Result<(), Fail> {
         let (lines, wanted) = row.split_once(" ==> ").ok_or("no arrow")?;
         put_lines(rt.alloc(), &mut store, "b.s", lines)?;
         let options = in_folder(rt.alloc(), folder)?;
-        let found = expanded(rt.alloc(), &mut store, &options, true, 100)?;
+        let reading = Reading {
+            all: true,
+            peeks: false,
+            most: 100,
+        };
+        let found = expanded(rt.alloc(), &mut store, &options, reading)?;
         assert!(rt; found.as_slice() == wanted.as_bytes(), "{row}");
         count = count.saturating_add(1);
     }
@@ -60,7 +65,8 @@ const LINE: &[u8; 4] = b"nop\n";
 #[derive(Drop)]
 struct Lines {
     len: u64,
-    given: u64,
+    /// The number of bytes read.
+    count: u64,
 }
 
 impl Store for Lines {
@@ -76,7 +82,7 @@ impl Store for Lines {
         for i in 0..count {
             buf[i] = LINE[((at % 4) as usize + i) % 4];
         }
-        self.given = self.given.saturating_add(count as u64);
+        self.count = self.count.saturating_add(count as u64);
         Ok(count)
     }
 
@@ -95,10 +101,15 @@ impl Store for Lines {
 fn little_is_read_at_first(rt: HostRuntime) -> Result<(), Fail> {
     let mut store = Lines {
         len: 400_000,
-        given: 0,
+        count: 0,
     };
     let options = in_folder(rt.alloc(), "d")?;
-    let first = expanded(rt.alloc(), &mut store, &options, false, 1)?;
-    assert!(rt; first.as_slice() == b"nop ;".as_slice() && store.given <= 8_192);
+    let reading = Reading {
+        all: false,
+        peeks: false,
+        most: 1,
+    };
+    let first = expanded(rt.alloc(), &mut store, &options, reading)?;
+    assert!(rt; first.as_slice() == b"nop ;".as_slice() && store.count <= 8_192);
     Ok(())
 }

@@ -106,13 +106,13 @@ fn bytes_of(token: Option<Token<'_>>) -> &[u8] {
 }
 
 #[test]
-fn fronts_of_lines(rt: HostRuntime) -> Result<(), Fail> {
-    let front = first_tokens(b" @l: lda #1 ; c").ok().ok_or("refused")?;
-    assert_eq!(rt; bytes_of(front.first), b"@l".as_slice());
-    assert_eq!(rt; bytes_of(front.second), b":".as_slice());
-    let front = first_tokens(b"\tnop").ok().ok_or("refused")?;
-    assert_eq!(rt; bytes_of(front.first), b"nop".as_slice());
-    assert!(rt; front.second.is_none());
+fn first_two_tokens(rt: HostRuntime) -> Result<(), Fail> {
+    let two = first_tokens(b" @l: lda #1 ; c").ok().ok_or("refused")?;
+    assert_eq!(rt; bytes_of(two.first), b"@l".as_slice());
+    assert_eq!(rt; bytes_of(two.second), b":".as_slice());
+    let two = first_tokens(b"\tnop").ok().ok_or("refused")?;
+    assert_eq!(rt; bytes_of(two.first), b"nop".as_slice());
+    assert!(rt; two.second.is_none());
     assert!(rt; matches!(first_tokens(b"nop 1 $zz"), Err(LexFault::BadNumber)));
     Ok(())
 }

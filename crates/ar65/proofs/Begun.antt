@@ -1,4 +1,4 @@
--- While the bytes of a library are read no file turns out to be missing.
+-- Parsing a library's bytes never returns `FileNotFound`, so a library that isn't found has no bytes and is created empty.
 use Rattle.std.proofs.Common.{◌≡◌, ℕ, zero, suc, ◌+◌, ◌++◌, ◌&&◌, ◌||◌, not, nat_lt, Bool, true, false, cond, List, [], ◌∷◌, length, map, take, drop, get_or, Option, Some, None, Result, Ok, Err, refl, sym, ap, ◌∙◌}
 use Rattle.std.specs.Prelude.{IfSome}
 use Rattle.std.specs.FinMap.{get}
@@ -22,7 +22,7 @@ abbrev is_missing : LibraryFault → Bool
 is_missing FileNotFound = true
 is_missing _ = false
 
--- no missing file is spoken of
+-- whether a result is the error `FileNotFound`
 abbrev Speaks : {A : Type 0} → Result A LibraryFault → Bool
 Speaks (Ok x) = false
 Speaks (Err e) = is_missing e
@@ -137,7 +137,7 @@ library_there bytes = then (index_at bytes) _ (index_there bytes) (λ es. all_th
 no_such : (bytes : List ℕ) → library_at bytes ≡ Err FileNotFound → ⊥
 no_such bytes e = let bad : Speaks {A = List Member} (Err FileNotFound) ≡ false = rw e at (library_there bytes) in absurd cc
 
--- there is no such file, so a library is begun
+-- if the library isn't found, it is created empty
 pub begun_anew : (file : Option (List ℕ)) → in_file file library_at ≡ Err FileNotFound → library_or_empty file ≡ Ok []
 begun_anew None e = refl
 begun_anew (Some bytes) e = absurd (no_such bytes e)
@@ -150,7 +150,7 @@ missing : (file : Option (List ℕ)) → in_file file library_at ≡ Err FileNot
 missing None e = tt
 missing (Some bytes) e = absurd (no_such bytes e)
 
--- a file that isn't there has no other bytes
+-- a file that isn't found has no invalid bytes
 pub missing_bytes : (known : Option Files) (name : List ℕ) (e : LibraryFault) → e ≡ FileNotFound → IfSome known (λ m. RefinesErr is_system_error e (in_file (get m name) library_at)) → IfSome known (λ m. IfSome (get m name) IsBytes)
 missing_bytes None name e is h = tt
 missing_bytes (Some m) name e is h = missing (get m name) (rw is at h)

@@ -1,4 +1,4 @@
--- What the librarian writes is a library.
+-- The librarian writes only valid libraries.
 use Rattle.std.proofs.Common.{◌≡◌, ◌∙◌, ℕ, ◌+◌, List, [], ◌∷◌, Option, Some, None, Result, Ok, Err, refl, ap, subst}
 use Rattle.std.specs.Prelude.{IfSome}
 use Rattle.std.specs.FinMap.{get}
@@ -30,7 +30,7 @@ of_file : {A : Type 0} (k : ℕ) (r : Result A LibraryFault) (x : A) → as_file
 of_file k (Ok y) x e = let same : y ≡ x = cc in ap (λ z. Ok z) same
 of_file k (Err f) x e = absurd cc
 
--- ---- The members make a library, whatever is done with them.
+-- ---- The members form a valid library after every operation.
 
 read_stock : (file : Option (List ℕ)) (ms : List Member) → IfSome file IsBytes → in_file file library_at ≡ Ok ms → IsMemberList ms
 read_stock None ms is e = absurd cc
@@ -57,7 +57,7 @@ without_stock ms ns (file ∷ files) stock e =
     let one = bound (without_named_member ms (member_name file)) _ _ e in
     without_stock one.0 ns files (stock_law.deleted ms one.0 (member_name file) stock one.1) one.2
 
--- ---- So what is written of them is a library.
+-- ---- The bytes that are written are a valid library.
 
 written_anew : (ns : List Member) (bytes : List ℕ) → IsMemberList ns → as_library (rewritten_library ns) ≡ Ok (archived.Library bytes) → (ms : List Member) × IsLibrary bytes ms
 written_anew ns bytes stock e =

@@ -1,4 +1,4 @@
--- A file past the limit of an object file holds no object, and its front tells so.
+-- A file longer than the file size limit contains no object, and its first bytes determine that.
 use Rattle.std.proofs.Common.{◌≡◌, ◌∙◌, ℕ, zero, suc, ◌+◌, ◌-◌, ◌<◌, ◌≤◌, Bool, true, false, nat_lt, List, length, take, drop, Result, Ok, Err, refl, sym, ap, arith, min, if◌then◌else◌}
 use Rattle.std.proofs.lemmas.Bool.Decides.{nat_tests}
 use Rattle.std.proofs.lemmas.List.{take_all, length-take, length-drop}
@@ -15,7 +15,7 @@ use Rattle.library65.specs.declared.fault.LibraryFault.TheVariants.{BadMemberNam
 use Rattle.library65.specs.Libraries.{as_member, member_contents, contents_from, contents_in, object_in, with_new_member, with_member}
 use Rattle.library65.specs.Spelling.{is_member_name, Member}
 
--- a record ends within the limit
+-- a record ends within the file size limit
 record_ends : (v : ℕ) (bytes : List ℕ) (at limit : ℕ) (x : RawRecord × ℕ) → record_at v at limit bytes ≡ Ok x → x.1 ≤ file_limit
 unfolding record_at
 record_ends v bytes at limit x e =
@@ -28,7 +28,7 @@ record_ends v bytes at limit x e =
     let least : at + 3 + f.0.1 ≤ file_limit = grind (arith, nat_tests) in
     omega (arith, end, least)
 
--- so do records up to an END
+-- the records up to the END record end within the limit
 records_end : (left : ℕ) (s : State) (at limit : ℕ) (bytes : List ℕ) (x : State × ℕ) → records_at left s at limit bytes ≡ Ok x → x.1 ≤ file_limit
 records_end zero s at limit bytes x e = absurd cc
 records_end (suc left) s at limit bytes x e =
@@ -40,7 +40,7 @@ records_end (suc left) s at limit bytes x e =
     go true r t h further e = let same : ◌≡◌ {A = State × ℕ} (t, r.1) x = cc in let end : r.1 ≡ x.1 = ap (λ p. p.1) same in omega (arith, h, end)
     go false r t h further e = further t r.1 e
 
--- where more follows, the object doesn't end there
+-- if bytes follow the object's end, the file is rejected
 more_after : (end : ℕ) (bytes : List ℕ) → end < length bytes → end_at end (length bytes) bytes ≡ Err BytesAfterEnd
 more_after end bytes h =
     let left : length (take 1 (bytes_between bytes end (length bytes))) ≡ min 1 (min (length bytes - end) (length bytes - end)) =
@@ -66,7 +66,7 @@ long_file bytes h = from_head (head_at 0 (length bytes) bytes)
     from_head (Err e) = refl
     from_head (Ok first) = from_records (records_at n (start first.0) first.1 n bytes) (λ x e. records_end n (start first.0) first.1 n bytes x e)
 
--- what a file's object does to members is told by its front
+-- the first `file_limit + 1` bytes of a file determine its effect on the members
 pub told_by_front : (ms : List Member) (name bytes : List ℕ) → with_new_member ms name (take (file_limit + 1) bytes) ≡ with_new_member ms name bytes
 unfolding with_new_member member_contents contents_in
 told_by_front ms name bytes = go (nat_lt file_limit (length bytes)) refl

@@ -1,4 +1,4 @@
--- What a refusal names where the store failed.
+-- The file that an error names if a call of the store failed.
 use Rattle.std.proofs.Common.{◌≡◌, ℕ, List, Some, slice_get, refl}
 use Rattle.base65.specs.Store.{FailedOn, LastFailure}
 use Rattle.library65.specs.declared.fault.LibraryFault.{LibraryFault}

@@ -1,4 +1,4 @@
--- Names of members.
+-- The names of members, and the names of files that they come from.
 use Rattle.std.proofs.Common.{◌≡◌, ◌∙◌, ℕ, zero, suc, ◌+◌, ◌-◌, ◌<◌, ◌&&◌, not, nat_lt, Bool, true, false, List, [], ◌∷◌, length, get_or, take, drop, Some, None, Ok, refl, sym, ap, subst, arith, ⊎_elim, eq-eqb, ne_eqb, get_or-drop, length-drop, if◌then◌else◌}
 use Rattle.std.specs.Prelude.{◌==◌}
 use Rattle.std.specs.Option.{option_map}
@@ -20,7 +20,7 @@ use Rattle.library65.proofs.Edits.{checked_good, left, right}
 use Rattle.library65.proofs.ReadIndexes.{bound}
 use Rattle.ar65.specs.Librarian.{AreUtf8, last_part, member_name}
 
--- ---- The name behind a file's last `/`.
+-- ---- The name after a file's last `/`.
 
 none_below : (text : List ℕ) (n : ℕ) → ((i : ℕ) → i < n → get_or text i 0 ≡ slash → ⊥) → rfind_below slash text n ≡ None
 none_below text zero h = refl
@@ -34,7 +34,7 @@ last_below text k (suc n) l at h =
     (λ other. cond-false _ _ _ (ne_eqb _ slash (h n (omega arith) (omega arith))) ∙ last_below text k n (omega arith) at (λ i a b. h i a (omega arith)))
     (cases_eq k n)
 
--- no byte of the name is a `/`
+-- if no byte of a file's name is a `/`, the member's name is the whole name
 whole_name : (file : List ℕ) → ((i : ℕ) → i < length file → get_or file i 0 ≡ slash → ⊥) → file ≡ member_name file
 unfolding rsplit_once
 whole_name file none = ap (λ r. last_part file (option_map (λ i. (take i file, drop (i + 1) file)) r)) (sym (none_below file (length file) none))
@@ -42,7 +42,7 @@ whole_name file none = ap (λ r. last_part file (option_map (λ i. (take i file,
 pub named_whole : (file : List ℕ) → NoCharPasses (λ d. d == slash) file → file ≡ member_name file
 named_whole file none = whole_name file (λ i. NoCharPasses-char slash file i none (omega arith))
 
--- at a place stands a `/`, and none behind it
+-- if a last `/` is found, the member's name is the rest of the file's name after it
 pub named_after : (file name : List ℕ) (i j : ℕ) → RFindsChar slash file (Some (i, j)) → name ≡ drop j file → length name + j ≡ length file → name ≡ member_name file
 unfolding rsplit_once
 named_after file name i j found is len =
@@ -53,14 +53,14 @@ named_after file name i j found is len =
     let at = last_below file i (length file) (omega (arith, next, len)) (found.1.byte (omega arith)) later in
     is ∙ ap (λ n. drop n file) next ∙ ap (λ r. last_part file (option_map (λ k. (take k file, drop (k + 1) file)) r)) (sym at)
 
--- ---- The names of a library that was read are text.
+-- ---- The names in a library that was read are UTF-8.
 
 text_name : (name : List ℕ) → is_member_name name ≡ true → is_utf8 name ≡ true
 text_name name good =
     let front = nat_lt 0 (length name) && nat_lt (length name) 256 && list_all is_plain name in
     right front (is_utf8 name) (left (front && is_utf8 name) (not (is_folder name)) good)
 
--- a member that may be in a library
+-- a member with valid contents
 abbrev pub IsChecked : Member → Type 0
 IsChecked m = (c : Contents) × (member_contents m.0 m.1 ≡ Ok c)
 

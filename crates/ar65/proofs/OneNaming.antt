@@ -1,4 +1,4 @@
--- A call that failed while files were read has one message.
+-- At most one message reports a call that failed while files were read.
 use Rattle.std.proofs.Common.{◌∙◌, ℕ, List, [], ap, inl, inr, sym}
 use Rattle.std.specs.Prelude.{codes}
 use Rattle.std.proofs.lemmas.Option.{get_or_from_slice_get}

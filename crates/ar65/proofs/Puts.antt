@@ -1,4 +1,4 @@
--- Objects of FILEs put into a library, one behind the other.
+-- The objects of FILEs are added to a library in order.
 use Rattle.std.proofs.Common.{◌≡◌, ◌∙◌, ℕ, ◌+◌, ◌<◌, ◌≤◌, Bool, true, false, List, ◌∷◌, length, drop, take, Option, Some, None, Result, Ok, Err, refl, sym, ap, subst, arith}
 use Rattle.std.specs.Prelude.{IfSome, IsErrOf}
 use Rattle.std.specs.FinMap.{get}
@@ -33,7 +33,7 @@ pub weaker_result : {X Y : Type 0} (view : X → Y) (r : Result X LibraryFault) 
 weaker_result view (Ok x) whole h = h
 weaker_result view (Err e) whole h = weaker e whole h
 
--- what was put in is the file's object
+-- the member that is added is the object of the FILE
 pub put_of : (known : Option Files) (ms : List Member) (name front put : List ℕ) (new : List Member) (r : Result (Unit {0}) LibraryFault) → put ≡ member_name name → IfSome known (λ m. file_prefix (get m name) (file_limit + 1) ≡ Ok front) → Refines is_library_memory (λ _. new) r (with_new_member ms put front) → IfSome known (λ m. Refines is_library_system_error (λ _. new) r (with_file m ms name))
 put_of None ms name front put new r named read gives = tt
 put_of (Some m) ms name front put new r named read gives = go (get m name) read
@@ -54,14 +54,14 @@ no_store ms name bytes e = go (member_contents name bytes) refl e
     go (Ok c) is h = cc
     go (Err f) is h = not_stored name bytes fault.FileError (let same : f ≡ fault.FileError = cc in is ∙ ap (λ x. Err x) same) refl
 
--- an object that is put in fails no store
+-- adding an object doesn't fail the store
 pub not_failed : (ms : List Member) (name bytes : List ℕ) (new : List Member) (r : Result (Unit {0}) LibraryFault) → Refines is_library_memory (λ _. new) r (with_new_member ms name bytes) → IsErrOf r fault.FileError → ⊥
 not_failed ms name bytes new (Ok u) gives h = absurd cc
 not_failed ms name bytes new (Err e) gives h =
     let same : e ≡ fault.FileError = cc in
     no_store ms name bytes (subst (λ f. RefinesErr is_library_memory f (with_new_member ms name bytes)) same gives)
 
--- the count of failures goes by the call before
+-- after a call that succeeded, a step that doesn't fail the store preserves the count of failures
 pub passes_on : {T U E : Type 0} (f : E) (old new : ℕ) (x : T) (r : Result U LibraryFault) → PropagatesIoError f old new (Ok x) → (IsErrOf r fault.FileError → ⊥) → PropagatesIoError fault.FileError old new r
 passes_on f old new x r p none = record {
   monotone = p.monotone;
@@ -69,7 +69,7 @@ passes_on f old new x r p none = record {
   caused = λ h. absurd (none h);
 }
 
--- ---- One behind the other.
+-- ---- Several FILEs in order.
 
 pub same_count : {T : Type 0} (start mid new : ℕ) (x : T) → mid ≡ start → PropagatesIoError fault.FileError mid new (Ok x) → new ≡ start
 same_count start mid new x e p =
@@ -89,7 +89,7 @@ refused_count start mid new k e same p = record {
   caused = λ h. subst (λ n. HasFailed n new) same (p.caused (ap (λ x. Err x) (is_stored k e h)));
 }
 
--- what is left of the FILEs comes to the same as all of them
+-- adding the remaining FILEs has the same result as adding all of them
 abbrev pub IsLeft : Option Files → List Member → List (List ℕ) → List Member → ℕ → Type 0
 IsLeft known before names ms k = IfSome known (λ m. with_files m ms k (drop k names) ≡ with_files m before 0 names)
 
@@ -118,9 +118,9 @@ file_none (Some m) next before ms names k name e same at left put =
     sym left ∙ ap (with_files m ms k) at ∙ ap (λ r. as_file k r >>= (λ xs. with_files m xs (k + 1) (drop (k + 1) names))) h in
     file_outside k e (with_files m before 0 names ≡ Err (error.File k e)) (unless_then (is_library_system_error e) whole here)
 
--- ---- What was read are bytes.
+-- ---- The FILEs that were read contain bytes.
 
--- where the FILEs that are left have bytes, all have
+-- if the remaining FILEs contain bytes, all FILEs do
 abbrev pub HaveLeft : Option Files → List (List ℕ) → ℕ → Type 0
 HaveLeft known names k = IfSome known (λ m. HaveBytes m (drop k names) → HaveBytes m names)
 

@@ -1,4 +1,4 @@
--- Whatever the files, a line comes to something, and to no fault from outside.
+-- For all files a command line of the librarian has a result, and it isn't a system error.
 use Rattle.std.proofs.Common.{◌≡◌, ◌+◌, ℕ, false, List, [], ◌∷◌, map, Option, Some, None, Result, Ok, Err, refl}
 use Rattle.std.specs.FinMap.{get}
 use Rattle.base65.proofs.SystemErrors.{Own, bad, each_own, good, next}
@@ -18,7 +18,7 @@ use Rattle.ar65.specs.Librarian.{as_file, as_library, library_or_empty, delete_r
 use Rattle.ar65.specs.Faults.{is_system_error}
 use Rattle.ar65.specs.declared.fault.ArchiveFault.TheVariants as error
 
--- ---- Answers that come from no outside.
+-- ---- Results that aren't system errors.
 
 library_fault : (f : LibraryFault) → is_library_system_error f ≡ false → is_system_error (error.Library f) ≡ false
 library_fault library.OutOfMemory h = h
@@ -38,7 +38,7 @@ of_file : {A : Type 0} (k : ℕ) (r : Result A LibraryFault) → Own is_library_
 of_file k (Ok x) h = good x
 of_file k (Err e) h = record { own = file_fault k e h.own }
 
--- ---- What is done with members.
+-- ---- Operations on members.
 
 in_file_own : {A : Type 0} (file : Option (List ℕ)) (read : List ℕ → Result A LibraryFault) → ((bytes : List ℕ) → Own is_library_system_error (read bytes)) → Own is_library_system_error (in_file file read)
 in_file_own None read own = bad _ refl

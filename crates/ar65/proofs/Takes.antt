@@ -1,4 +1,4 @@
--- Members taken out of a library, and members as files.
+-- Members are deleted from a library, or extracted as files.
 use Rattle.std.proofs.Common.{◌≡◌, ◌∙◌, ℕ, ◌+◌, Bool, true, false, List, [], ◌∷◌, length, drop, map, Option, Some, None, Result, Ok, Err, Bor, refl, sym, ap}
 use Rattle.std.specs.Prelude.{IfSome, ◌==◌}
 use Rattle.std.specs.FinMap.{get}
@@ -19,7 +19,7 @@ use Rattle.ar65.specs.Faults.{is_system_error}
 use Rattle.ar65.proofs.Names.{names_are_texts}
 use Rattle.ar65.proofs.Turns.{ahead, each_none, refused_so}
 
--- ---- Taken out.
+-- ---- Deletion.
 
 pub deleted_more : (before ms ns : List Member) (names : List (List ℕ)) (k : ℕ) (name put : List ℕ) → drop k names ≡ name ∷ drop (k + 1) names → put ≡ member_name name → without_files ms (drop k names) ≡ without_files before names → without_named_member ms put ≡ Ok ns → without_files ns (drop (k + 1) names) ≡ without_files before names
 deleted_more before ms ns names k name put at named left gone =
@@ -32,7 +32,7 @@ not_deleted before ms names k name put e at named left gone =
     (λ h. sym left ∙ ap (without_files ms) at ∙ ap (λ r. r >>= (λ xs. without_files xs (drop (k + 1) names))) (ap (without_named_member ms) (sym named) ∙ h))
     gone
 
--- ---- As files.
+-- ---- Extraction.
 
 pub file_missing : (library : List Member) (found : List MemberFile) (left : List (List ℕ)) (name : List ℕ) (more : List (List ℕ)) (put : List ℕ) (e : LibraryFault) {whole : Result (List MemberFile) LibraryFault} → left ≡ name ∷ more → put ≡ name → ahead found (files_of library left) ≡ whole → RefinesErr is_library_memory e (file_of library put) → RefinesErr is_library_memory e whole
 file_missing library found left name more put e {whole} at named inv none =
@@ -40,7 +40,7 @@ file_missing library found left name more put e {whole} at named inv none =
     (λ h. sym inv ∙ each_none (file_of library) found left name more e at (ap (file_of library) (sym named) ∙ h))
     none
 
--- some FILE is named
+-- if at least one FILE is named, the members of these names are extracted
 pub some_named : (ms : List Member) (files : List (Bor (List ℕ))) (b : Bool) → b ≡ false → b ≡ (length files == 0) → extracted_files ms (map (λ s. s.now) files) ≡ files_of ms (map member_name (map (λ s. s.now) files))
 some_named ms [] b filled is = absurd (let bad : true ≡ false = sym is ∙ filled in cc)
 some_named ms (x ∷ xs) b filled is = refl

@@ -1,4 +1,4 @@
--- What was taken apart is put together again.
+-- Adding the extracted members to an empty library gives the same library.
 use Rattle.std.proofs.Common.{◌≡◌, ◌∙◌, ℕ, ◌+◌, ◌≤◌, ◌||◌, nat_lt, Bool, true, false, List, [], ◌∷◌, ◌++◌, length, map, Some, Ok, Err, refl, sym, ap, subst, append_assoc, arith, if◌then◌else◌}
 use Rattle.std.specs.FinMap.{get}
 use Rattle.std.specs.List.{AllByRecursion}
@@ -22,7 +22,7 @@ use Rattle.ar65.specs.Laws.{HasMemberFiles, ExtractThenAddIsIdentity}
 use Rattle.ar65.specs.Librarian.{as_file, files_of, member_or_error, member_name, with_file, with_files}
 use Rattle.ar65.proofs.Names.{IsChecked, its_own_name, members_checked}
 
--- a member as a file of its name
+-- a member as a file with the member's name
 abbrev member_file : Member → MemberFile
 member_file m = record { name = m.0; bytes = m.1 }
 
@@ -39,7 +39,7 @@ then_not false b e = e
 abbrev Found : List Member → List Member → Type 0
 Found all ms = AllByRecursion (λ m. bytes_of all m.0 ≡ Some m.1) ms
 
--- a member of another name before them hides none
+-- a member before them hides none, if its name isn't among theirs
 following : (m : Member) (all ms : List Member) → is_among (member_names ms) m.0 ≡ false → Found all ms → Found (m ∷ all) ms
 following m all [] other h = tt
 following m all (x ∷ xs) other h =
@@ -58,9 +58,9 @@ each_found all (m ∷ ms) h =
     ap (λ r. member_or_error m.0 r >>= (λ y. files_of all (member_names ms) >>= (λ ys. Ok (y ∷ ys)))) h.0
     ∙ ap (λ r. r >>= (λ ys. Ok (member_file m ∷ ys))) (each_found all ms h.1)
 
--- ---- Each file goes behind those before.
+-- ---- Each file is added after the members before it.
 
--- none of these has a name that stands before
+-- no member of `ms` has the name of a member of `before`
 abbrev Fresh : List Member → List Member → Type 0
 Fresh before ms = AllByRecursion (λ m. is_among (member_names before) m.0 ≡ false) ms
 

@@ -1,4 +1,4 @@
--- Records that are read and fed one after another, a module behind others.
+-- The records of an object are read and added to the linker one at a time, after other modules.
 use Rattle.std.proofs.Common.{◌≡◌, ◌∙◌, ◌<◌, ℕ, List, [], ◌∷◌, ◌++◌, Bool, true, false, Option, Some, None, Result, Ok, Err, refl, ap, arith, ◌==◌, sym}
 use Rattle.std.specs.Prelude.{IfSome}
 use Rattle.base65.specs.Outcome.{RefinesErr, Unless}
@@ -25,7 +25,7 @@ use Rattle.object65.proofs.ItemLimits.{after_free, ended_by}
 use Rattle.link65.specs.Faults.{is_memory, of_object as as_fault}
 use Rattle.library65.specs.declared.index.Entry.{Entry as Listing}
 
--- ---- What comes from outside stays so in the command's words.
+-- ---- The system errors of an input are the system errors of the command.
 
 object_outside : (f : ObjectFault) (k : ℕ) → is_system_error (input_fault k (link.Malformed f)) ≡ is_input_system_error (link.Malformed f)
 object_outside object.OutOfMemory k = refl
@@ -48,7 +48,7 @@ in_outside name link.OutOfMemory = refl
 in_outside name link.IndexDisagrees = refl
 in_outside name e = cc
 
--- ---- The module of an object behind others.
+-- ---- The module of an object after other modules.
 
 pub fed_after : (known : Option Files) (s : Script) (before : List Module) (i : Input) (named : LinkFault → LinkCommandFault) (o : Object) → IfSome known (λ m. added_object s before m i ≡ Ok o) → IfSome known (λ m. modules_after named before i.name (added_object s before m i) ≡ Ok (before ++ module_of i.name o ∷ []))
 fed_after None s before i named o h = tt
@@ -62,13 +62,13 @@ refused_after (Some m) s before i named e same h = rw same (go (is_input_system_
     go true h = tt
     go false h = ap (modules_after named before i.name) h
 
--- ---- Faults.
+-- ---- Errors.
 
 pub unless : (b : Bool) {P Q : Type 0} → (P → Q) → Unless b P → Unless b Q
 unless true h p = tt
 unless false h p = h p
 
--- a fault of an object that isn't want of memory is one of the link
+-- an error `f` of an object is the error `Malformed f` of the link
 pub of_malformed : {A : Type 0} (f : ObjectFault) (r : Result A ObjectFault) → RefinesErr is_object_system_error f r → RefinesErr is_input_system_error (link.Malformed f) (as_link r)
 of_malformed f r h = unless (is_object_system_error f) (λ e. ap as_link e) h
 
@@ -76,7 +76,7 @@ of_malformed_in : {A : Type 0} (known : Option Files) (f : ObjectFault) (r : Fil
 of_malformed_in None f r h = tt
 of_malformed_in (Some m) f r h = of_malformed f (r m) h
 
--- a refusal of an object is one of the link
+-- an error `f` of an object is the error `as_fault f` of the link
 pub of_object : {A : Type 0} (f : ObjectFault) (r : Result A ObjectFault) → RefinesErr is_object_system_error f r → RefinesErr is_input_system_error (as_fault f) (as_link r)
 of_object f r h = go (is_object_memory f) refl
   where
@@ -92,12 +92,12 @@ memory_is_outside : (f : LinkFault) → is_memory f ≡ true → is_input_system
 memory_is_outside link.OutOfMemory h = refl
 memory_is_outside f h = absurd cc
 
--- where memory ran out nothing is said
+-- if memory ran out, nothing is required of the result
 pub by_memory : {A : Type 0} (known : Option Files) (e : LinkFault) (r : Files → Result A LinkFault) → is_memory e ≡ true → IfSome known (λ m. RefinesErr is_input_system_error e (r m))
 by_memory None e r h = tt
 by_memory (Some m) e r h = rw (memory_is_outside e h) tt
 
--- a refusal in want of memory alone is one from outside
+-- refinement up to memory errors implies refinement up to system errors
 pub memory_outside : {A : Type 0} (e : LinkFault) (r : Result A LinkFault) → RefinesErr is_memory e r → RefinesErr is_input_system_error e r
 memory_outside e r h = go (is_memory e) refl h
   where
@@ -109,7 +109,7 @@ memory_outside e r h = go (is_memory e) refl h
         unlessed true u = tt
         unlessed false u = u
 
--- the fault of an object that a refusal of the link is
+-- an error of `as_link r` comes from an error of `r`
 from_object : {A : Type 0} (r : Result A ObjectFault) (e : LinkFault) → as_link r ≡ Err e → (f : ObjectFault) × (e ≡ link.Malformed f) × (r ≡ Err f)
 from_object (Ok x) e h = absurd cc
 from_object (Err f) e h = (f, (let same : link.Malformed f ≡ e = cc in sym same), refl)
@@ -118,14 +118,14 @@ pub accepted : {A : Type 0} (r : Result A ObjectFault) (x : A) → as_link r ≡
 accepted (Ok y) x h = let same : y ≡ x = cc in ap Ok same
 accepted (Err f) x h = absurd cc
 
--- ---- A record that was read, as the linker sees it.
+-- ---- A record that was read, as the linker represents it.
 
 pub seen : (known : Option Files) (read : Files → Result (RawRecord × ℕ) ObjectFault) (shown of_reader : RawRecord) (next : ℕ) → shown ≡ of_reader → IfSome known (λ m. read m ≡ Ok (of_reader, next)) → IfSome known (λ m. read m ≡ Ok (shown, next))
 seen known read shown of_reader next same h = rw same h
 
--- ---- A record that the linker refuses.
+-- ---- A record that the linker rejects.
 
--- it is a fault of no store
+-- the error isn't a failure of the store
 pub not_stored : (s : State) (x : RawRecord) (e : LinkFault) → RefinesErr is_memory e (as_link (state_after_record s x)) → e ≡ link.Malformed object.FileError → ⊥
 not_stored s x e h is = absurd (after_free s x (refused_so (rw is at h)))
   where
@@ -149,9 +149,10 @@ taking_refused v limit at next known now name s r e same goes read refused = go 
 not_at : (n : ℕ) → (n ≡ 8 → ⊥) → (n == 8) ≡ false
 not_at n h = grind (arith, nat_tests)
 
--- ---- The loop, for all modules that the linker stands for.
+-- ---- The loop, for all modules that the linker represents.
 
--- what is left of a file reads as all of it, behind what the linker has taken
+-- reading the records from offset `next` on, after those that the linker consumed, has the same result as reading all of
+-- them
 abbrev pub IsAt : Option Files → Input → ℕ × ℕ → ℕ → LinkerView → LinkerView → Type 0
 IsAt known i at next old now =
     (modules : List Module) (called : List ℕ) (entry : Option Listing) → RepresentsWithOpenModule old modules called entry (start at.0)
@@ -189,7 +190,7 @@ module _ (known : Option Files) (i : Input) (at : ℕ × ℕ) where
       let step = accepted (state_after_record p.0 r.0) q.0 q.1 in
       (q.0, q.2, goes_on_in at.0 i.end at.1 next known now i.file p.0 q.0 r same p.2 read later step (ended_by p.0 q.0 r.0 step ∙ not_at r.0.kind end))
 
-  -- a record that the linker refuses is no failure of the store
+  -- the error of a record that the linker rejects isn't a failure of the store
   pub refused_free : (next : ℕ) (old mid new : LinkerView) (x : RawRecord) (e : LinkFault) → IsAt known i at next old mid → AddsRecord x mid new (Err e) → (modules : List Module) (called : List ℕ) (entry : Option Listing) → RepresentsWithOpenModule old modules called entry (start at.0) → e ≡ link.Malformed object.FileError → ⊥
   refused_free next old mid new x e is refused modules called entry stands same =
       let p = is modules called entry stands in

@@ -1,4 +1,4 @@
--- At whose turn a call of the store failed.
+-- In which object, member and input a call of the store failed.
 use Rattle.std.proofs.Common.{◌≡◌, ◌∙◌, ◌<◌, ◌≤◌, ◌+◌, ℕ, zero, suc, List, [], ◌∷◌, ◌++◌, get_or, length, take, Bool, true, false, slice_get, Option, Some, None, Result, Ok, Err, refl, sym, ap, subst, arith, inl, inr, IfErr}
 use Rattle.std.proofs.lemmas.Grind.{flat_map-append}
 use Rattle.std.proofs.lemmas.List.{take_more, append-nil}
@@ -26,19 +26,19 @@ use Rattle.ld65.proofs.Objects.{file_failed}
 
 -- ---- Within an object.
 
--- what was asked for behind a place is asked for behind an earlier one
+-- a call that failed from `at` to `end` also failed from an earlier offset `begin` to `end`
 pub later_in : (b : LastFailure) (name : List ℕ) (begin at end : ℕ) → begin ≤ at → FailedWithin b name at end → FailedWithin b name begin end
 later_in None name begin at end le h = tt
 later_in (Some c) name begin at end le h = (h.0, h.1, h.2, omega (arith, le, h.3), h.4)
 
--- a reading of an object's file that failed, as the linker's
+-- the same for a failed read of an object, as an error of the linker
 pub read_within : {A B : Type 0} (b : LastFailure) (name : List ℕ) (begin at end : ℕ) (f : ObjectFault) → begin ≤ at → at ≤ end → (IsErrOf {T = A} (Err f) object.FileError → at ≤ end → FailedWithin b name at end) → IsErrOf {T = B} (Err (of_object f)) file_failed → FailedWithin b name begin end
 read_within b name begin at end f le fits within h =
     later_in b name begin at end le (within (ap Err (stored f (err_is _ _ h))) fits)
 
 -- ---- The members of a library.
 
--- the members before a turn were fed
+-- the members before rank `k` were added
 abbrev pub IsTurn : Option Files → List ℕ → List Entry → List ℕ → ℕ → LinkerView → LinkerView → Type 0
 IsTurn known library es entry_indices k old now =
     (before : List Module) → RepresentsModules old before
@@ -53,7 +53,7 @@ first_turn known library es entry_indices old before stands = (before, stands, g
     go (Some m) = refl
 
 module _ (known now : Option Files) (library : List ℕ) (es : List Entry) (entry_indices : List ℕ) (k d : ℕ) (old mid new : LinkerView) where
-  -- with one more index
+  -- the selected entries with one further index
   one_more : k < length entry_indices → selected_entries es (take (k + 1) entry_indices) ≡ selected_entries es (take k entry_indices) ++ entry_if_any es (get_or entry_indices k d)
   one_more lt =
       ap (selected_entries es) (take_more entry_indices k d lt) ∙ flat_map-append (entry_if_any es) (take k entry_indices) (get_or entry_indices k d ∷ [])
@@ -74,13 +74,13 @@ module _ (known now : Option Files) (library : List ℕ) (es : List Entry) (entr
           ∙ ap (λ r. r >>= (λ ms. with_members old.script m library ms this)) h
           ∙ subst (λ (s : Script). with_members s m library modules this ≡ Ok more) script added
 
--- what stands at a place of a list
+-- the element at an index within the list
 pub stands_at : (xs : List ℕ) (k d : ℕ) → k < length xs → slice_get xs k ≡ Some (get_or xs k d)
 stands_at [] k d h = absurd (omega (arith, h))
 stands_at (x ∷ xs) zero d h = refl
 stands_at (x ∷ xs) (suc k) d h = stands_at xs k d (omega (arith, h))
 
--- the member at a turn was refused
+-- a failure at the member of rank `k` is a failure of the library
 pub of_needed : (known : Option Files) (input_index : ℕ) (library : List ℕ) (es : List Entry) (entry_indices : List ℕ) (k d : ℕ) (entry : Entry) (old mid : LinkerView) (b : LastFailure) (e : LinkCommandFault) (input : ℕ) → IfSome known (λ m. as_library input_index (index_in m library) ≡ Ok es) → AreNeededIndices es entry_indices old → k < length entry_indices → Some entry ≡ slice_get es (get_or entry_indices k d) → IsTurn known library es entry_indices k old mid → (before : List Module) → RepresentsModules old before → (modules : List Module) × RepresentsModules mid modules × (NamesFailure (IsMemberFailure b library entry) e → NamesFailure (IsLibraryFailure known old.script before b input library) e)
 of_needed known input_index library es entry_indices k d entry old mid b e input read chosen_so lt there is before stands =
     let p = is before stands in (
@@ -102,9 +102,9 @@ of_needed known input_index library es entry_indices k d entry old mid b e input
       }),
     )
 
--- ---- The inputs of a line.
+-- ---- The inputs of a command line.
 
--- one more input behind others
+-- one further input after other inputs
 inputs_more : (s : Script) (m : Files) (k : ℕ) (before : List Module) (xs : List (List ℕ)) (modules : List Module) (name : List ℕ) (more : List Module) → AreInputs s m k before xs (Ok modules) → IsInput s m (k + length xs) modules name (Ok more) → AreInputs s m k before (xs ++ name ∷ []) (Ok more)
 inputs_more s m k before [] modules name more is this =
     let same : modules ≡ before = cc is in
@@ -117,7 +117,7 @@ inputs_more s m k before (x ∷ xs) modules name more is this =
     go (Ok ms) rest first next = (Ok ms, first, rest ms next)
     go (Err e) rest first next = absurd cc
 
--- the inputs before a turn were fed
+-- the inputs before index `k` were added
 abbrev pub IsInputTurn : Option Files → List (List ℕ) → ℕ → LinkerView → LinkerView → Type 0
 IsInputTurn known names k old now =
     (before : List Module) → RepresentsModules old before
@@ -157,7 +157,7 @@ module _ (known now : Option Files) (names : List (List ℕ)) (k : ℕ) (name : 
           (inputs_more old.script m 0 before (take k names) modules name more h
           (subst (λ (n : ℕ). IsInput old.script m n modules name (Ok more)) here (subst (λ (s : Script). IsInput s m k modules name (Ok more)) script added)))
 
-  -- the input at a turn was refused
+  -- a failure at the input of index `k` is a failure of the list of inputs
   pub of_inputs : (b : LastFailure) (e : LinkCommandFault) (before : List Module) → RepresentsModules old before → (modules : List Module) × RepresentsModules mid modules × (NamesFailure (IsInputFailure now mid.script modules b k name) e → NamesFailure (IsInputListFailure known old.script before b names) e)
   of_inputs b e before stands =
       let p = is before stands in (
@@ -166,7 +166,7 @@ module _ (known now : Option Files) (names : List (List ℕ)) (k : ℕ) (name : 
         λ named failed. (k, name, there, p.0, p.2, subst (λ (f : Option Files). IsInputFailure f old.script p.0 b k name e) same (subst (λ (s : Script). IsInputFailure now s p.0 b k name e) script (named failed))),
       )
 
--- ---- An input, by its front.
+-- ---- An input is a library or an object by its first bytes.
 
 pub kind : (known : Option Files) (name : List ℕ) (b : Bool) → IfSome known (λ m. Refines is_object_system_error (λ (b : Bool). b) (Ok b) (in_file (get m name) (λ bytes. Ok (is_library bytes)))) → IfSome known (λ m. is_library_in m name ≡ b)
 kind None name b h = tt
@@ -177,12 +177,12 @@ kind (Some m) name b h = go (get m name) h
     go (Some bytes) h = cc
 
 module _ (known : Option Files) (s : Script) (index : ℕ) (name : List ℕ) where
-  -- what a refusal names, of an object, as of an input
+  -- a failure of an object is a failure of the input
   pub by_object : (modules : List Module) (b : LastFailure) (r : Result (Unit {0}) LinkCommandFault) → IfSome known (λ m. is_library_in m name ≡ false) → IfErr r (NamesFailure (IsObjectFailure b index name)) → IfErr r (NamesFailure (IsInputFailure known s modules b index name))
   by_object modules b (Ok u) kind h = tt
   by_object modules b (Err e) kind h = λ failed. inr (inl (kind, h failed))
 
--- (the files are as before)
+-- a failure of a library is a failure of the input, because the files are unchanged
 pub by_library : (known now : Option Files) (s : Script) (index : ℕ) (name : List ℕ) → now ≡ known → (modules : List Module) (b : LastFailure) (r : Result (Unit {0}) LinkCommandFault) → IfSome known (λ m. is_library_in m name ≡ true) → IfErr r (NamesFailure (IsLibraryFailure now s modules b index name)) → IfErr r (NamesFailure (IsInputFailure known s modules b index name))
 by_library known now s index name same modules b (Ok u) kind h = tt
 by_library known now s index name same modules b (Err e) kind h = λ failed. inr (inr (kind, subst (λ (f : Option Files). IsLibraryFailure f s modules b index name e) same (h failed)))

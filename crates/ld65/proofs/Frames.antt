@@ -1,4 +1,4 @@
--- What calls leave of a store and of a linker, one behind another.
+-- The effects of calls on a store and on a linker, and how they compose.
 use Rattle.std.proofs.lemmas.Grind.{common_steps}
 use Rattle.std.proofs.Common.{◌≡◌, ◌∙◌, ◌<◌, ℕ, List, [], Bool, true, false, if◌then◌else◌, Option, Result, Ok, Err, refl, ap, arith, ◌≤◌, ◌+◌, subst, sym, IfErr}
 use Rattle.std.specs.Prelude.{IsErrOf}
@@ -25,7 +25,7 @@ use Rattle.ld65.proofs.Objects.{file_failed}
 pub keeps_on : (old mid new : LinkerView) → ConfigFrame old mid → ConfigFrame mid new → ConfigFrame old new
 keeps_on old mid new first next = record { script = next.script ∙ first.script; output = next.output ∙ first.output }
 
--- ---- Of the linker's faults none but the store's own is a failure of a file.
+-- ---- The linker's error `file_failed` comes only from an object's error `FileError`.
 
 pub stored : (f : ObjectFault) → of_object f ≡ file_failed → f ≡ object.FileError
 stored f h = go (is_object_memory f) h
@@ -44,17 +44,17 @@ is_stored_in name (link.Malformed object.FileError) h = refl
 is_stored_in name (link.Malformed f) h = absurd cc
 is_stored_in name e h = absurd cc
 
--- ---- Calls that feed an object.
+-- ---- Calls that add an object.
 
 pub err_is : {T : Type 0} (e f : LinkFault) → ◌≡◌ {A = Result T LinkFault} (Err e) (Err f) → e ≡ f
 err_is e f h = cc h
 
--- where a call answered, none failed
+-- if a call returned a value, no call of the store failed
 pub none_passed : {T : Type 0} (a b : ℕ) (x : T) → PropagatesIoError file_failed a b (Ok x) → b ≡ a
 none_passed a b x passes = grind (arith, common_steps)
 
 module _ {X : Type 0} {files_of : X → Option Files} {failures_of : X → ℕ} {last_failure_of : X → LastFailure} (name : List ℕ) (old new : X) where
-  -- a call that doesn't ask the store
+  -- an operation that makes no call of the store
   pub untouched : {T : Type 0} (r : Result T LinkFault) → files_of new ≡ files_of old → failures_of new ≡ failures_of old → (r ≡ Err file_failed → ⊥) → StoreFrame files_of failures_of last_failure_of file_failed name old new r
   untouched r files same free = record {
     files = files;
@@ -62,7 +62,7 @@ module _ {X : Type 0} {files_of : X → Option Files} {failures_of : X → ℕ} 
     last_failure = λ h. absurd (free h);
   }
 
-  -- a fault of reading, as the linker's, behind calls that didn't fail the store
+  -- a read error, as the linker's error, after calls of the store that didn't fail
   pub unread_after : {A B : Type 0} (mid : X) (f : ObjectFault) → files_of mid ≡ files_of old → failures_of mid ≡ failures_of old → StoreFrame {T = A} files_of failures_of last_failure_of object.FileError name mid new (Err f) → StoreFrame {T = B} files_of failures_of last_failure_of file_failed name old new (Err (of_object f))
   unread_after {A} {B} mid f files same left = record {
     files = left.files ∙ files;
@@ -77,7 +77,7 @@ module _ {X : Type 0} {files_of : X → Option Files} {failures_of : X → ℕ} 
       as_read : ◌≡◌ {A = Result B LinkFault} (Err (of_object f)) (Err file_failed) → f ≡ object.FileError
       as_read h = stored f (let is : of_object f ≡ file_failed = cc h in is)
 
-  -- any other refusal
+  -- the same for an error of the linker itself
   pub fault_after : {A B : Type 0} (mid : X) (e : LinkFault) → files_of mid ≡ files_of old → failures_of mid ≡ failures_of old → StoreFrame {T = A} files_of failures_of last_failure_of file_failed name mid new (Err e) → StoreFrame {T = B} files_of failures_of last_failure_of file_failed name old new (Err e)
   fault_after {A} {B} mid e files same left = record {
     files = left.files ∙ files;
@@ -101,11 +101,11 @@ named_count named a b e fails stored passes = record {
   caused = λ h. passes.caused (ap Err (stored h));
 }
 
--- what is left behind an object, where the linker stands for modules
+-- the frame of the store after an object, for all modules that the linker represents
 abbrev LeavesObject : {X : Type 0} → (X → Option Files) → (X → ℕ) → (X → LastFailure) → List ℕ → X → X → LinkerView → Result (Unit {0}) LinkFault → Type 0
 LeavesObject files_of failures_of last_failure_of name old new before r = (modules : List Module) → RepresentsModules before modules → StoreFrame files_of failures_of last_failure_of file_failed name old new r
 
--- where the store failed, the call asked for these bytes of a file
+-- if the store failed, the call requested bytes from `begin` to `end` of the file
 abbrev FailsWithin : {X : Type 0} → (X → LastFailure) → List ℕ → ℕ → ℕ → X → LinkerView → Result (Unit {0}) LinkFault → Type 0
 FailsWithin last_failure_of name begin end new before r = (modules : List Module) → RepresentsModules before modules → IsErrOf r file_failed → begin ≤ end → FailedWithin (last_failure_of new) name begin end
 
@@ -143,13 +143,13 @@ module _ {X : Type 0} {files_of : X → Option Files} {failures_of : X → ℕ} 
         subst P (sym fault) (ap (λ n. Member n object.FileError) is, within modules stands (ap Err fault) (omega arith));
   }
 
--- ---- Inputs and members, one behind another.
+-- ---- Inputs and members in sequence.
 
 kept_by : {T : Type 0} (a b : ℕ) (x : T) → PropagatesIoErrors is_failure a b (Ok x) → b ≡ a
 kept_by a b x passes = let not_later : a < b → ⊥ = λ h. absurd (passes.reported h) in omega (arith, passes.monotone, not_later)
 
 module _ {X : Type 0} {files_of : X → Option Files} {failures_of : X → ℕ} {last_failure_of : X → LastFailure} (NamesAfter : List Module → LastFailure → LinkCommandFault → Type 0) where
-  -- a call that asks the store alone
+  -- an operation on the store that leaves the linker unchanged
   pub read_left : {T : Type 0} (NamesRead : LastFailure → LinkCommandFault → Type 0) (old new : X) (before : LinkerView) (x : T) → is_open before ≡ false → NamedStoreFrame files_of failures_of last_failure_of NamesRead old new (Ok x) → AddModulesFrame files_of failures_of last_failure_of NamesAfter old new before before (Ok tt)
   read_left NamesRead old new before x opened left = record {
     opened = opened;
@@ -168,7 +168,7 @@ module _ {X : Type 0} {files_of : X → Option Files} {failures_of : X → ℕ} 
     named = λ modules stands. so modules (last_failure_of new) left.named;
   }
 
-  -- a call behind others, by what each names where the store failed
+  -- an operation after others: each failure of it is a failure of the sequence
   pub after_others : (NamesOne : List Module → LastFailure → LinkCommandFault → Type 0) (old mid new : X) (before middle after : LinkerView) (r : Result (Unit {0}) LinkCommandFault) → ((modules : List Module) → RepresentsModules before modules → (more : List Module) × RepresentsModules middle more × (IfErr r (NamesOne more (last_failure_of new)) → IfErr r (NamesAfter modules (last_failure_of new)))) → AddModulesFrame files_of failures_of last_failure_of NamesAfter old mid before middle (Ok tt) → AddModulesFrame files_of failures_of last_failure_of NamesOne mid new middle after r → AddModulesFrame files_of failures_of last_failure_of NamesAfter old new before after r
   after_others NamesOne old mid new before middle after r so first next = record {
     opened = next.opened;
@@ -180,7 +180,7 @@ module _ {X : Type 0} {files_of : X → Option Files} {failures_of : X → ℕ} 
     named = λ modules stands. let p = so modules stands in p.2 (next.named p.0 p.1);
   }
 
--- a refusal of a call that doesn't ask the store
+-- the error of an operation that makes no call of the store
 pub unasked : {X : Type 0} {files_of : X → Option Files} {failures_of : X → ℕ} {last_failure_of : X → LastFailure} (IsOf : List Module → LastFailure → LinkCommandFault → Type 0) (old : X) (before : LinkerView) (e : LinkCommandFault) → is_failure e ≡ false → AddModulesFrame files_of failures_of last_failure_of (λ modules b. NamesFailure (IsOf modules b)) old old before before (Err e)
 unasked IsOf old before e free = record {
   opened = tt;
@@ -190,7 +190,7 @@ unasked IsOf old before e free = record {
   named = λ modules stands failed. absurd cc;
 }
 
--- ---- The front of an input.
+-- ---- The first bytes of an input.
 
 failed_front : (index : ℕ) (f : ObjectFault) → is_failure (Object index f) ≡ true → f ≡ object.FileError
 failed_front index f h = let same : link.Malformed f ≡ file_failed = is_stored_at index (link.Malformed f) h in cc
@@ -230,7 +230,7 @@ module _ {X T : Type 0} {files_of : X → Option Files} {failures_of : X → ℕ
     named = let P : Script → List (List ℕ) → Type 0 = λ t ns. NamesFailure (IsOf t [] (last_failure_of new) ns) e in subst (λ t. P t inputs) script (subst (P fresh.script) same (left.named [] stands));
   }
 
-  -- behind them no other call fails the store
+  -- the link after the inputs doesn't fail the store
   pub linked_left : (r : Result T LinkFault) → AddModulesFrame files_of failures_of last_failure_of (λ first b. NamesFailure (IsOf fresh.script first b names)) old new fresh fed (Ok tt) → NamedStoreFrame files_of failures_of last_failure_of (λ b. NamesFailure (IsOf s [] b inputs)) old new (as_command_fault r)
   linked_left (Ok x) left = let p = left.count [] stands in record {
     files = left.files;

@@ -1,4 +1,4 @@
--- A library is no script.
+-- A library is not a script.
 use Rattle.std.proofs.Common.{◌≡◌, ◌∙◌, ◌⊎◌, inl, inr, ℕ, Bool, true, false, List, [], ◌∷◌, take, Option, Some, None, Result, Ok, Err, refl, sym, ap, subst}
 use Rattle.std.specs.List.{take_while}
 use Rattle.std.specs.Option.{option_map_or}
@@ -54,7 +54,7 @@ no_script rest s is = go is.0 is.1 is.2
     go (Ok es) has same = entries es (is_too_long (82 ∷ rest)) has
     go (Err f) has same = absurd cc
 
--- a text that begins as a library does
+-- a text that begins with the magic bytes of a library begins with `R`
 marked : (text : List ℕ) → take 4 text ≡ library_magic → (rest : List ℕ) × (text ≡ 82 ∷ rest)
 marked [] e = absurd cc
 marked (b ∷ bs) e = let first : b ≡ 82 = cc e in (bs, ap (λ (x : ℕ). x ∷ bs) first)

@@ -1,4 +1,4 @@
--- From a script and the inputs of a line to what they are linked to.
+-- The result of a command line, from its script and its inputs.
 use Rattle.std.proofs.Common.{◌≡◌, inr, ◌∙◌, ℕ, ◌+◌, ◌≤◌, ◌<◌, List, length, take, Bool, true, false, nat_lt, Option, Some, None, Result, Ok, Err, refl, ap, subst, arith, zero, suc, [], ◌∷◌, ◌++◌, Bor, drop, get_or, map, slice_get, add-one}
 use Rattle.std.specs.Prelude.{IfErr, IfSome, ◌||◌, min}
 use Rattle.std.specs.FinMap.{get}
@@ -28,7 +28,7 @@ use Rattle.ld65.proofs.AddedRecords.{at_outside, fed_after, refused_after}
 use Rattle.link65.specs.Faults.{is_memory}
 use Rattle.link65.specs.Links.{LinkOf, check_unique_names}
 
--- ---- From a script that was read to what is linked by it.
+-- ---- From the script to the link.
 
 is_long : (n : ℕ) (bytes : List ℕ) → nat_lt n (length bytes) ≡ true → nat_lt n (length (take (n + 1) bytes)) ≡ true
 is_long n bytes h =
@@ -42,12 +42,12 @@ is_short n bytes h =
     let short : length bytes ≤ n = grind (arith, nat_tests) in
     take_all (n + 1) bytes (omega arith)
 
--- the front of a script tells what the whole does
+-- the first `script_limit + 1` bytes of a script determine the result of parsing it
 whole_script : (b : Bool) (bytes : List ℕ) (q : Result Script ScriptFault) → nat_lt script_limit (length bytes) ≡ b → IsScript (take (script_limit + 1) bytes) q → IsScript bytes q
 whole_script true bytes q h s = long_texts (take (script_limit + 1) bytes) bytes q (is_long script_limit bytes h) h s
 whole_script false bytes q h s = subst (λ (x : List ℕ). IsScript x q) (is_short script_limit bytes h) s
 
--- a script that was read is that of its file
+-- the script that was read is the script of its file
 script_in : (m : Files) (name text : List ℕ) (s : Script) → Ok text ≡ script_text m name → IsScript text (Ok s) → IsScriptIn m name s
 script_in m name text s read is = go (get m name) refl read
   where
@@ -57,7 +57,7 @@ script_in m name text s read is = go (get m name) refl read
         let front : text ≡ take (script_limit + 1) bytes = cc in
         (bytes, e, whole_script (nat_lt script_limit (length bytes)) bytes (Ok s) refl (subst (λ (x : List ℕ). IsScript x (Ok s)) front is))
 
--- an input is named, by that script
+-- a failure of the list of inputs is a failure of the command line
 pub named_line : (known next : Option Files) (l : LinkView) (text : List ℕ) (s : Script) (b : LastFailure) (r : Result Linked LinkCommandFault) → next ≡ known → IfSome known (λ m. Ok text ≡ script_text m l.script) → IsScript text (Ok s) → IfErr r (NamesFailure (IsInputListFailure next s [] b l.inputs)) → IfErr r (NamesFailure (IsCommandFailure known b l))
 named_line known next l text s b (Ok x) same read is named = tt
 named_line known next l text s b (Err e) same read is named = λ failed.
@@ -67,7 +67,7 @@ named_line known next l text s b (Err e) same read is named = λ failed.
     told None h = tt
     told (Some m) h = script_in m l.script text s h is
 
--- what the linker does with a script that was read
+-- the result after the script is parsed
 abbrev pub Rest : Files → LinkView → Result Script ScriptFault → Result Linked LinkCommandFault → Type 0
 Rest m l q r = AndThen (as_script q) (IsScriptedLink m l) r
 
@@ -77,7 +77,7 @@ read_script m l (Some bytes) text q r e s rest =
     let is : text ≡ take (script_limit + 1) bytes = cc in
     (q, whole_script (nat_lt script_limit (length bytes)) bytes q refl (subst (λ (x : List ℕ). IsScript x q) is s), rest)
 
--- a script that was accepted, and what follows
+-- the case of an accepted script
 pub script_ok : (known next : Option Files) (l : LinkView) (text : List ℕ) (s : Script) (r : Result Linked LinkCommandFault) → next ≡ known → IfSome known (λ m. Ok text ≡ script_text m l.script) → IsScript text (Ok s) → IfSome next (λ m. RefinesProp is_system_error (IsScriptedLink m l s) r) → IfSome known (λ m. RefinesProp is_system_error (IsCommandLink m l) r)
 script_ok None next l text s r same read is rest = tt
 script_ok (Some m) next l text s r same read is rest = go r (rw same at rest)
@@ -90,7 +90,7 @@ script_ok (Some m) next l text s r same read is rest = go r (rw same at rest)
     go (Ok linked) h = read_script m l (get m l.script) text (Ok s) (Ok linked) read is h
     go (Err e) h = outside (is_system_error e) e h
 
--- a script that was refused
+-- the case of a rejected script
 pub script_err : (known : Option Files) (l : LinkView) (text : List ℕ) (e : ScriptFault) → IfSome known (λ m. Ok text ≡ script_text m l.script) → Unless (is_script_system_error e) (IsScript text (Err e)) → IfSome known (λ m. RefinesProp is_system_error (IsCommandLink m l) (Err (error.Script e)))
 script_err None l text e read is = tt
 script_err (Some m) l text e read is = outside (is_script_system_error e) is
@@ -99,7 +99,7 @@ script_err (Some m) l text e read is = outside (is_script_system_error e) is
     outside true h = tt
     outside false h = read_script m l (get m l.script) text (Err e) (Err (error.Script e)) read h refl
 
--- a script that wasn't read
+-- the case of a script that couldn't be read
 pub script_unread : (known : Option Files) (l : LinkView) (e : LinkCommandFault) → IfSome known (λ m. RefinesProp is_system_error (λ r. r ≡ script_text m l.script) (Err e)) → IfSome known (λ m. RefinesProp is_system_error (IsCommandLink m l) (Err e))
 script_unread None l e read = tt
 script_unread (Some m) l e read = outside (is_system_error e) read
@@ -114,7 +114,7 @@ script_unread (Some m) l e read = outside (is_system_error e) read
 
 -- ---- One input.
 
--- an object that takes a whole file
+-- an object that is a whole file
 pub file_fed : (known : Option Files) (k : ℕ) (name called : List ℕ) (old new : LinkerView) → called ≡ name → AddsObject known (record { file = name; begin = 0; end = 18446744073709551615; name = called; entry = None }) old new (Ok tt) → AddsFile known k name old new (Ok tt)
 file_fed known k name called old new same fed before stands =
     let q = subst (λ n. AddsObject known (record { file = name; begin = 0; end = 18446744073709551615; name = n; entry = None }) old new (Ok tt)) same fed before stands in
@@ -125,9 +125,9 @@ file_refused known k name called old new e same fed before stands =
     let q = subst (λ n. AddsObject known (record { file = name; begin = 0; end = 18446744073709551615; name = n; entry = None }) old new (Err e)) same fed before stands in
     refused_after known old.script before (file_input name) (input_fault k) e (at_outside k e) q
 
--- ---- Their names.
+-- ---- The names of inputs.
 
--- the rest of the names begins with the one at its place
+-- the names from index `k` on begin with the name at `k`
 name_here : (inputs : List (Bor (List ℕ))) (k : ℕ) (x : Bor (List ℕ)) → k < length inputs → drop k (map (λ s. s.now) inputs) ≡ (get_or inputs k x).now ∷ drop (suc k) (map (λ s. s.now) inputs)
 name_here [] k x h = absurd (omega (arith, h))
 name_here (y ∷ ys) zero x h = refl
@@ -136,14 +136,15 @@ name_here (y ∷ ys) (suc k) x h = name_here ys k x (omega (arith, h))
 pub name_at : (inputs : List (Bor (List ℕ))) (k : ℕ) (x : Bor (List ℕ)) → k < length inputs → drop k (map (λ s. s.now) inputs) ≡ (get_or inputs k x).now ∷ drop (k + 1) (map (λ s. s.now) inputs)
 name_at inputs k x h = rw add-one (name_here inputs k x h)
 
--- ---- The loop, for all modules that the linker stands for.
+-- ---- The loop, for all modules that the linker represents.
 
--- what is left of the inputs comes to the same as all of them, behind what the linker stands for
+-- the name at index `k`
 pub name_there : (inputs : List (Bor (List ℕ))) (k : ℕ) (x : Bor (List ℕ)) → k < length inputs → slice_get (map (λ s. s.now) inputs) k ≡ Some (get_or inputs k x).now
 name_there [] k x h = absurd (omega arith)
 name_there (y ∷ ys) zero x h = refl
 name_there (y ∷ ys) (suc k) x h = name_there ys k x (omega (arith, h))
 
+-- adding the inputs from `k` on, after the modules that the linker represents, has the same result as adding all inputs
 abbrev pub ComesAfter : Option Files → List (List ℕ) → ℕ → LinkerView → LinkerView → Type 0
 ComesAfter known names k old now =
     (before : List Module) → RepresentsModules old before
@@ -151,7 +152,7 @@ ComesAfter known names k old now =
     × IfSome known (λ m. (r : Result (List Module) LinkCommandFault) → AreInputs old.script m k modules (drop k names) r → AreInputs old.script m 0 before names r)
 
 module _ (known : Option Files) (names : List (List ℕ)) where
-  -- what is left of the inputs, from one at its place on
+  -- the result of the inputs from index `k` on
   from_here : (s : Script) (m : Files) (k : ℕ) (modules : List Module) (name : List ℕ) (q r : Result (List Module) LinkCommandFault) → drop k names ≡ name ∷ drop (k + 1) names → IsInput s m k modules name q → AndThen q (λ ms. AreInputs s m (k + 1) ms (drop (k + 1) names)) r → AreInputs s m k modules (drop k names) r
   from_here s m k modules name q r here is next = rw here (q, is, next)
 
@@ -175,9 +176,9 @@ module _ (known : Option Files) (names : List (List ℕ)) where
       go modules (Some m) true h refused = tt
       go modules (Some m) false h refused = h (Err e) (from_here old.script m k modules name (Err e) (Err e) here (subst (λ (s : Script). IsInput s m k modules name (Err e)) script refused) refl)
 
--- ---- From the inputs of a line to what they are linked to.
+-- ---- From the inputs of a command line to the link.
 
--- an input is refused
+-- the case of a rejected input
 pub inputs_refused : (known : Option Files) (l : LinkView) (names : List (List ℕ)) (s : Script) (fresh fed : LinkerView) (e : LinkCommandFault) → names ≡ l.inputs → check_unique_names s (program_of []) ≡ Ok tt → fresh.script ≡ s → RepresentsModules fresh [] → AddsInputs known names fresh fed (Err e) → IfSome known (λ m. RefinesProp is_system_error (IsScriptedLink m l s) (Err e))
 inputs_refused known l names s fresh fed e same once script stands feeds =
     let x = feeds [] stands in
@@ -188,7 +189,7 @@ inputs_refused known l names s fresh fed e same once script stands feeds =
     go (Some m) true h = tt
     go (Some m) false h = rw once (Err e, h, refl)
 
--- all inputs were fed, and are linked to this
+-- the case of accepted inputs
 pub inputs_linked : (known : Option Files) (l : LinkView) (names : List (List ℕ)) (output : List ℕ) (s : Script) (fresh fed : LinkerView) (r : Result Linked LinkFault) → names ≡ l.inputs → output ≡ output_of l → check_unique_names s (program_of []) ≡ Ok tt → fresh.script ≡ s → fed.script ≡ s → fed.output ≡ output → RepresentsModules fresh [] → AddsInputs known names fresh fed (Ok tt) → LinksModules fed r → IfSome known (λ m. RefinesProp is_system_error (IsScriptedLink m l s) (as_command_fault r))
 inputs_linked known l names output s fresh fed r same named once script kept kept_output stands feeds links =
     let p = feeds [] stands in

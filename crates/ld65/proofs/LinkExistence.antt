@@ -1,4 +1,4 @@
--- A line comes to something, whatever its script and the files of its inputs are, and to no fault from outside.
+-- For every script and all files a command line has a result, and it isn't a system error.
 use Rattle.std.proofs.Common.{◌≡◌, ℕ, ◌+◌, Bool, true, false, List, [], ◌∷◌, ◌++◌, ◌||◌, Option, Some, None, Result, Ok, Err, refl, if◌then◌else◌}
 use Rattle.std.specs.FinMap.{get}
 use Rattle.base65.proofs.SystemErrors.{Has, Own, first_own, good, next}
@@ -39,14 +39,14 @@ use Rattle.ld65.specs.Faults.{is_system_error, input_fault, member_fault}
 use Rattle.ld65.specs.declared.fault.LinkCommandFault.{LinkCommandFault}
 use Rattle.ld65.specs.declared.fault.LinkCommandFault.TheVariants as error
 
--- ---- Answers that come from no outside.
+-- ---- Results that aren't system errors.
 
--- the same of a link's answer, before it is known whose fault it is
+-- the system errors of a link, before the error is attributed to an input or a member
 abbrev is_link_outside : LinkFault → Bool
 is_link_outside (link.Malformed f) = is_object_system_error f
 is_link_outside e = is_link_memory e
 
--- ---- One object more.
+-- ---- One further object.
 
 object_own : (file : Option (List ℕ)) (begin end : ℕ) → IsNoSystemError is_object_system_error (in_file file (object_at begin end))
 object_own None begin end = refl

@@ -1,4 +1,4 @@
--- A call that failed while files were read has one message.
+-- At most one message reports a call that failed while files were read.
 use Rattle.std.proofs.Common.{◌≡◌, ◌∙◌, ◌<◌, ◌≤◌, ◌⊎◌, inl, inr, ℕ, zero, suc, ◌+◌, ◌-◌, true, false, List, [], ◌∷◌, length, slice_get, Option, Some, None, Result, Ok, refl, sym, ap, subst, arith}
 use Rattle.std.specs.Prelude.{◌≢◌, IfSome, codes}
 use Rattle.std.specs.FinMap.{get}
@@ -28,9 +28,9 @@ use Rattle.ld65.proofs.LibraryIsNoScript.{script_is_no_library}
 abbrev failure_of : List ℕ → List ℕ
 failure_of name = file_message name (codes "file error")
 
--- ---- What a failure is of.
+-- ---- What a failure refers to.
 
--- a member of the library that was asked for, at a place of it
+-- the failed call requested an offset within this member of a library, or its end
 record IsInMember (m : Files) (l : LinkView) (c : FailedCall) (i : ℕ) (entry : Entry) : Type 0 where
   script : Script
   read : IsScriptIn m l.script script
@@ -43,19 +43,19 @@ record IsInMember (m : Files) (l : LinkView) (c : FailedCall) (i : ℕ) (entry :
   begin : entry.place ≤ at
   end : at ≤ entry.place + entry.size
 
--- its message names the member
+-- the message names the member
 record NamesMember (m : Files) (l : LinkView) (c : FailedCall) (e : LinkCommandFault) : Type 0 where
   entry_index : ℕ
   entry : Entry
   within : IsInMember m l c entry_index entry
   says : error_message l e ≡ failure_of (member_module c.name entry.name)
 
--- or it names a file, and no member was asked for
+-- the message names a file, and the failed call requested no member
 record NamesFile (m : Files) (l : LinkView) (c : FailedCall) (e : LinkCommandFault) : Type 0 where
   says : error_message l e ≡ failure_of c.name
   apart : (i : ℕ) (entry : Entry) → IsInMember m l c i entry → ⊥
 
--- the bytes of a library with an index
+-- a library with an index has bytes
 indexed_bytes : (m : Files) (name : List ℕ) (es : List Entry) → index_in m name ≡ Ok es → (bytes : List ℕ) × (get m name ≡ Some bytes) × (index_at bytes ≡ Ok es)
 indexed_bytes m name es e = go (get m name) refl e
   where
@@ -66,7 +66,7 @@ indexed_bytes m name es e = go (get m name) refl e
 same_place : (c : FailedCall) (j k : ℕ) → c.at ≡ Some j → c.at ≡ Some k → j ≡ k
 same_place c j k a b = let both : Some j ≡ Some k = sym a ∙ b in cc
 
--- which of two places is the first
+-- the order of two indices
 in_order : (i j : ℕ) → (i < j) ⊎ ((i ≡ j) ⊎ (j < i))
 in_order zero zero = inr (inl refl)
 in_order zero (suc j) = inl (omega arith)
@@ -78,7 +78,7 @@ in_order (suc i) (suc j) = more (in_order i j)
     more (inr (inl h)) = inr (inl (ap suc h))
     more (inr (inr h)) = inr (inr (omega (arith, h)))
 
--- a place within two members is within one
+-- two members that contain the same offset are equal
 within_one : (at : ℕ) (es : List Entry) (end k i j : ℕ) (d e : Entry) → IsRow at es end → slice_get es i ≡ Some d → slice_get es j ≡ Some e → d.place ≤ k → k < d.place + d.size → e.place ≤ k → k < e.place + e.size → d ≡ e
 within_one at es end k i j d e row one other low high other_low other_high = go (in_order i j)
   where
@@ -88,7 +88,7 @@ within_one at es end k i j d e row one other low high other_low other_high = go 
     go (inr (inr less)) = absurd (omega (arith, stand_apart at es end j i e d row other one less))
 
 module _ (m : Files) (l : LinkView) (c : FailedCall) (tells : IdentifiesPart m c) where
-  -- a member's place is behind the index, and it isn't where one ends
+  -- the member is after the index, and the requested offset is inside the member and isn't the file's last byte
   record Following (i : ℕ) (entry : Entry) (w : IsInMember m l c i entry) : Type 0 where
     bytes : List ℕ
     has : get m c.name ≡ Some bytes
@@ -138,9 +138,9 @@ module _ (m : Files) (l : LinkView) (c : FailedCall) (tells : IdentifiesPart m c
       within_one (members_offset w.entries (length b.bytes)) w.entries (length b.bytes) w.at i j d e (index_stands b.bytes w.entries b.index).row there w.at_index
       (omega (arith, v.begin, at)) (omega (arith, a.before, at)) w.begin b.before
 
-  -- ---- The message of each refusal.
+  -- ---- The message of each error.
 
-  -- an input's name
+  -- the name of the input at index `k`
   input_at : (k : ℕ) (name : List ℕ) → slice_get l.inputs k ≡ Some name → c.name ≡ name → input_name_at l.inputs k ≡ c.name
   input_at k name there is = get_or_from_slice_get l.inputs k name [] there ∙ sym is
 

@@ -1,4 +1,4 @@
--- The members of a library that are needed, one after another.
+-- The needed members of a library are added in order.
 use Rattle.std.proofs.lemmas.Grind.{common_steps}
 use Rattle.std.proofs.Common.{◌≡◌, ◌∙◌, ◌<◌, ◌≤◌, ◌+◌, ℕ, zero, suc, List, [], ◌∷◌, ◌++◌, drop, get_or, length, Bool, true, false, slice_get, Option, Some, None, Result, Ok, Err, refl, sym, ap, subst, arith}
 use Rattle.std.specs.Prelude.{IfSome}
@@ -26,7 +26,7 @@ module _ (known : Option Files) (library : List ℕ) (e : Entry) (old new : Link
   abbrev with_one : Script → List Module → Files → Result (List Module) LinkCommandFault
   with_one s before m = with_member s m library before e >>= (λ ms. Ok ms)
 
-  -- the member as it was fed, by a name that is its module's
+  -- the input of the member, with this module name
   abbrev fed_as : List ℕ → Input
   fed_as called = record { file = library; begin = e.place; end = e.place + e.size; name = called; entry = Some e }
 
@@ -63,9 +63,9 @@ module _ (known : Option Files) (library : List ℕ) (e : Entry) (old new : Link
       go None = tt
       go (Some m) = tt
 
--- ---- The loop, for all modules that the linker stands for.
+-- ---- The loop, for all modules that the linker represents.
 
--- what is left of the members comes to the same as all of them, behind what the linker stands for
+-- adding the remaining members after the modules that the linker represents has the same result as adding all members
 abbrev pub IsAfter : Option Files → List ℕ → List Entry → List Entry → LinkerView → LinkerView → Type 0
 IsAfter known library all left old now =
     (before : List Module) → RepresentsModules old before
@@ -73,7 +73,7 @@ IsAfter known library all left old now =
     × IfSome known (λ m. with_members old.script m library before all ≡ with_members old.script m library modules left)
 
 module _ (known : Option Files) (library : List ℕ) (all : List Entry) where
-  -- some members, and then others
+  -- `with_members` of a concatenation
   pub in_turn : (s : Script) (m : Files) (before : List Module) (some left : List Entry) → with_members s m library before (some ++ left) ≡ (with_members s m library before some >>= (λ ms. with_members s m library ms left))
   in_turn s m before [] left = refl
   in_turn s m before (e ∷ es) left = go (with_member s m library before e) (λ ms. in_turn s m ms es left)
@@ -117,7 +117,7 @@ any_default [] k d e h = absurd (omega (arith, h))
 any_default (x ∷ xs) zero d e h = refl
 any_default (x ∷ xs) (suc k) d e h = any_default xs k d e (omega (arith, h))
 
--- what is left of the indices begins with the one at its turn
+-- the indices from rank `k` on begin with the index at `k`
 place_at : (known : Option Files) (library : List ℕ) (es : List Entry) (entry_indices : List ℕ) (k d : ℕ) (old mid : LinkerView) → k < length entry_indices → IsAfter known library (selected_entries es entry_indices) (selected_entries es (drop k entry_indices)) old mid → IsAfter known library (selected_entries es entry_indices) (entry_if_any es (get_or entry_indices k d) ++ selected_entries es (drop (k + 1) entry_indices)) old mid
 place_at known library es entry_indices k d old mid lt is =
     let entry_index = get_or entry_indices k d in
@@ -145,7 +145,7 @@ none_there known library es index old there =
         go None = tt
         go (Some m) = refl
 
--- before the first of the members
+-- the invariant before the first member
 pub after_none : (known : Option Files) (library : List ℕ) (all : List Entry) (old : LinkerView) → IsAfter known library all all old old
 after_none known library all old before stands = (before, stands, go known)
   where
@@ -153,7 +153,7 @@ after_none known library all old before stands = (before, stands, go known)
     go None = tt
     go (Some m) = refl
 
--- behind the last
+-- after the last member, all members are added
 pub after_all : (known : Option Files) (library : List ℕ) (es : List Entry) (entry_indices : List ℕ) (k : ℕ) (old new : LinkerView) → length entry_indices ≤ k → IsAfter known library (selected_entries es entry_indices) (selected_entries es (drop k entry_indices)) old new → AddsMembers known library (selected_entries es entry_indices) old new (Ok tt)
 after_all known library es entry_indices k old new le is before stands =
     let p = is before stands in
@@ -173,7 +173,7 @@ indexed (Some m) k library es h = go (index_in m library) h
     go (Ok x) h = let same : x ≡ es = cc in ap Ok same
     go (Err f) h = absurd cc
 
--- the members were fed, an index and indices of its entries as they are borrowed
+-- the needed members are added; the index and the entry indices are borrowed
 pub library_fed : (known : Option Files) (k : ℕ) (library : List ℕ) (es entries : List Entry) (entry_indices ps : List ℕ) (old new : LinkerView) (r : Result (Unit {0}) LinkCommandFault) → entries ≡ es → ps ≡ entry_indices → IfSome known (λ m. as_library k (index_in m library) ≡ Ok es) → AreNeededIndices es entry_indices old → AddsMembers known library (selected_entries entries ps) old new r → AddsLibrary known k library old new r
 library_fed known k library es entries entry_indices ps old new r same_es same_places read chosen_so fed before stands = by r (rw (same_es, same_places) at fed before stands)
   where

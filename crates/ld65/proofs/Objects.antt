@@ -1,4 +1,4 @@
--- From the parts of an object's file to the module that it is.
+-- The module of an object, from the parts of its file.
 use Rattle.std.proofs.Common.{◌≡◌, ◌∙◌, ℕ, List, [], ◌∷◌, ◌++◌, length, Bool, true, false, Option, Some, None, if◌then◌else◌, Result, Ok, Err, refl, sym, ap}
 use Rattle.std.specs.Prelude.{IfSome}
 use Rattle.std.specs.FinMap.{get}
@@ -24,9 +24,9 @@ use Rattle.ld65.specs.Internal.AddedModules.{AddsObject, AddsRecords, RefinesRea
 use Rattle.ld65.specs.Linkage.{Input, added_object, object_in}
 use Rattle.ld65.proofs.AddedRecords.{accepted, memory_outside, of_object, unless}
 
--- ---- What the parts of a file say of the object in it.
+-- ---- What the parts of a file determine of its object.
 
--- a fault of a part, as one of the link, is one of the whole
+-- an error of the first step, as an error of the link, is the error of the whole
 linked_then : {A B : Type 0} (e : LinkFault) (r : Result A ObjectFault) (f : A → Result B ObjectFault) → RefinesErr is_input_system_error e (as_link r) → RefinesErr is_input_system_error e (as_link (r >>= f))
 linked_then {A} {B} e r f h = go (is_input_system_error e) r h
   where
@@ -68,16 +68,16 @@ module _ (i : Input) where
   object_is None first t end head records h = cc
   object_is (Some bytes) first t end head records h = rw (head, records, h) refl
 
--- ---- The module behind others.
+-- ---- The module after other modules.
 
--- what is refused as an object is refused as a module
+-- if an object is rejected, so is its module
 as_module : (s : Script) (before : List Module) (m : Files) (i : Input) (e : LinkFault) → RefinesErr is_input_system_error e (as_link (object_in m i)) → RefinesErr is_input_system_error e (added_object s before m i)
 as_module s before m i e h =
     refused-then is_input_system_error e (as_link (object_in m i) >>= agreeing_object i.entry) (module_without_duplicates s before i.name)
     (refused-then is_input_system_error e (as_link (object_in m i)) (agreeing_object i.entry) h)
 
 module _ (known : Option Files) (i : Input) (old : LinkerView) where
-  -- the head that was read
+  -- the head of the object is `first`
   abbrev pub HasHead : ℕ × ℕ → Type 0
   HasHead first = IfSome known (λ m. head_of i (get m i.file) ≡ Ok first)
 
@@ -106,7 +106,7 @@ module _ (known : Option Files) (i : Input) (old : LinkerView) where
           as_module old.script modules m i (as_fault f)
           (of_object f (object_in m i) (end_stops i (get m i.file) first t end f head (accepted (records_in m i first) (t, end) (records ∙ ap (λ j. Ok (t, j)) at)) h))
 
-  -- the module is whole
+  -- the case of a complete module
   pub whole_module : (now later : Option Files) (first : ℕ × ℕ) (end : ℕ) (mid fed new : LinkerView) (r : Result (Unit {0}) LinkFault) → now ≡ known → later ≡ known → HasHead first → BeginsModule i.name first.0 i.entry old mid (Ok tt) → AddsRecords now i first mid fed (Ok end) → IfSome later (λ m. end_of i end (get m i.file) ≡ Ok tt) → fed.script ≡ old.script → EndsModule fed new r → AddsObject known i old new r
   whole_module now later first end mid fed new r same same_later head begun feeds following script ends modules stands =
       let x = feeds modules i.name i.entry (begun modules stands) in
@@ -131,7 +131,7 @@ module _ (known : Option Files) (i : Input) (old : LinkerView) where
           refused None same = tt
           refused (Some m) same = rw same (memory_outside e (closed_module fed.script modules i.name i.entry t) h)
 
--- ---- The end of a module is no failure of the store.
+-- ---- The end of a module doesn't fail the store.
 
 abbrev pub file_failed : LinkFault
 file_failed = link.Malformed object.FileError

@@ -1,4 +1,4 @@
--- What a run leaves is one thing, and there is one, by what each stream took and each call of the store answered.
+-- The number of bytes that each stream accepts and the last output written determine all effects of a run.
 use Rattle.std.proofs.Common.{◌≡◌, ◌∙◌, ℕ, ◌<◌, ◌≤◌, inl, inr, min, Bool, true, false, not, ◌&&◌, List, ◌++◌, length, take, slice_get, Option, Some, None, refl, sym, ap, subst, arith}
 use Rattle.std.specs.Prelude.{◌==◌, if◌then◌else◌}
 use Rattle.std.specs.FinMap as map
@@ -17,7 +17,7 @@ use Rattle.output65.specs.WriteFailures.{file_error_line}
 
 -- ---- One stream.
 
--- so many bytes of a text were taken behind what was there, and whether that is all
+-- the stream accepted the first `count` bytes of the text, and `whole` states whether these are all
 record Took (old text : List ℕ) (new : Option (List ℕ)) (whole : Bool) : Type 0 where
   count : ℕ
   within : count ≤ length text
@@ -72,7 +72,7 @@ kept : (b : List ℕ) (new : Option (List ℕ)) → Keeps (Some b) new → new �
 kept b None k = absurd k
 kept b (Some c) k = ap Some k
 
--- how many bytes each took
+-- the number of bytes that each stream accepted
 record Said (io : Streams) (a b out err : List ℕ) : Type 0 where
   first : ℕ
   second : ℕ
@@ -162,9 +162,9 @@ performs_exactly o old new io status a b held = (
   },
 )
 
--- ---- Behind both texts.
+-- ---- A message after both texts.
 
--- how many bytes standard error took of a text of a fault
+-- the number of bytes of the message that standard error accepted
 record Following (io : Streams) (a b out err fault : List ℕ) : Type 0 where
   count : ℕ
   within : count ≤ length fault
@@ -199,7 +199,7 @@ says_after_exactly io a b out err fault held = (
   λ q. subst (λ (x : Streams). PrintsMessage x out err fault) (sym q.2) (after_from a b out err fault q.0 q.1),
 )
 
--- ---- An output that is written in part.
+-- ---- An output that is written in part, or not at all.
 
 record Stopped (outputs : List OutputFile) (index : ℕ) (old : Files) (new : Option Files) : Type 0 where
   output : OutputFile

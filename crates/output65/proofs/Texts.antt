@@ -1,4 +1,4 @@
--- A text that is taken a part at a time.
+-- Texts are printed and files are written one part at a time.
 use Rattle.std.proofs.Common.{◌≡◌, ◌∙◌, ℕ, ◌<◌, ◌≤◌, arith, length-append, List, [], ◌∷◌, ◌++◌, ◌+◌, get_or, length, map, take, drop, Option, Some, None, Ok, Err, Bool, true, false, cond, ◌⊎◌, inl, inr, not, ◌||◌, refl, sym, ap, subst, append_assoc}
 use Rattle.std.specs.FinMap as map
 use Rattle.std.proofs.lemmas.List.{take_at, drop_at, append-nil, map-append, take-append-drop, take-append-le, take_more}
@@ -20,13 +20,13 @@ use Rattle.output65.specs.declared.outcome.Status.TheVariants.{Failure}
 use Rattle.base65.specs.declared.output.OutputFile.{OutputFile}
 use Rattle.std.specs.Prelude.{IfSome, IsErrOf}
 
--- the first part of the text has been taken, and the rest is left
+-- the stream accepted the text up to `rest`
 abbrev pub Printing : Option (List ℕ) → Option (List ℕ) → List ℕ → List ℕ → Type 0
 Printing None new text rest = Unit {0}
 Printing (Some old) None text rest = ⊥
 Printing (Some old) (Some new) text rest = (done : List ℕ) × (text ≡ done ++ rest) × (new ≡ old ++ done)
 
--- the file has been begun and holds the first part of its bytes
+-- the file was created and contains the bytes up to `rest`
 abbrev pub Writing : Files → List ℕ → List ℕ → List ℕ → Files → Type 0
 Writing old name bytes rest new = (done : List ℕ) × (bytes ≡ done ++ rest) × (new ≡ map.insert old name done)
 
@@ -36,7 +36,7 @@ part done rest text e = ap (take (length done)) e ∙ take_at done rest (length 
 shorter : (done rest text : List ℕ) → text ≡ done ++ rest → 0 < length rest → length done < length text
 shorter done rest text e h = omega (arith, ap length e, length-append done rest)
 
--- a stream that fails keeps what it has
+-- a stream that fails keeps the part that it accepted
 pub printed_part : (old mid new : Option (List ℕ)) (text rest : List ℕ) → 0 < length rest → length rest ≤ length text → Printing old mid text rest → Appends mid new [] → PrintsText old new text false
 printed_part None mid new text rest some within p k = omega arith
 printed_part (Some o) None new text rest some within p k = absurd p
@@ -54,7 +54,7 @@ equal_to_itself name = (eq_by_cmp_equiv nat_list_cmp_total).refl name
 got : (m : Files) (name bytes : List ℕ) → map.get (map.insert m name bytes) name ≡ Some bytes
 got m name bytes = map.get-insert nat_list_cmp_total m name bytes name ∙ rw (equal_to_itself name) refl
 
--- the last bytes of a name stand
+-- of two values under the same name, the map contains the second
 replaced : (m : Files) (name a b : List ℕ) → map.insert (map.insert m name a) name b ≡ map.insert m name b
 replaced m name a b =
     map.same_map nat_list_cmp_total (map.slice_cmp-IsAntisymmetric map.nat_cmp-IsAntisymmetric) _ _
@@ -63,7 +63,7 @@ replaced m name a b =
       twice true x y z = refl
       twice false x y z = refl
 
--- a file that goes on being written
+-- `n` further bytes are appended to the file
 pub written_more : (known mid new : Option Files) (name bytes rest : List ℕ) (n : ℕ) → RelatesFiles (λ old m. Writing old name bytes rest m) known mid → RelatesFiles (λ m x. Appended m name rest x (Ok n)) mid new → RelatesFiles (λ old x. Writing old name bytes (drop n rest) x) known new
 written_more None mid new name bytes rest n p q = tt
 written_more (Some o) None new name bytes rest n p q = absurd p
@@ -81,7 +81,7 @@ unchanged OutOfMemory m x name rest h = h
 unchanged FileNotFound m x name rest h = h.1
 unchanged FileError m x name rest h = h
 
--- a file that is left in part
+-- if an append fails, the file is partly written
 pub written_part : (e : StoreFault) (known mid new : Option Files) (name bytes rest : List ℕ) → RelatesFiles (λ old m. Writing old name bytes rest m) known mid → RelatesFiles (λ m x. Appended m name rest x (Err e)) mid new → RelatesFiles (λ old x. IsPartlyWritten old name bytes x) known new
 written_part e None mid new name bytes rest p q = tt
 written_part e (Some o) None new name bytes rest p q = absurd p
@@ -92,7 +92,7 @@ written_part e (Some o) (Some m) (Some x) name bytes rest p q =
 pub nothing : (mid new : Option (List ℕ)) (n : ℕ) (rest : List ℕ) → n ≡ 0 → Appends mid new (take n rest) → Appends mid new []
 nothing mid new n rest e h = rw e at h
 
--- a file that was begun is there
+-- appending to a file that was created doesn't return `FileNotFound`
 begun_there : (e : StoreFault) (o m x : Files) (name bytes rest : List ℕ) → Writing o name bytes rest m → Appended m name rest x (Err e) → e ≡ FileNotFound → ⊥
 begun_there OutOfMemory o m x name bytes rest p q e = cc
 begun_there FileError o m x name bytes rest p q e = cc
@@ -111,7 +111,7 @@ with_outputs-append : (os : List OutputFile) (o : OutputFile) (m : Files) → wi
 with_outputs-append [] o m = refl
 with_outputs-append (p ∷ os) o m = with_outputs-append os o (map.insert m p.name p.bytes)
 
--- one more output
+-- one further output is written
 pub next_output : (known mid new : Option Files) (outputs : List OutputFile) (i : ℕ) (o : OutputFile) → i < length outputs → o ≡ get_or outputs i o → RelatesFiles (λ old m. m ≡ with_outputs (take i outputs) old) known mid → RelatesFiles (λ m n. n ≡ map.insert m o.name o.bytes) mid new → RelatesFiles (λ old n. n ≡ with_outputs (take (i + 1) outputs) old) known new
 next_output None mid new outputs i o h is p q = tt
 next_output (Some a) None new outputs i o h is p q = absurd p
@@ -146,7 +146,7 @@ said_within (Some o) (Some n) text more p = (
   p.2 ∙ ap (λ xs. o ++ xs) (sym (take-append-le p.0 text more (omega (arith, p.1)))),
 )
 
--- Texts that are said one behind the other: one of them stops short, behind all before it.
+-- Texts that are printed in sequence: if one of them is cut short after the texts before it, so is the concatenation.
 module _ {X : Type 0} (text : X → List ℕ) where
   abbrev all_of : List X → List ℕ
   all_of xs = concat_texts (map text xs)
@@ -171,13 +171,13 @@ by_cause u = go u.fault refl
     go FileNotFound e a b = absurd (b e)
     go FileError e a b = let yes : is_file_error u.fault ≡ true = ap is_file_error e in cc
 
--- both streams took their texts
+-- if not one of two streams failed, neither did
 pub both_took : (out err : Bool) → not (out || err) ≡ true → (out ≡ false) × (err ≡ false)
 both_took false false h = (refl, refl)
 both_took false true h = absurd cc
 both_took true err h = absurd cc
 
--- what is said behind the texts of both
+-- a message after the texts of both streams
 pub after_both : (io mid : Streams) (out err fault : List ℕ) → mid ≡ streams io.out_old io.out_new io.out_failed io.err_old mid.err_new mid.err_failed → has_accepted_both mid ≡ true → PrintsBothTexts mid out err → PrintsText mid.err_new io.err_new fault (not io.err_failed) → PrintsMessage io out err fault
 after_both io mid out err fault same took printed more =
     let none = both_took mid.out_failed mid.err_failed took in
@@ -189,7 +189,7 @@ after_both io mid out err fault same took printed more =
       following = more;
     }
 
--- outputs that aren't all written
+-- outputs that aren't all written, although no call of the store failed: memory ran out
 pub short : (known new : Option Files) (fo fm fn : ℕ) (o : Outcome) (memory : List ℕ) (u : WriteError) (io : Streams) (status : Status) (P : Files → Type 0) → status ≡ Failure → fo ≤ fm → fm ≡ fn → (is_failure u ≡ true → HasFailed fo fm) → IfSome known (λ m. u.fault ≡ FileNotFound → ⊥) → RelatesFiles (WritesPrefix o.outputs u.index) known new → (u.fault ≡ OutOfMemory → PrintsMessage io o.out o.err memory) → IfSome known (λ m. NoneFailed fo fn → P m ⊎ HasMemoryFailure o memory m new io status)
 short None new fo fm fn o memory u io status P e later same cause there left printed = tt
 short (Some m) new fo fm fn o memory u io status P e later same cause there left printed = λ none.

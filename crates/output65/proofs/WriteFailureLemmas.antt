@@ -1,4 +1,4 @@
--- Outcomes whose files aren't all written since a call of the store fails.
+-- An outcome's files aren't all written if a call of the store fails.
 use Rattle.std.proofs.Common.{◌≡◌, ℕ, ◌<◌, true, false, Option, Some, None, refl, slice_get}
 use Rattle.std.specs.Prelude.{IfSome}
 use Rattle.base65.specs.Store.{Files, FailedOn, RelatesFiles, LastFailure}
@@ -20,7 +20,7 @@ file_error u = go u.fault refl
     go OutOfMemory e h = let no : is_unwritten_failure u ≡ false = rw e refl in cc
     go FileNotFound e h = let no : is_unwritten_failure u ≡ false = rw e refl in cc
 
--- where a file isn't written since a call failed
+-- a file isn't written because a call of the store failed
 pub stops_writing : (known new : Option Files) (fm fn : ℕ) (o : Outcome) (u : WriteError) (last_failure : LastFailure) (io : Streams) (status : Status) → status ≡ Failure → (fm < fn → is_unwritten_failure u ≡ true) → RelatesFiles (WritesPrefix o.outputs u.index) known new → ((file : OutputFile) → u.fault ≡ FileError → slice_get o.outputs u.index ≡ Some file → PrintsMessage io o.out o.err (file_error_line file.name)) → ((file : OutputFile) → u.fault ≡ FileError → slice_get o.outputs u.index ≡ Some file → FailedOn last_failure file.name) → IfSome known (λ m. fm < fn → HasWriteFailure o m new last_failure io status)
 stops_writing None new fm fn o u last_failure io status failed told left printed asked = tt
 stops_writing (Some m) None fm fn o u last_failure io status failed told left printed asked = absurd left

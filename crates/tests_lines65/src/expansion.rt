@@ -191,25 +191,37 @@ fn put_lines(
     store.put(name, text.as_slice())
 }
 
-#[test]
-fn rows(rt: HostRuntime) -> Result<(), Fail> {
-    let mut store = MemStore::new(rt.alloc());
-    let options = in_folder(rt.alloc(), "d")?;
+/// Returns for how many rows the statements are those after the arrow.
+fn count_right(alloc: Global, peeks: bool) -> Result<u32, Fail> {
+    let mut store = MemStore::new(alloc);
+    let options = in_folder(alloc, "d")?;
+    let reading = Reading {
+        all: false,
+        peeks,
+        most: 70_000,
+    };
     let mut count = 0u32;
     for row in ROWS.lines() {
         let (lines, wanted) = row.split_once(" ==> ").ok_or("no arrow")?;
-        put_lines(rt.alloc(), &mut store, "b.s", lines)?;
-        for peeks in [false, true] {
-            let reading = Reading {
-                all: false,
-                peeks,
-                most: 70_000,
-            };
-            let found = expanded(rt.alloc(), &mut store, &options, reading)?;
-            assert!(rt; found.as_slice() == wanted.as_bytes(), "{row}");
+        put_lines(alloc, &mut store, "b.s", lines)?;
+        let found = expanded(alloc, &mut store, &options, reading)?;
+        if found.as_slice() == wanted.as_bytes() {
+            count = count.saturating_add(1);
         }
-        count = count.saturating_add(1);
     }
+    Ok(count)
+}
+
+#[test]
+fn rows(rt: HostRuntime) -> Result<(), Fail> {
+    let count = count_right(rt.alloc(), false)?;
+    assert_eq!(rt; count, 76);
+    Ok(())
+}
+
+#[test]
+fn rows_by_peeking(rt: HostRuntime) -> Result<(), Fail> {
+    let count = count_right(rt.alloc(), true)?;
     assert_eq!(rt; count, 76);
     Ok(())
 }

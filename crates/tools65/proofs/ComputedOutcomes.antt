@@ -1,4 +1,4 @@
--- From what a command found to what its line computes.
+-- The outcome of a command line, from the result of its command.
 use Rattle.std.proofs.Common.{◌≡◌, ◌∙◌, ◌⊎◌, inl, inr, ℕ, List, [], ◌++◌, Bool, true, false, Option, Some, None, Result, Ok, Err, refl, sym, ap, subst, map}
 use Rattle.std.specs.Prelude.{IfErr, IfOk, IfSome, ◌||◌}
 use Rattle.std.specs.Result.{IsErrAnd}
@@ -36,15 +36,16 @@ use Rattle.tools65.specs.Failures.{outcome_without_files}
 use Rattle.tools65.specs.ObjectFits.{IsFittingOutcome, SourceObjectFits}
 use Rattle.tools65.specs.Internal.ComputedOutcomes.{ComputesOutcome, IsFailureReport}
 
--- A command, whose answers come to outcomes of a line: to no more than the words of want of memory where memory ran out, and to
--- why it stopped where a call of the store failed.
+-- A command with results in `Result A E`, and the outcomes that belong to them (`Comes`). Premises: the outcome of a result
+-- that satisfies `Is` is fitting; the outcome of a memory error is only the memory message; the outcome of a failed call of
+-- the store reports that failure; the outcome of every error fails.
 module _ {A E : Type 0} (line : CommandView) (is_memory is_failure : E → Bool)
     (Is : Files → Result A E → Type 0) (Comes : Result A E → Outcome → Type 0) (Stopped : Files → LastFailure → E → Type 0)
     (IsOutcomeOf : (m : Files) (r : Result A E) (o : Outcome) → Is m r → Comes r o → IsFittingOutcome line m o)
     (by_memory : (e : E) (o : Outcome) → is_memory e ≡ true → Comes (Err e) o → o ≡ error_outcome (command_memory_message line))
     (by_failure : (m : Files) (last_failure : LastFailure) (e : E) (o : Outcome) → is_failure e ≡ true → Stopped m last_failure e → Comes (Err e) o → IsFailureReport line m last_failure o)
     (fails : (e : E) (o : Outcome) → Comes (Err e) o → o.status ≡ Failure) where
-  -- what was found, where no call of the store failed
+  -- if no call of the store failed, the outcome is fitting or only the memory message
   found : (m : Files) (r : Result A E) (o : Outcome) → RefinesProp (λ e. is_memory e || is_failure e) (Is m) r → IfErr r (λ e. is_failure e ≡ true → ⊥) → Comes r o → IsFittingOutcome line m o ⊎ (o ≡ error_outcome (command_memory_message line))
   found m (Ok x) o h none comes = inl (IsOutcomeOf m (Ok x) o h comes)
   found m (Err e) o h none comes = by_cause (is_memory e) (is_failure e) refl refl h
@@ -58,7 +59,7 @@ module _ {A E : Type 0} (line : CommandView) (is_memory is_failure : E → Bool)
   no_failure fo fm (Ok x) p none = tt
   no_failure fo fm (Err e) p none = λ h. none (p.caused h)
 
-  -- what is said of a refusal from outside
+  -- a system error (out of memory, or a failed call of the store) is reported
   refused : (m : Files) (last_failure : LastFailure) (r : Result A E) (o : Outcome) → IsErrAnd r (λ e. (is_memory e || is_failure e) ≡ true) → IfErr r (λ e. is_failure e ≡ true → Stopped m last_failure e) → Comes r o → IsFailureReport line m last_failure o
   refused m last_failure (Ok x) o outside stopped comes = absurd outside
   refused m last_failure (Err e) o outside stopped comes = by (is_memory e) (is_failure e) refl refl outside
@@ -86,7 +87,7 @@ module _ {A E : Type 0} (line : CommandView) (is_memory is_failure : E → Bool)
     failed = λ some. refused m last_failure r o (outside fo fm r count asks some) stopped comes;
   }
 
-  -- what is computed, unless memory runs out
+  -- every outcome that is returned satisfies `ComputesOutcome`
   pub computes : {F : Type 0} (known : Option Files) (fo fm : ℕ) (last_failure : LastFailure) (r : Result A E) (q : Result Outcome F) → PropagatesIoErrors is_failure fo fm r → FailsAtLastCount (λ e. is_memory e || is_failure e) fo r → IfSome known (λ m. IfErr r (λ e. is_failure e ≡ true → Stopped m last_failure e)) → IfSome known (λ m. RefinesProp (λ e. is_memory e || is_failure e) (Is m) r) → IfOk q (Comes r) → IfSome known (λ m. IfOk q (ComputesOutcome line m last_failure fo fm))
   computes None fo fm last_failure r q count asks stopped finds comes = tt
   computes (Some m) fo fm last_failure r (Ok o) count asks stopped finds comes = computed m fo fm last_failure r o count asks stopped finds comes
@@ -121,7 +122,7 @@ module _ (l : LinkView) where
   link_fails : (e : LinkCommandFault) (o : Outcome) → o ≡ link_outcome l (Err e) → o.status ≡ Failure
   link_fails e o is = ap (λ (x : Outcome). x.status) is
 
-  -- what a refusal names, where the files are known
+  -- if the files are known, the error of a failed call satisfies `LinkStops`
   of_known : (known : Option Files) (r : Result Linked LinkCommandFault) (b : LastFailure) → IfErr r (NamesFailure (IsCommandFailure known b l)) → IfSome known (λ m. IfErr r (λ e. is_failure e ≡ true → LinkStops m b e))
   of_known None r b named = tt
   of_known (Some m) r b named = named
@@ -135,10 +136,10 @@ module _ (l : LinkView) where
   link_fails_so =
       fails_so (link l) is_memory is_failure (λ m. IsCommandLink m l) (λ r o. o ≡ link_outcome l r) LinkStops link_does link_memory link_failure link_fails
 
--- ---- A line of the librarian.
+-- ---- A command line of the librarian.
 
 module _ (a : ArchiveView) where
-  -- what it comes to, as the command finds it
+  -- the result of the command line, as a relation
   abbrev IsArchived : Files → Result ArchiveResult ArchiveRefusal → Type 0
   IsArchived m r = archive_result m a ≡ r
 
@@ -165,7 +166,7 @@ module _ (a : ArchiveView) where
   archived_found (Some m) (Ok x) h = h
   archived_found (Some m) (Err e) h = h
 
-  -- what is so whatever the files are
+  -- a proposition that doesn't depend on the files
   whatever : (known : Option Files) (P : Type 0) → P → IfSome known (λ m. P)
   whatever None P h = tt
   whatever (Some m) P h = h
@@ -181,7 +182,7 @@ module _ (a : ArchiveView) where
 
 -- ---- An assembly.
 
--- the same job, whose folders and constants are those of a line
+-- equal folders and constants give an equal job
 pub same_job : (a : AssembleView) (include : List (List ℕ)) (defines : List Define) → include ≡ a.include → defines ≡ map define_in a.defines → record { source = a.source; include = include; defines = defines } ≡ job_in a
 same_job a include defines h k = ap (λ (i : List (List ℕ)). job_with a i defines) h ∙ ap (λ (d : List Define). job_with a a.include d) k
   where
@@ -198,14 +199,14 @@ module _ (a : AssembleView) (out err : List ℕ) where
   abbrev IsMade : Job → Files → Result Object Diagnostic → Type 0
   IsMade j m r = IsOutcome m j (found_in r)
 
-  -- that, and the numbers of an object fit their types
+  -- `IsMade`, and the numbers of the object fit their types
   abbrev IsMadeFitting : Job → Files → Result Object Diagnostic → Type 0
   IsMadeFitting j m r = IsMade j m r × IfOk r ObjectFits
 
   abbrev MakingStops : Job → Files → LastFailure → Diagnostic → Type 0
   MakingStops j m b e = IsStoreFailureOutcome m b j (located_fault e) out err
 
-  -- a source has one outcome, so each object of it is the one that was made
+  -- a source has at most one outcome, so its object is the one that was assembled
   made_fits : (m : Files) (r : Result Object Diagnostic) → IsMadeFitting (job_in a) m r → SourceObjectFits a m
   made_fits m (Ok object) (is, fits) x other was found =
       let both : Ok object ≡ Ok other = ap (λ (z : asm.Outcome). z.result) (one_answer m (job_in a) (found_in (Ok object)) x is was) ∙ found in

@@ -29,7 +29,7 @@ not_failed : (fo fm : ℕ) → fm ≡ fo → nat_eq fo max_failures ≡ false �
 not_failed fo fm same other (inl h) = absurd (omega (arith, h, same))
 not_failed fo fm same other (inr h) = absurd (let P : ℕ → Type 0 = λ n. nat_eq n max_failures ≡ false in let no : nat_eq max_failures max_failures ≡ false = subst P h other in cc)
 
--- ---- A line.
+-- ---- A command line.
 
 -- memory ran out before there was an outcome
 pub only_memory_fails : (known new : Option Files) (line : CommandView) (last_failure : LastFailure) (out err_old err_new : Option (List ℕ)) (out_refused err_refused : Bool) (status : Status) (Q : Type 0) → new ≡ known → status ≡ Failure → out_refused ≡ false → PrintsText err_old err_new (command_memory_message line) (not err_refused) → IfSome known (λ m. Q → CommandRunFails line m new last_failure (streams out out out_refused err_old err_new err_refused) status)
@@ -38,7 +38,7 @@ only_memory_fails None new line last_failure out err_old err_new out_refused err
 only_memory_fails (Some m) new line last_failure out err_old err_new out_refused err_refused status Q same e quiet p = λ _.
     inl (record { out = []; err = command_memory_message line; reason = inr (refl, refl); performed = says m new out err_old err_new (command_memory_message line) out_refused err_refused status same e quiet p })
 
--- an outcome that was computed is carried out, and a call failed: while files were read, or while the outcome's were written
+-- a computed outcome is committed, and a call failed: while files were read, or while the outcome's files were written
 pub line_fails : (known mid new : Option Files) (fo fm fn : ℕ) (line : CommandView) (o : Outcome) (asked last_failure : LastFailure) (io : Streams) (status : Status) → mid ≡ known → fo ≤ fm → IfSome known (λ m. ComputesOutcome line m asked fo fm o) → (o.outputs ≡ [] → IfSome mid (λ m. CommitsOutcome o m new io status)) → (o.outputs ≡ [] → last_failure ≡ asked) → IfSome mid (λ m. fm < fn → HasWriteFailure o m new last_failure io status) → IfSome known (λ m. HasFailed fo fn → CommandRunFails line m new last_failure io status)
 unfolding CommandRunFails
 line_fails None mid new fo fm fn line o asked last_failure io status same early computes performs kept stops = tt
@@ -72,7 +72,7 @@ line_fails (Some m) mid new fo fm fn line o asked last_failure io status same ea
     by_last (inl later) false other = by_moment other later (eq-or-lt_of_le early)
     by_last (inr at) false other = while_reading (inr at)
 
--- a run in which a call failed has failed
+-- a run in which a call failed returns `Failure`
 pub line_failed : (fo fm fn : ℕ) (o : Outcome) (status : Status) → fo ≤ fm → (HasFailed fo fm → o.status ≡ Failure) → (fm < fn → status ≡ Failure) → (o.status ≡ Failure → status ≡ Failure) → HasFailed fo fn → status ≡ Failure
 line_failed fo fm fn o status early fails rose failing_so = by
   where
@@ -91,7 +91,7 @@ unfolding ArgsRunFails
 failed_words None new fo fn args line last_failure io status e h = tt
 failed_words (Some m) new fo fn args line last_failure io status e h = λ some. rw e (inl (h some))
 
--- arguments that are no command line, or for which memory ran out
+-- arguments that aren't a command line, or memory ran out while they were parsed
 pub refused_fails : (known new : Option Files) (count : ℕ) (args : List (List ℕ)) (e : LineFault) (last_failure : LastFailure) (out err_old err_new : Option (List ℕ)) (out_refused err_refused : Bool) (status : Status) → new ≡ known → status ≡ Failure → RefinesErr is_line_system_error e (line_of args) → out_refused ≡ false → PrintsText err_old err_new (arguments_error_message e) (not err_refused) → IfSome known (λ m. HasFailed count count → ArgsRunFails count args m new last_failure (streams out out out_refused err_old err_new err_refused) status)
 unfolding ArgsRunFails
 refused_fails None new count args e last_failure out err_old err_new out_refused err_refused status same f h quiet p = tt

@@ -1,4 +1,4 @@
--- Inputs that ca65 wrote of sources select them.
+-- Inputs that ca65 wrote from sources select objects of these sources.
 use Rattle.std.proofs.Common.{◌≡◌, ◌∙◌, inl, inr, ℕ, zero, suc, ◌+◌, ◌-◌, ◌<◌, ◌≤◌, Bool, true, false, ◌&&◌, List, [], ◌∷◌, ◌++◌, length, take, drop, map, Option, Some, None, Ok, refl, sym, ap, subst, arith}
 use Rattle.std.specs.FinMap.{get}
 use Rattle.std.specs.List.{AllByRecursion}
@@ -42,7 +42,7 @@ use Rattle.tools65.specs.ObjectFiles.{IsOneOf, IsSourceInput, IsSourceObject, Is
 use Rattle.tools65.proofs.SelectedModules.{ok_err, ok_same}
 use Rattle.library65.proofs.SelectionExistence.{some_selection}
 
--- ---- The object of a source is one of the grammar.
+-- ---- The object of a source is well-formed.
 
 answered : (y : Layout) (f : Option LocatedFault) (o : Object) → (asm.outcome_of y f).result ≡ Ok o → asm.object_of y ≡ Ok o
 answered y None o h = h
@@ -57,7 +57,7 @@ good_source m job a o (r, laid, same) is =
     let good = good_object y.cursor.segments z.imports cs (sound_contents y cs (sound_layout m job r laid) there) in
     subst (λ (k : Object). is_well_formed_object k ≡ true) (ok_same (object_with y.cursor.segments z.imports cs) o made) good
 
--- of version 1 too
+-- so is the same object in version 1
 either_good : (o p : Object) → is_well_formed_object o ≡ true → IsEitherVersion o p → is_well_formed_object p ≡ true
 either_good o p good (inl same) = subst (λ (k : Object). is_well_formed_object k ≡ true) (sym same) good
 either_good o p good (inr same) = subst (λ (k : Object). is_well_formed_object k ≡ true) (sym same) ((version_law o).0 good)
@@ -173,7 +173,7 @@ mark_bytes : (es : List Entry) (members : List ℕ) → is_library (index_bytes 
 mark_bytes es members = refl
 
 module _ (sources : List Source) (m : Files) where
-  -- modules that are the objects of some of the sources
+  -- modules that satisfy `Are`, and the sources of which they are the objects
   record Given (Are : List Module → Type 0) : Type 0 where
     modules : List Module
     are : Are modules

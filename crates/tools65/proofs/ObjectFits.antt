@@ -1,4 +1,4 @@
--- The object that a run makes fits, unless memory ran out.
+-- The numbers of the object that a run assembles fit their types, unless memory runs out.
 use Rattle.std.proofs.Common.{◌≡◌, ◌⊎◌, inl, inr, ℕ, ◌≤◌, List, [], Bool, false, not, Option, Some, None, Result, Ok, Err, ap, subst}
 use Rattle.std.specs.Prelude.{IfSome}
 use Rattle.base65.specs.Outcome.{RefinesErr}
@@ -19,12 +19,12 @@ use Rattle.tools65.specs.ObjectFits.{ParsedObjectFits, IsFittingOutcome, Command
 use Rattle.tools65.specs.Internal.ComputedOutcomes.{ComputesOutcome}
 use Rattle.tools65.proofs.Runs.{did_not_fail, none_before, says}
 
--- where there are no files to write, writing doesn't stop at one
+-- if there are no outputs, writing can't stop at one of them
 stops_nowhere : (k : ℕ) (m : Files) (new : Option Files) → RelatesFiles (WritesPrefix [] k) (Some m) new → ⊥
 stops_nowhere k m None h = h
 stops_nowhere k m (Some n) h = let empty : None ≡ Some h.0 = h.1 in cc
 
--- an outcome that was computed is carried out
+-- a computed outcome is committed
 pub line_fits : (known mid new : Option Files) (fo fm fn : ℕ) (line : CommandView) (last_failure : LastFailure) (o : Outcome) (io : Streams) (status : Status) → mid ≡ known → fo ≤ fm → fm ≤ fn → IfSome known (λ m. ComputesOutcome line m last_failure fo fm o) → IfSome mid (λ m. NoneFailed fm fn → CommitsOutcome o m new io status ⊎ HasMemoryFailure o (command_memory_message line) m new io status) → IfSome known (λ m. NoneFailed fo fn → RunObjectFits line m new io status)
 unfolding RunObjectFits
 line_fits None mid new fo fm fn line last_failure o io status same early later computes performs = tt
@@ -46,13 +46,13 @@ only_memory_fits None new line out err_old err_new out_refused err_refused statu
 only_memory_fits (Some m) new line out err_old err_new out_refused err_refused status Q same e quiet p =
     λ _. inr (says m new out err_old err_new (command_memory_message line) out_refused err_refused status same e quiet p)
 
--- a line that was run
+-- a command line that was run
 pub words_fit : (known new : Option Files) (fo fn : ℕ) (args : List (List ℕ)) (line : CommandView) (io : Streams) (status : Status) → line_of args ≡ Ok line → IfSome known (λ m. NoneFailed fo fn → RunObjectFits line m new io status) → IfSome known (λ m. NoneFailed fo fn → ArgsObjectFits args m new io status)
 unfolding ArgsObjectFits
 words_fit None new fo fn args line io status e h = tt
 words_fit (Some m) new fo fn args line io status e h = λ none. rw e (inl (h none))
 
--- arguments that are no command line, or for which memory ran out
+-- arguments that aren't a command line, or memory ran out while they were parsed
 pub refused_fit : (known new : Option Files) (args : List (List ℕ)) (e : LineFault) (out err_old err_new : Option (List ℕ)) (out_refused err_refused : Bool) (status : Status) (Q : Type 0) → new ≡ known → status ≡ Failure → RefinesErr is_line_system_error e (line_of args) → out_refused ≡ false → PrintsText err_old err_new (arguments_error_message e) (not err_refused) → IfSome known (λ m. Q → ArgsObjectFits args m new (streams out out out_refused err_old err_new err_refused) status)
 unfolding ArgsObjectFits
 refused_fit None new args e out err_old err_new out_refused err_refused status Q same f h quiet p = tt

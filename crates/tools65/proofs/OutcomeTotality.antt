@@ -1,4 +1,4 @@
--- Whatever arguments and files are, there is exactly one thing that the arguments do as a command; and sources have an image, or none.
+-- For all arguments and files there is exactly one outcome; and sources have an image, or provably have none.
 use Rattle.std.proofs.Common.{◌≡◌, ◌⊎◌, ◌<◌, ◌≤◌, inl, inr, ℕ, zero, suc, ◌++◌, Bool, true, false, List, length, take, Option, Some, None, Result, Ok, Err, refl, sym, ap, subst, arith, get_or, nat_eq, ◌-◌}
 use Rattle.std.specs.Prelude.{codes}
 use Rattle.std.proofs.Math.Nat.{eq-or-lt_of_le}
@@ -60,7 +60,7 @@ module _ (name : List ℕ) where
   abbrev Has : Type 0
   Has = ((k : ℕ) × IsExtension name k) ⊎ HasNoExtension name
 
-  -- all bytes from here on are plain
+  -- all bytes from index `n` on are plain
   abbrev ArePlain : ℕ → Type 0
   ArePlain n = (i : ℕ) → n ≤ i → i < length name → IsPlain (get_or name i 0)
 
@@ -71,7 +71,7 @@ module _ (name : List ℕ) where
       by (inl e) = subst (λ j. IsPlain (get_or name j 0)) e h
       by (inr lt) = plain i (omega (arith, lt)) inside
 
-  -- behind the last byte that isn't plain there is none
+  -- if all bytes after index `n` are plain and no extension begins at `n` or before, the name has no extension
   none_there : (n : ℕ) → ArePlain (suc n) → (IsExtension name n → ⊥) → ((k : ℕ) → k < n → IsExtension name k → ⊥) → HasNoExtension name
   none_there n plain here before k x = by (compare k n)
     where
@@ -80,7 +80,7 @@ module _ (name : List ℕ) where
       by (inr (inl e)) = here (subst (IsExtension name) e x)
       by (inr (inr above)) = (plain k (omega (arith, above)) x.inside).dot x.dot
 
-  -- the last byte that isn't plain is a dot
+  -- the case of a dot at `n`, the last byte that isn't plain
   at_dot : (n : ℕ) → n < length name → ArePlain (suc n) → get_or name n 0 ≡ 46 → Has
   at_dot zero inside plain is =
       inr (none_there zero plain (λ x. (let before = x.before in absurd (omega (arith, before)))) (λ k lt x. absurd (omega (arith, lt))))

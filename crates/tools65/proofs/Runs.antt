@@ -1,4 +1,4 @@
--- From the parts of a run to the whole.
+-- The effects of a whole run, from the effects of its parts.
 use Rattle.std.proofs.Common.{◌≡◌, ◌⊎◌, inl, inr, ℕ, ◌<◌, ◌≤◌, List, [], Bool, true, false, Option, Some, None, Result, Ok, Err, refl, sym, not, arith, append-nil}
 use Rattle.std.specs.Prelude.{IfSome, ◌||◌}
 use Rattle.base65.specs.Outcome.{RefinesErr}
@@ -21,7 +21,7 @@ no_text : (out : Option (List ℕ)) → PrintsText out out [] true
 no_text None = tt
 no_text (Some xs) = sym (append-nil xs)
 
--- standard output was asked nothing
+-- nothing is printed to standard output
 only_errors : (out err_old err_new : Option (List ℕ)) (text : List ℕ) (out_refused err_refused : Bool) → out_refused ≡ false → PrintsText err_old err_new text (not err_refused) → PrintsBothTexts (streams out out out_refused err_old err_new err_refused) [] text
 only_errors out err_old err_new text true err_refused quiet p = absurd cc
 only_errors out err_old err_new text false err_refused quiet p = (no_text out, p)
@@ -30,17 +30,17 @@ nothing_written : (text : List ℕ) (m : Files) (new : Option Files) (status : S
 nothing_written text m new status true e f = (e, f)
 nothing_written text m new status false e f = (e, f)
 
--- a command that only says why
+-- a run that only prints a message and fails commits `error_outcome`
 pub says : (m : Files) (new : Option Files) (out err_old err_new : Option (List ℕ)) (text : List ℕ) (out_refused err_refused : Bool) (status : Status) → new ≡ Some m → status ≡ Failure → out_refused ≡ false → PrintsText err_old err_new text (not err_refused) → CommitsOutcome (error_outcome text) m new (streams out out out_refused err_old err_new err_refused) status
 says m new out err_old err_new text out_refused err_refused status same e quiet p =
     record { printed = only_errors out err_old err_new text out_refused err_refused quiet p; file_effects = nothing_written text m new status (not (out_refused || err_refused)) same e }
 
--- where memory ran out before there was an outcome
+-- memory ran out before there was an outcome
 pub only_memory : (known new : Option Files) (IsOutcomeOf : Files → Outcome → Type 0) (out err_old err_new : Option (List ℕ)) (memory : List ℕ) (out_refused err_refused : Bool) (status : Status) (Q : Type 0) → new ≡ known → status ≡ Failure → out_refused ≡ false → PrintsText err_old err_new memory (not err_refused) → IfSome known (λ m. Q → RunHasOutcome IsOutcomeOf memory m new (streams out out out_refused err_old err_new err_refused) status)
 only_memory None new IsOutcomeOf out err_old err_new memory out_refused err_refused status Q same e quiet p = tt
 only_memory (Some m) new IsOutcomeOf out err_old err_new memory out_refused err_refused status Q same e quiet p = λ _. (error_outcome memory, inr refl, inl (says m new out err_old err_new memory out_refused err_refused status same e quiet p))
 
--- no call failed before a moment between
+-- if no call failed from `fo` to `fn`, none failed from `fo` to `fm` or from `fm` to `fn`
 pub none_before : (fo fm fn : ℕ) → fo ≤ fm → fm ≤ fn → NoneFailed fo fn → (fm ≡ fo) × NoneFailed fm fn
 none_before fo fm fn a b h =
     let same : fm ≡ fo = omega (arith, h.same) in
@@ -50,7 +50,7 @@ pub did_not_fail : (fo fm : ℕ) → fm ≡ fo → fo < max_failures → HasFail
 did_not_fail fo fm same before (inl h) = absurd (omega arith)
 did_not_fail fo fm same before (inr h) = absurd (omega arith)
 
--- an outcome that was computed is carried out
+-- a computed outcome is committed
 pub line_done : (known mid new : Option Files) (fo fm fn : ℕ) (line : CommandView) (last_failure : LastFailure) (o : Outcome) (io : Streams) (status : Status) → mid ≡ known → fo ≤ fm → fm ≤ fn → IfSome known (λ m. ComputesOutcome line m last_failure fo fm o) → IfSome mid (λ m. NoneFailed fm fn → CommitsOutcome o m new io status ⊎ HasMemoryFailure o (command_memory_message line) m new io status) → IfSome known (λ m. NoneFailed fo fn → RunHasOutcome (IsOutcomeOfCommand line) (command_memory_message line) m new io status)
 line_done None mid new fo fm fn line last_failure o io status same early later computes performs = tt
 line_done (Some m) mid new fo fm fn line last_failure o io status same early later computes performs = λ none.
@@ -61,12 +61,12 @@ line_done (Some m) mid new fo fm fn line last_failure o io status same early lat
     by (inl (IsOutcomeOf, fits)) = inl IsOutcomeOf
     by (inr memory) = inr memory
 
--- a line that was run
+-- a command line that was run
 pub line_run : (known new : Option Files) (fo fn : ℕ) (args : List (List ℕ)) (line : CommandView) (io : Streams) (status : Status) → line_of args ≡ Ok line → IfSome known (λ m. NoneFailed fo fn → RunHasOutcome (IsOutcomeOfCommand line) (command_memory_message line) m new io status) → IfSome known (λ m. NoneFailed fo fn → RunsCommand args m new io status)
 line_run None new fo fn args line io status e h = tt
 line_run (Some m) new fo fn args line io status e h = λ none. rw e (inl (h none))
 
--- arguments that are no command line, or for which memory ran out
+-- arguments that aren't a command line, or memory ran out while they were parsed
 pub refused_words : (known new : Option Files) (args : List (List ℕ)) (e : LineFault) (out err_old err_new : Option (List ℕ)) (out_refused err_refused : Bool) (status : Status) (Q : Type 0) → new ≡ known → status ≡ Failure → RefinesErr is_line_system_error e (line_of args) → out_refused ≡ false → PrintsText err_old err_new (arguments_error_message e) (not err_refused) → IfSome known (λ m. Q → RunsCommand args m new (streams out out out_refused err_old err_new err_refused) status)
 refused_words None new args e out err_old err_new out_refused err_refused status Q same f h quiet p = tt
 refused_words (Some m) new args BadArguments out err_old err_new out_refused err_refused status Q same f h quiet p =
@@ -80,7 +80,7 @@ refused_words (Some m) new args OutOfMemory out err_old err_new out_refused err_
     either (Ok line) = inr printed
     either (Err e) = (error_outcome arguments_memory_message, inr refl, inl printed)
 
--- what is so of two streams over writers
+-- a property of these two streams, as a property of streams over writers
 pub over_writers : (known : Option Files) (Q : Type 0) (out_old out_new err_old err_new : Option (List ℕ)) (out_refused err_refused : Bool) (IsSo : Files → Streams → Type 0) → IfSome known (λ m. Q → IsSo m (streams out_old out_new out_refused err_old err_new err_refused)) → IfSome known (λ m. Q → ForStreamsOverWriters out_old out_new err_old err_new (IsSo m))
 over_writers None Q out_old out_new err_old err_new out_refused err_refused IsSo h = tt
 over_writers (Some m) Q out_old out_new err_old err_new out_refused err_refused IsSo h = λ q. (out_refused, err_refused, h q)

@@ -1,4 +1,4 @@
--- The modules that a line selects, and those that the linker is fed.
+-- The modules that a command line selects are those that the linker adds.
 use Rattle.std.proofs.Common.{◌≡◌, ◌∙◌, ℕ, suc, ◌+◌, List, [], ◌∷◌, ◌++◌, map, Bool, true, false, cond, Some, None, Result, Ok, Err, append-nil, append_assoc, refl, sym, ap, subst}
 use Rattle.std.proofs.lemmas.List.{map-append}
 use Rattle.base65.specs.Outcome.{◌>>=◌, AndThen}
@@ -26,7 +26,7 @@ use Rattle.ld65.specs.Linkage.{AreInputs, AreNeeded, IfLibraryElse, Input, IsLib
 use Rattle.ld65.specs.Faults.{input_fault, member_fault}
 use Rattle.tools65.specs.OneProgram.{AreModulesOfEntries, AreModulesOfInputs, AreModulesOfLibrary, IsModuleOf}
 
--- ---- Answers that are right, and faults.
+-- ---- Results and errors.
 
 pub ok_same : {A E : Type 0} (x y : A) → ◌≡◌ {A = Result A E} (Ok x) (Ok y) → x ≡ y
 ok_same x y e = cc
@@ -50,7 +50,7 @@ exports_front owner (m ∷ a) b =
     let more = exports_front (suc owner) a b in
     (more.0, ap (λ z. map (linked_export owner) m.object.exports ++ z) more.1 ∙ sym (append_assoc (map (linked_export owner) m.object.exports) (linked_exports (suc owner) a) more.0))
 
--- where modules give no name twice, the first of them don't
+-- if the modules `a ++ b` define no name twice, neither do the modules `a`
 pub names_front : (s : Script) (a b : List Module) → check_unique_names s (program_of (a ++ b)) ≡ Ok tt → check_unique_names s (program_of a) ≡ Ok tt
 names_front s a b e =
     let front = exports_front 0 a b in
@@ -88,7 +88,7 @@ abbrev modules : List Module → Result (List Module) LinkCommandFault
 modules ms = Ok ms
 
 module _ (s : Script) (m : Files) where
-  -- an object that is added is a module's
+  -- an object that is added is the object of a module of the input
   added_module : (before : List Module) (i : Input) (o : Object) → added_object s before m i ≡ Ok o → IsModuleOf m i (module_of i.name o)
   added_module before i o e =
       let (x, front, joined) = bind_ok (as_link (object_in m i) >>= agreeing_object i.entry) (joined_to s before i.name) o e in
@@ -98,7 +98,7 @@ module _ (s : Script) (m : Files) where
       let equal : y ≡ o = both.1 ∙ ok_same x o same in
       (o, subst (λ z. object_in m i ≡ Ok z) equal (linked_object (object_in m i) y found), subst (λ z. agrees_with i.entry z ≡ true) equal both.0, refl)
 
-  -- a module's object is added where no name is given twice
+  -- the module of an input is added if no name is defined twice
   module_added : (before : List Module) (i : Input) (x : Module) → IsModuleOf m i x → check_unique_names s (program_of (before ++ x ∷ [])) ≡ Ok tt → (named : LinkFault → LinkCommandFault) → modules_after named before i.name (added_object s before m i) ≡ Ok (before ++ x ∷ [])
   module_added before i x (o, found, agrees, same) once named =
       let agreed_to : agreeing_object i.entry o ≡ Ok o = ap (λ (b : Bool). either b o) agrees in
@@ -158,7 +158,7 @@ module _ (s : Script) (m : Files) where
       let there : check_unique_names s (program_of (before ++ x ∷ [])) ≡ Ok tt = subst (λ z. check_unique_names s (program_of (before ++ z)) ≡ Ok tt) same once in
       ap (λ z. modules (before ++ z)) same ∙ sym (module_added before (file_input name) x of there (input_fault k))
 
-  -- what the linker is fed is what the line selects
+  -- the modules that the linker adds are those that the command line selects
   pub inputs_selected : (k : ℕ) (before : List Module) (names : List (List ℕ)) (after : List Module) → AreInputs s m k before names (Ok after) → (ms : List Module) × AreModulesOfInputs s m before names ms × (after ≡ before ++ ms)
   inputs_selected k before [] after h = ([], refl, ok_same after before h ∙ sym (append-nil before))
   inputs_selected k before (name ∷ names) after (Err e, is, next) = absurd (ok_err after e next)
@@ -168,7 +168,7 @@ module _ (s : Script) (m : Files) where
       let there : AreModulesOfInputs s m (before ++ own.0) names more.0 = subst (λ z. AreModulesOfInputs s m z names more.0) own.2 more.1 in
       (own.0 ++ more.0, (own.0, more.0, own.1, there, refl), more.2 ∙ ap (λ z. z ++ more.0) own.2 ∙ append_assoc before own.0 more.0)
 
-  -- and where no name is given twice it is fed what the line selects
+  -- if no name is defined twice, the linker adds the modules that the command line selects
   pub selected_inputs : (k : ℕ) (before : List Module) (names : List (List ℕ)) (ms : List Module) → AreModulesOfInputs s m before names ms → check_unique_names s (program_of (before ++ ms)) ≡ Ok tt → AreInputs s m k before names (Ok (before ++ ms))
   selected_inputs k before [] ms h once = ap modules (ap (λ z. before ++ z) h ∙ append-nil before)
   selected_inputs k before (name ∷ names) ms (own, rest, of, more, same) once =
@@ -177,7 +177,7 @@ module _ (s : Script) (m : Files) where
       let next : AreInputs s m (k + 1) (before ++ own) names (Ok ((before ++ own) ++ rest)) = selected_inputs (k + 1) (before ++ own) names rest more all in
       (Ok (before ++ own), kind_added (is_library_in m name) k before own name of (names_front s (before ++ own) rest all), subst (λ z. AreInputs s m (k + 1) (before ++ own) names (Ok z)) (sym assoc) next)
 
-  -- ---- A line selects its modules in one way.
+  -- ---- The selected modules are unique.
 
   module_once : (i : Input) (x y : Module) → IsModuleOf m i x → IsModuleOf m i y → x ≡ y
   module_once i x y (o, found, agrees, same) (p, there, other, equal) =

@@ -1,4 +1,4 @@
--- A call that failed while files were read has one message.
+-- At most one message reports a call that failed while files were read.
 use Rattle.std.proofs.Common.{◌∙◌, sym}
 use Rattle.ar65.proofs.OneNaming.{one_naming as archive_naming}
 use Rattle.ld65.proofs.NamingUniqueness.{one_naming as link_naming}

@@ -1,4 +1,4 @@
--- A link line comes to one answer.
+-- A command line of the linker has at most one result.
 use Rattle.std.proofs.Common.{◌≡◌, ◌∙◌, ℕ, ◌+◌, List, [], ◌∷◌, Bool, true, false, Result, Ok, Err, sym, ap, subst}
 use Rattle.std.specs.FinMap.{get}
 use Rattle.std.specs.Prelude.{Option, Some}
@@ -49,7 +49,7 @@ module _ (s : Script) (m : Files) where
       let there : AndThen j.0 next r = subst (λ (q : Result (List Module) LinkCommandFault). AndThen q next r) same h.2 in
       first_once j.0 next r t (λ ms. inputs_once (k + 1) ms names r t) there j.2
 
--- ---- The link of a line whose script is this one.
+-- ---- The link of a command line with this script.
 
 module _ (l : LinkView) (m : Files) (s : Script) (text : List ℕ) (file : get m l.script ≡ Some text) (script : IsScript text (Ok s)) where
   by_script : (r : Result Linked LinkCommandFault) → IsCommandLink m l r → IsScriptedLink m l s r
@@ -71,13 +71,13 @@ module _ (l : LinkView) (m : Files) (s : Script) (text : List ℕ) (file : get m
   by_names linked (Ok u) h = h
   by_names linked (Err e) h = absurd (ok_err linked e h)
 
-  -- a link that succeeds is that of modules of the inputs
+  -- a successful link is the link of the modules of the inputs
   pub link_found : (linked : Linked) → IsCommandLink m l (Ok linked) → (ms : List Module) × AreInputs s m 0 [] l.inputs (Ok ms) × LinkOf (output_of l) s ms (Ok linked)
   link_found linked h =
       let found = by_names linked (as_command_fault (check_unique_names s (program_of []))) (by_script (Ok linked) h) in
       by_modules linked found.0 found.1 found.2
 
-  -- where the modules of the inputs have a link, the line comes to no other
+  -- if the modules of the inputs have a link, it is the only result of the command line
   pub link_is : (ms : List Module) (linked : Linked) (r : Result Linked LinkCommandFault) → AreInputs s m 0 [] l.inputs (Ok ms) → check_unique_names s (program_of []) ≡ Ok tt → LinkOf (output_of l) s ms (Ok linked) → IsCommandLink m l r → r ≡ Ok linked
   link_is ms linked r are once link h =
       let there : IsInputLink m l s r = subst (λ (q : Result (Unit {0}) LinkFault). AndThen (as_command_fault q) (λ u. IsInputLink m l s) r) once (by_script r h) in

@@ -1,4 +1,4 @@
--- A command has one outcome: each of its parts has one answer.
+-- A command has at most one outcome, because each of its steps has at most one result.
 use Rattle.std.proofs.Common.{◌≡◌, ◌∙◌, ◌<◌, ℕ, zero, suc, ◌+◌, ◌++◌, Bool, true, false, List, [], ◌∷◌, take, Option, Some, None, Result, Ok, Err, refl, sym, ap, subst, arith, inl, inr}
 use Rattle.std.specs.Prelude.{codes}
 use Rattle.std.specs.FinMap.{get}
@@ -31,9 +31,9 @@ use Rattle.tools65.specs.Command.{IsOutcomeOfAssemble, IsAssemblyOutcome, IsResu
 use Rattle.tools65.specs.Naming.{IsExtension, IsObjectName}
 use Rattle.tools65.specs.OutcomeLaws.{OutcomeIsUnique}
 
--- ---- Parts, and what follows them.
+-- ---- A step and the next one.
 
--- and where the answer is the only one, too
+-- if a first step and the next one each have at most one result, so has their sequence
 then_one : {E A B X : Type 0} (P : X → Type 0) (answer : X → Result A E) (Next : A → Result B E → Type 0) → ((q r : X) → P q → P r → q ≡ r) → ((x : A) (a b : Result B E) → Next x a → Next x b → a ≡ b) → (a b : Result B E) → ((q : X) × P q × AndThen (answer q) Next a) → ((q : X) × P q × AndThen (answer q) Next b) → a ≡ b
 then_one P answer Next same one a b (q, p, h) (r, s, k) = first_once (answer r) Next a b (λ x. one x a b) (subst (λ x. AndThen (answer x) Next a) (same q r p s) h) k
 
@@ -76,7 +76,7 @@ same_place zero (suc j) f g = absurd (f (omega arith))
 same_place (suc i) zero f g = absurd (g (omega arith))
 same_place (suc i) (suc j) f g = ap suc (same_place i j (λ h. f (omega (arith, h))) (λ h. g (omega (arith, h))))
 
--- a name has one extension
+-- a name has at most one extension
 extension_one : (name : List ℕ) (i j : ℕ) → IsExtension name i → IsExtension name j → i ≡ j
 extension_one name i j x y = same_place i j (λ h. (x.following j h y.inside).dot y.dot) (λ h. (y.following i h x.inside).dot x.dot)
 

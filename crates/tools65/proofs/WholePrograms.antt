@@ -1,4 +1,4 @@
--- What ca65 wrote of sources, linked, is the whole program of the sources.
+-- The link of the objects that ca65 writes from sources is the image of the sources as one program.
 use Rattle.std.proofs.Common.{◌≡◌, ◌∙◌, List, [], ◌∷◌, Option, Some, None, Ok, refl, sym, ap, subst}
 use Rattle.object65.specs.declared.object.Object.{Object}
 use Rattle.semantics65.specs.Layout.{Layout}
@@ -14,7 +14,7 @@ use Rattle.whole65.specs.Sources as whole
 use Rattle.whole65.specs.Whole.{IsWholeProgramImage}
 use Rattle.tools65.specs.OneProgram.{AreLayoutsOf, AreObjectsOf, IsLayoutOf, IsObjectOf, OneProgramLaw, Source}
 
--- a source with an object has no fault at a line
+-- a source with an object has no error at a line
 no_fault : (y : Layout) (f : Option LocatedFault) (o : Object) → (outcome_of y f).result ≡ Ok o → (f ≡ None) × (object_of y ≡ Ok o)
 no_fault y None o e = (refl, e)
 no_fault y (Some f) o e = absurd cc
@@ -34,7 +34,7 @@ all_laid (x ∷ xs) (m ∷ ms) h =
     let (ys, more, sources) = all_laid xs ms h.1 in
     (y ∷ ys, (laid, more), (source, sources))
 
--- sources are laid in one way
+-- sources have at most one layout each
 laid_once : (xs : List Source) (ys zs : List Layout) → AreLayoutsOf xs ys → AreLayoutsOf xs zs → ys ≡ zs
 laid_once [] [] [] h k = refl
 laid_once [] (y ∷ ys) zs h k = absurd h

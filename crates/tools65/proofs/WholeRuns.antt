@@ -1,4 +1,4 @@
--- A run over sources' objects, and the whole program of the sources.
+-- A run that links objects of sources agrees with the whole program of the sources.
 use Rattle.std.proofs.Common.{◌≡◌, ◌∙◌, ◌⊎◌, inl, inr, ℕ, List, [], Bool, true, false, Option, Some, None, Result, Ok, Err, refl, sym, ap, subst}
 use Rattle.std.specs.Prelude.{IfSome, slice_get}
 use Rattle.base65.specs.Store.{Files, NoneFailed, RelatesFiles}
@@ -35,7 +35,7 @@ settled_well : (o : Outcome) (m : Files) (new : Option Files) (status : Status) 
 settled_well o m new status true h e = (sym h.1 ∙ e, h.0)
 settled_well o m new status false h e = absurd (not_both (sym e ∙ h.1))
 
--- its outcome is carried out whole
+-- all files of the outcome are written
 carried_out : (o : Outcome) (memory : List ℕ) (m : Files) (new : Option Files) (io : Streams) (status : Status) → status ≡ Success → CommitsOutcome o m new io status ⊎ HasMemoryFailure o memory m new io status → (o.status ≡ Success) × (new ≡ Some (with_outputs o.outputs m))
 carried_out o memory m new io status e (inl p) = settled_well o m new status (has_accepted_both io) p.file_effects e
 carried_out o memory m new io status e (inr p) = absurd (not_both (sym e ∙ p.failed))
@@ -51,11 +51,11 @@ first_passed : {E A : Type 0} (q : Result (Unit {0}) E) (Next : Unit {0} → Res
 first_passed (Ok u) Next x h = refl
 first_passed (Err e) Next x h = absurd (ok_err x e h)
 
--- no name is given twice among modules that have a link
+-- modules that have a link define no name twice
 link_once : (output : List ℕ) (s : Script) (ms : List Module) (linked : Linked) → LinkOf output s ms (Ok linked) → check_unique_names s (program_of ms) ≡ Ok tt
 link_once output s ms linked h = first_passed (check_unique_names s (program_of ms)) (λ u. IsProgramLink output s (program_of ms)) linked h
 
--- ---- A run without files.
+-- ---- A run that writes no files.
 
 settled_alone : (o : Outcome) (m : Files) (new : Option Files) (status : Status) (whole : Bool) → o.outputs ≡ [] → o.status ≡ Failure → FilesAfterRun o m new status whole → (new ≡ Some m) × (status ≡ Failure)
 settled_alone o m new status true none fails h = (h.0 ∙ ap (λ (files : List OutputFile). Some (with_outputs files m)) none, h.1 ∙ fails)
@@ -68,13 +68,13 @@ no_place : (outputs : List OutputFile) (index : ℕ) (m : Files) (new : Option F
 no_place outputs index m None none left = left
 no_place outputs index m (Some z) none left = none_there index left.0 (sym (ap (λ (files : List OutputFile). slice_get files index) none) ∙ left.1)
 
--- an outcome without files leaves the files as they were
+-- an outcome that fails and has no files leaves the files unchanged
 left_alone : (o : Outcome) (memory : List ℕ) (m : Files) (new : Option Files) (io : Streams) (status : Status) → o.outputs ≡ [] → o.status ≡ Failure → CommitsOutcome o m new io status ⊎ HasMemoryFailure o memory m new io status → (new ≡ Some m) × (status ≡ Failure)
 left_alone o memory m new io status none fails (inl p) = settled_alone o m new status (has_accepted_both io) none fails p.file_effects
 left_alone o memory m new io status none fails (inr p) = absurd (no_place o.outputs p.index m new none p.file_effects)
 
 module _ (l : LinkView) (m : Files) (s : Script) (xs : List Source) (k : SelectsObjectsOf l m s xs) where
-  -- a link that succeeds is that of the modules that the line selects
+  -- a successful link is the link of the selected modules
   fed_so : (linked : Linked) → IsCommandLink m l (Ok linked) → LinkOf (output_of l) s k.modules (Ok linked)
   fed_so linked h =
       let found = link_found l m s k.text k.file k.script linked h in
@@ -82,7 +82,7 @@ module _ (l : LinkView) (m : Files) (s : Script) (xs : List Source) (k : Selects
       let same : found.0 ≡ k.modules = chosen.2 ∙ selected_once s m [] l.inputs chosen.0 k.modules chosen.1 k.selected in
       subst (λ (ms : List Module). LinkOf (output_of l) s ms (Ok linked)) same found.2
 
-  -- where those modules have a link, the line has it
+  -- if the selected modules have a link, it is the result of the command line
   linked_so : (linked : Linked) (r : Result Linked LinkCommandFault) → LinkOf (output_of l) s k.modules (Ok linked) → IsCommandLink m l r → r ≡ Ok linked
   linked_so linked r h is =
       let once = link_once (output_of l) s k.modules linked h in
@@ -107,7 +107,7 @@ module _ (l : LinkView) (m : Files) (s : Script) (xs : List Source) (k : Selects
       let made : List OutputFile → Outcome = λ zs. record { out = []; err = link.linked.warnings; outputs = with_map l.map zs link.linked.map; status = Success } in
       (link.linked.warnings, link.linked.map, same ∙ ap (λ (q : Result Linked LinkCommandFault). link_outcome l q) found ∙ ap made link.same)
 
-  -- a link is the image of the sources, or they have none
+  -- the outcome has the files of the sources' image, or the sources have no image and the outcome is an error
   image_or_none : (r : Result Linked LinkCommandFault) → IsCommandLink m l r → (o : Outcome) → o ≡ link_outcome l r → ((files : List OutputFile) × HasImage (output_of l) s xs files × HasFiles l files o) ⊎ (HasNoImage l s xs × IsLinkError l o)
   image_or_none (Ok linked) is o same =
       let whole = (one_program (output_of l) s xs k.modules linked.files k.objects).1 (record { linked = linked; link = fed_so linked is; same = refl }) in
@@ -126,7 +126,7 @@ module _ (l : LinkView) (m : Files) (s : Script) (xs : List Source) (k : Selects
     exhaustive = image_or_none IsOutcomeOf.0 IsOutcomeOf.1 o IsOutcomeOf.2;
   }
 
-  -- a refusal, or want of memory, has no files and fails
+  -- if the sources have no image, the outcome has no files and fails
   fails_alone : (o : Outcome) → IsWholeProgramOutcome l s xs m o ⊎ (o ≡ error_outcome link_memory_message) → HasNoImage l s xs → (o.outputs ≡ []) × (o.status ≡ Failure)
   fails_alone o (inr same) none = (ap (λ (z : Outcome). z.outputs) same, ap (λ (z : Outcome). z.status) same)
   fails_alone o (inl d) none = by_only d.exhaustive
@@ -146,7 +146,7 @@ module _ (l : LinkView) (m : Files) (s : Script) (xs : List Source) (k : Selects
       carried (inl IsOutcomeOf) = inl (does_whole o IsOutcomeOf)
       carried (inr same) = inr same
 
--- ---- Lines and arguments.
+-- ---- Command lines and arguments.
 
 module _ (m : Files) (new : Option Files) (io : Streams) (status : Status) where
   links_whole : (line : CommandView) (l : LinkView) → RunHasOutcome (IsOutcomeOfCommand line) (command_memory_message line) m new io status → line ≡ link l → LinksWholeProgram l m new io status
@@ -173,7 +173,7 @@ words_law args m new io status ran = words_link m new io status (line_of args) r
 pub lines_law : LineLinksOneProgram
 lines_law line m new io status ran = line_links m new io status line ran
 
--- a line that was run
+-- a command line that was run
 pub line_whole : (known new : Option Files) (fo fn : ℕ) (line : CommandView) (io : Streams) (status : Status) → IfSome known (λ m. NoneFailed fo fn → RunHasOutcome (IsOutcomeOfCommand line) (command_memory_message line) m new io status) → IfSome known (λ m. NoneFailed fo fn → CommandLinksWholeProgram line m new io status)
 line_whole None new fo fn line io status h = tt
 line_whole (Some m) new fo fn line io status h = λ none. line_links m new io status line (h none)

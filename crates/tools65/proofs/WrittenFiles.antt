@@ -1,4 +1,4 @@
--- What ca65 and ar65 write is as inputs are supposed to be.
+-- The files that ca65 and ar65 write satisfy the premises of the laws of inputs.
 use Rattle.std.proofs.Common.{◌≡◌, ◌∙◌, inl, ◌≤◌, ℕ, ◌+◌, Bool, true, false, List, [], ◌∷◌, ◌++◌, length, Option, Some, None, Result, Ok, Err, refl, sym, ap, subst, if◌then◌else◌}
 use Rattle.std.specs.Prelude.{IfSome, ◌==◌}
 use Rattle.std.specs.FinMap.{get}

@@ -1,4 +1,4 @@
--- Assertions of a link and those of the whole program.
+-- The assertions of a link pass if and only if those of the whole program do.
 use Rattle.whole65.proofs.Positions.{all_parts}
 use Rattle.std.proofs.lemmas.Grind.{common_steps}
 use Rattle.std.proofs.Common.{◌≡◌, ℕ, zero, suc, List, [], ◌∷◌, ◌++◌, length, map, slice_get, Some, Result, Ok, Err, refl, sym, ◌∙◌, subst, ◌+◌, Bool, true, false, cond, ap, arith}
@@ -54,15 +54,15 @@ use Rattle.whole65.specs.Programs as whole
 use Rattle.whole65.specs.Sources.{AreObjectsOfLayouts, IsObjectOfLayout}
 use Rattle.whole65.specs.Programs.{placed_program}
 
--- ---- What statements assert, and what is said of it in a module's contents.
+-- ---- Assertions in the declarations of a module.
 
--- an assertion whose form waits for a link has a value there and passes
+-- a deferred assertion has a value that passes; any other declaration satisfies this
 abbrev pub IsPassed : {E : Type 0} → LinkerView E → ℕ → Declaration → Type 0
 IsPassed o owner (ExportedSymbol n place f) = ⊤
 IsPassed o owner (ForcedImport n) = ⊤
 IsPassed o owner (LinkAssertion act place words f) = (v : ℤ) × HasValue o owner f v × AssertionHolds act v
 
--- ---- Statements that assert nothing.
+-- ---- Declarations without assertions.
 
 module _ {E : Type 0} (o : LinkerView E) (owner : ℕ) where
   abbrev pub AllPass : List Declaration → Type 0
@@ -83,11 +83,12 @@ module _ {E : Type 0} (o : LinkerView E) (owner : ℕ) where
 -- ---- Statements.
 
 module _ {E : Type 0} (p : Program) (o : LinkerView E) (h : IsLinkerView p o) (owner : ℕ) where
-  -- an expression and its form pass alike
+  -- a form has a value that passes
   abbrev FormPasses : Action → Form → Type 0
   FormPasses act f = (v : ℤ) × HasValue o owner f v × AssertionHolds act v
 
-  -- an assertion that its source decides passes; another one passes as what is said of it
+  -- The form of an assertion has a value that passes if and only if the assertion's declarations pass: none if the source
+  -- decides it, otherwise the deferred assertion.
   decided_passes : (act : Action) (place : SourceLocation) (words : List ℕ) (f : Form) (ss : List Declaration) → decided_assertion act place words f ≡ Ok ss → FormPasses act f ↔ AllPass o owner ss
   decided_passes act place words f ss d = by act f d
     where
@@ -124,7 +125,7 @@ module _ {E : Type 0} (p : Program) (o : LinkerView E) (h : IsLinkerView p o) (o
       go (Assert e act words) (f, normal, said) = assertion_passes (length before) l.place e act words f ss (subst (λ s. norm_of (o.symbols owner) s e ≡ Ok f) (sym at) normal) said
       go x d = silent (subst (AllPass o owner) (sym d) tt)
 
-  -- ---- Lines.
+  -- ---- The statements of a module.
 
   pub lines_pass : (all : List LaidOutStatement) → ((index : ℕ) (l : LaidOutStatement) → slice_get all index ≡ Some l → o.contexts owner index ≡ l.context) → (before ls : List LaidOutStatement) (names : List (List ℕ)) (cs : List Content) → before ++ ls ≡ all → AreStated (o.symbols owner) names ls cs → AllByRecursion (SatisfiesAssertion p) (module_statements_after owner before ls) ↔ AllPass o owner (all_declarations cs)
   lines_pass all contexts before [] names _ w no_line = (λ k. tt, λ k. tt)
@@ -137,7 +138,7 @@ module _ {E : Type 0} (p : Program) (o : LinkerView E) (h : IsLinkerView p o) (o
         λ k. (let q = all_parts (IsPassed o owner) (all_declarations ds) (all_declarations cs) (subst (AllPass o owner) (said_append ds cs) k) in (one.1 q.0, deeper.1 q.1)),
       )
 
--- ---- Assertions of all modules.
+-- ---- The assertions of the linked modules.
 
 abbrev linked_asserts : ℕ → List Module → List LinkedAssertion
 linked_asserts owner [] = []
@@ -150,9 +151,9 @@ asserts_after p (m ∷ ms) = grind (arith, common_steps, (asserts_after (linked.
 asserts_are : (ms : List Module) → (linked.program_of ms).asserts ≡ linked_asserts 0 ms
 asserts_are ms = asserts_after linked.no_program ms
 
--- ---- The check.
+-- ---- `check_asserts`.
 
--- there is a value, and it passes
+-- the result is a value that passes
 abbrev ComesToPass : Action → Result ℤ ValueFault → Type 0
 ComesToPass act r = (v : ℤ) × (r ≡ Ok v) × AssertionHolds act v
 
@@ -176,7 +177,7 @@ result_told s act text (Ok v) =
 result_told s act text (Err e) = grind (arith, common_steps)
 
 module _ (l : Linkage) (members : List LinkedModule) (exports : Exports) where
-  -- an assertion of a linked module comes to a value and passes
+  -- the assertion of a linked module has a value that passes
   abbrev pub Succeeds : LinkedAssertion → Type 0
   Succeeds a = ComesToPass a.action (value_of_form l exports a.owner a.form)
 
@@ -196,7 +197,7 @@ module _ (l : Linkage) (members : List LinkedModule) (exports : Exports) where
             )),
       )
 
--- ---- Assertions of a source.
+-- ---- The assertions of one module.
 
 module _ (s : Script) (placement : Placement) (ys : List Layout) (ms : List Module) (table : List (Result ℤ ValueFault)) (h : AreObjectsOfLayouts ys ms) (exports : AreExports (linkage_of s (linked.program_of ms) placement) table) where
   abbrev p : Program
@@ -263,7 +264,7 @@ module _ (s : Script) (placement : Placement) (ys : List Layout) (ms : List Modu
         λ k. subst (λ (x : Object). AllByRecursion Passing (map (linked.linked_assertion owner) x.asserts)) (sym c.object) (said.1 (lines.0 k)),
       )
 
-  -- ---- Module by module.
+  -- ---- Induction on the modules.
 
   all_sources : (rest : List Layout) (ns : List Module) (owner : ℕ) → AreObjectsOfLayouts rest ns → ((i : ℕ) → slice_get rest i ≡ slice_get ys (owner + i)) → ((i : ℕ) → slice_get ns i ≡ slice_get ms (owner + i)) → AllByRecursion Passing (linked_asserts owner ns) ↔ PassAssertions p owner rest
   all_sources [] [] owner k up_y up_m = (λ q. tt, λ q. tt)
@@ -282,8 +283,7 @@ module _ (s : Script) (placement : Placement) (ys : List Layout) (ms : List Modu
         λ q. all_append Passing first others (one.1 q.0) (more.1 q.1),
       )
 
--- All assertions pass in a link, with some text of warnings, exactly where those that modules make pass in the whole
--- program.
+-- `check_asserts` returns a text of warnings if and only if all assertions of the modules pass in the whole program
 pub assertions_law : (s : Script) (placement : Placement) (ys : List Layout) (ms : List Module) (table : List (Result ℤ ValueFault)) → let q : linked.Program = linked.program_of ms in let l : Linkage = linkage_of s q placement in AreObjectsOfLayouts ys ms → AreExports l table → ((warnings : List ℕ) × (check_asserts l q.members (table_exports table) q.asserts ≡ Ok warnings)) ↔ PassAssertions (placed_program s placement ys) 0 ys
 assertions_law s placement ys ms table h exports =
     let q : linked.Program = linked.program_of ms in

@@ -1,4 +1,4 @@
--- What is needed for its own value has none: a derivation goes through all that is needed, and ends.
+-- An expression that is needed for its own value has none: a derivation visits each needed expression and is finite.
 use Rattle.std.proofs.lemmas.Grind.{common_steps}
 use Rattle.std.proofs.Common.{◌≡◌, ℕ, false, Option, Some, None, arith, List, [], ◌∷◌, refl, subst, sym}
 use Rattle.std.specs.Prelude.{ℤ, ⊤}
@@ -7,11 +7,11 @@ use Rattle.syntax65.specs.Trees as tree
 use Rattle.whole65.specs.Values.{Provider, by_module, by_script, by_nobody, Program, SymbolBinding, label_at, constant_at, import_of, operand_binding, Value, number, here, label, constant, exported, scripted, prefixed, joined, LocatedExpr, located_expr, NeedsNext, NeedsValueOf, next, following}
 use Rattle.whole65.specs.Laws.{CircularHasNoValue}
 
--- what is needed ends
+-- each chain of expressions that `x` needs is finite (accessibility by `NeedsNext`)
 data Ends (p : Program) : LocatedExpr → Type 0 where
   ends : {x : LocatedExpr} → ((y : LocatedExpr) → NeedsNext p x y → Ends p y) → Ends p x
 
--- what is needed next ends, by what an expression is and means
+-- the expressions that are needed next have this property, by the provider of an import, the binding of a name and the tree
 abbrev EndsBy : Program → Provider → List ℕ → Type 0
 EndsBy p (by_module provider) x = Ends p (located_expr provider (p.global_index provider) (name false (x ∷ [])))
 EndsBy p (by_script v) x = ⊤
@@ -52,7 +52,7 @@ value_ends p (scripted {owner = owner} {index = index} {e = e} {x = x} {v = v} m
 value_ends p (prefixed {owner = owner} {index = index} {e = e} d) = here_ends p owner index e (value_ends p d)
 value_ends p (joined {owner = owner} {index = index} {e = e} {f = f} c d q) = (here_ends p owner index e (value_ends p c), here_ends p owner index f (value_ends p d))
 
--- one step more
+-- append a step to a chain
 and_then : (p : Program) {x y z : LocatedExpr} → NeedsValueOf p x y → NeedsNext p y z → NeedsValueOf p x z
 and_then p (next s) t = following s (next t)
 and_then p (following s n) t = following s (and_then p n t)

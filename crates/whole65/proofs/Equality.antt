@@ -1,4 +1,4 @@
--- A link of the objects of sources gives the image of their whole program, and none where that has none.
+-- Linking the objects of sources gives files if and only if their whole program has an image, and these files are the image.
 use Rattle.std.proofs.lemmas.Grind.{common_steps}
 use Rattle.std.proofs.Common.{◌≡◌, ℕ, zero, suc, ◌<◌, false, List, [], ◌∷◌, length, get_or, slice_get, Some, Result, Ok, Err, refl, sym, ◌∙◌, ap, subst, arith}
 use Rattle.std.specs.Prelude.{ℤ, ◌↔◌}
@@ -32,9 +32,9 @@ use Rattle.whole65.proofs.Unresolved.{given_law, resolved_law}
 use Rattle.whole65.specs.Equality.{LinkEqualsWholeProgram, IsLinkedTo}
 use Rattle.whole65.specs.Programs.{placed_program}
 
--- ---- What exports come to, where each has a value.
+-- ---- The table of exports, if each export has a value.
 
--- a table in which each item has what it comes to
+-- a table with a result for each export, related by `R` to the export's index
 record HasTable (R : ℕ → Result ℤ ValueFault → Type 0) (es : List ModuleExport) : Type 0 where
   table : List (Result ℤ ValueFault)
   long : length table ≡ length es
@@ -74,8 +74,7 @@ module _ (s : Script) (placement : Placement) (ys : List Layout) (ms : List Modu
         ),
       )
 
--- Where all names that modules export have values in the whole program, a link has the table of exports that its
--- definition wants.
+-- if all exported names of the modules have values in the whole program, the linkage has a table of exports
 pub export_table_law : (s : Script) (placement : Placement) (ys : List Layout) (ms : List Module) → AreObjectsOfLayouts ys ms → HaveExportValues (placed_program s placement ys) 0 ys → (table : List (Result ℤ ValueFault)) × AreExports (linkage_of s (linked.program_of ms) placement) table
 export_table_law s placement ys ms h exported =
     let p : Program = whole.placed_program s placement ys in
@@ -85,9 +84,9 @@ export_table_law s placement ys ms h exported =
     let t = build (ExportEvaluatesTo l) es (λ i e at. comes s placement ys ms h i e at (all_get (λ (e : ModuleExport). HasExportValue p e.owner e.name) es i e have at)) in
     (t.table, record { long = t.long; each = t.each })
 
--- ---- A link of the objects of sources gives the image of their whole program, and none where that has none.
+-- ---- The two directions.
 
--- what modules say, one thing of all modules after the other
+-- the declarations of all modules, split into forced imports, exports and assertions
 said_parts : (p : Program) (owner : ℕ) (ys : List Layout) → SatisfiesAllDeclarations p owner ys ↔ (HaveForcedImports p ys × HaveExportValues p owner ys × PassAssertions p owner ys)
 said_parts p owner [] = (λ k. (tt, tt, tt), λ k. tt)
 said_parts p owner (y ∷ ys) = grind (arith, common_steps, (said_parts p (suc owner) ys))

@@ -1,4 +1,4 @@
--- The names that sources export and demand.
+-- Objects export the names that their sources export, and declare their forced imports and deferred assertions.
 use Rattle.std.proofs.Common.{arith, ◌≡◌, ℕ, Bool, List, [], ◌∷◌, ◌++◌, map, filter, Some, Ok, refl, sym, ◌∙◌, ap, subst}
 use Rattle.std.specs.Prelude.{⊤, is_some}
 use Rattle.std.specs.List.{AllByRecursion, flat_map}
@@ -32,9 +32,9 @@ use Rattle.whole65.specs.Sources.{AreObjectsOfLayouts, IsObjectOfLayout}
 use Rattle.syntax65.specs.Trees.{Tree}
 use Rattle.ast65.specs.declared.language.Statement.TheVariants.{Export as ExportNames, Global, ForceImport, Assert}
 
--- ---- What is said of names.
+-- ---- Declared exports.
 
--- an export has the form of the definition of its name
+-- an export has the form of its name's definition
 abbrev pub IsDefined : Symbols → Declaration → Type 0
 IsDefined z (ExportedSymbol n place f) = (j : ℕ) × (definition_index z (named 0 n) ≡ Some j) × (defined_form z j ≡ Ok f)
 IsDefined z (ForcedImport n) = ⊤
@@ -43,7 +43,8 @@ IsDefined z (LinkAssertion act place words f) = ⊤
 abbrev pub has_definition : Symbols → List ℕ → Bool
 has_definition z n = is_some (definition_index z (named 0 n))
 
--- Statements that export names, behind exports of other names, say those that are defined: each once, where it is first exported.
+-- `ss` are declarations of exports of `names` after exports of `before`: each name that is defined and not in `before` is
+-- exported once, at its first occurrence, with the form of its definition.
 pub record Says (z : Symbols) (before names : List (List ℕ)) (ss : List Declaration) : Type 0 where
   pub exported : with_new_names before (filter (has_definition z) names) ≡ before ++ exported_names ss
   pub are_defined : AllByRecursion (IsDefined z) ss
@@ -63,7 +64,7 @@ forced_says : (z : Symbols) (before ns : List (List ℕ)) → Says z before [] (
 forced_says z before [] = grind (arith, common_steps)
 forced_says z before (n ∷ ns) = grind (arith, common_steps, (forced_says z before ns))
 
--- what an assertion says: nothing, or that it waits
+-- an assertion is decided in the source and has no declaration, or is deferred to the link
 data IsDecided (act : Action) (place : SourceLocation) (words : List ℕ) (f : Form) (ss : List Declaration) : Type 0 where
   settled : [] ≡ ss → IsDecided act place words f ss
   waiting : LinkAssertion act place words f ∷ [] ≡ ss → IsDecided act place words f ss
@@ -104,7 +105,7 @@ source_exports y m h =
     ∙ exports_named c.origins (section_keys cs) (import_keys (table_of y).imports cs) (all_declarations cs)
     ∙ sym (said_all y cs c.found).exported
 
--- ---- Module by module.
+-- ---- Induction on the modules.
 
 names_exported : (owner : ℕ) (es : List Export) → map (λ (e : parts.ModuleExport). e.name) (map (linked.linked_export owner) es) ≡ map (λ (e : Export). e.name) es
 names_exported owner [] = refl
@@ -116,11 +117,11 @@ all_exports p [] (m ∷ ms) h = absurd h
 all_exports p (y ∷ ys) [] h = absurd h
 all_exports p (y ∷ ys) (m ∷ ms) h = grind (arith, common_steps, names_exported, source_exports, (all_exports (with_module p m) ys ms h.1))
 
--- The objects of sources export the names that the sources do, in the same order.
+-- the objects of sources export the names of the sources in the same order
 pub export_names_law : (ys : List Layout) (ms : List Module) → AreObjectsOfLayouts ys ms → export_names (linked.program_of ms) ≡ flat_map exports_of ys
 export_names_law ys ms h = all_exports no_program ys ms h
 
--- ---- What statements say of the names that they demand and of what they assert.
+-- ---- Forced imports and assertions in declarations.
 
 abbrev pub demanded_name : Declaration → List (List ℕ)
 demanded_name (ExportedSymbol n place f) = []
@@ -130,7 +131,7 @@ demanded_name (LinkAssertion act place words f) = []
 abbrev pub demanded_names : List Declaration → List (List ℕ)
 demanded_names ss = flat_map demanded_name ss
 
--- what waits for the linker has the form of the statement's assertion
+-- a deferred assertion has the form of the statement's expression
 abbrev pub IsAsserted : Symbols → LaidOutStatement → Declaration → Type 0
 IsAsserted z l (ExportedSymbol n place f) = ⊤
 IsAsserted z l (ForcedImport n) = ⊤
@@ -140,7 +141,7 @@ pub record Tells (z : Symbols) (l : LaidOutStatement) (ss : List Declaration) : 
   pub demanded : demanded_names ss ≡ forced_imports_by l.stated
   pub asserted : AllByRecursion (IsAsserted z l) ss
 
--- ---- Exports alone.
+-- ---- Statements that only export.
 
 abbrev IsExport : Declaration → Type 0
 IsExport (ExportedSymbol n place f) = ⊤
@@ -164,7 +165,7 @@ exports_alone no_name = tt
 exports_alone (left_out why more) = exports_alone more
 exports_alone (said_first j f new e form more) = (tt, exports_alone more)
 
--- ---- Statements.
+-- ---- One statement.
 
 of_forced : (z : Symbols) (l : LaidOutStatement) (ns : List (List ℕ)) → (demanded_names (map ForcedImport ns) ≡ ns) × AllByRecursion (IsAsserted z l) (map ForcedImport ns)
 of_forced z l [] = (refl, tt)
@@ -188,7 +189,7 @@ one_tells z names l ss h = go l.stated h
         by x1 = grind (arith, common_steps)
     go x h = exporting x refl (subst (AllByRecursion IsExport) (sym h) tt)
 
--- ---- All of a module.
+-- ---- All statements of a module.
 
 lines_demand : (z : Symbols) (names : List (List ℕ)) (ls : List LaidOutStatement) (cs : List Content) → AreStated z names ls cs → demanded_names (all_declarations cs) ≡ flat_map (λ l. forced_imports_by l.stated) ls
 lines_demand z names [] _ no_line = refl

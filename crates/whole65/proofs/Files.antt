@@ -1,4 +1,4 @@
--- The files of a link and those of the whole program.
+-- A link writes the files of the program's image if all fixups pass their checks, and exports have the same values in both.
 use Rattle.std.proofs.lemmas.Grind.{common_steps}
 use Rattle.std.proofs.Common.{◌≡◌, ℕ, zero, suc, ◌+◌, ◌<◌, List, [], ◌∷◌, length, slice_get, Option, Some, Result, Ok, Err, refl, ◌∙◌, ap, subst, arith, Bool, true, false, cond, sym, map}
 use Rattle.std.specs.Prelude.{ℤ, ◌↔◌, ◌==◌}
@@ -50,7 +50,7 @@ use Rattle.sources65.proofs.SoundForms.{all_append}
 use Rattle.whole65.proofs.Exports.{source_exports}
 use Rattle.whole65.specs.Programs.{placed_program}
 
--- ---- Exports that are evaluated once.
+-- ---- The table of exports.
 
 known_ok : (r s : Result ℤ ValueFault) (v : ℤ) → Known r s → r ≡ Ok v → s ≡ Ok v
 known_ok x s v h e = grind (arith, common_steps)
@@ -58,7 +58,7 @@ known_ok x s v h e = grind (arith, common_steps)
 import_covered : (few more : Exports) → ((x : ℕ) (u : ℤ) → few x ≡ Ok u → more x ≡ Ok u) → (g : Provider) (u : ℤ) → import_value few g ≡ Ok u → import_value more g ≡ Ok u
 import_covered few more h x u e = grind (arith, common_steps)
 
--- what is found in a list stands in it
+-- an index at which a list has an element is less than the length
 got_inside : {A : Type 0} (xs : List A) (x : ℕ) (a : A) → slice_get xs x ≡ Some a → x < length xs
 got_inside [] x a e = cc
 got_inside (y ∷ xs) zero a e = omega arith
@@ -101,13 +101,13 @@ module _ (l : Linkage) (table : List (Result ℤ ValueFault)) (h : AreExports l 
       ∙ ap (λ r. r >>= (λ y. or_none NoValue (value2 op a y))) w ∙ last in
       (n + m, whole)
 
--- Where each export is evaluated once, a form has the values that it has through some number of exports.
+-- a form has a value by the table of exports if and only if it has it through chains of some number of exports
 pub table_law : (l : Linkage) (table : List (Result ℤ ValueFault)) (owner : ℕ) (f : Form) (v : ℤ) → AreExports l table → (value_of_form l (table_exports table) owner f ≡ Ok v) ↔ linked_value l owner f v
 table_law l table owner f v h = (λ e. to_turns l table h owner f v e, λ k. from_turns l table h owner f v k)
 
 -- ---- Values of a segment that pass their checks.
 
--- a value that fits
+-- the result is a value that fits its width
 abbrev Fits : ValueFixup → Result ℤ ValueFault → Type 0
 Fits w r = (v : ℤ) × (r ≡ Ok v) × (fits_width w.width v ≡ true)
 
@@ -151,7 +151,8 @@ module _ (l : Linkage) (members : List LinkedModule) (table : List (Result ℤ V
       let value : linked_value l w.owner w.form v = (table_law l table w.owner w.form v h).0 found in
       (own, rest, (v, value, (fits, written w (value_of_form l exports w.owner w.form) v found fits)), back cells rest (others, refl), e)
 
--- What lies in a segment has bytes exactly where each value that waits there passes its check, and those that a link writes.
+-- The cells of a segment have these bytes if and only if each deferred value passes its check and these are the bytes that
+-- the link writes.
 pub checked_law : (l : Linkage) (members : List LinkedModule) (table : List (Result ℤ ValueFault)) (fill : ℕ) (cells : List Cell) (bytes : List ℕ) → AreExports l table → AreCells l fill cells bytes ↔ ((check_each (check_fixup l members (table_exports table)) (flat_map fixups_in cells) ≡ Ok tt) × (bytes ≡ flat_map (cell_bytes l (table_exports table) fill) cells))
 checked_law l members table fill cells bytes h = (there l members table fill h cells bytes, back l members table fill h cells bytes)
 
@@ -192,7 +193,7 @@ module _ (s : Script) (placement : Placement) (ys : List Layout) (ms : List Modu
 pub rows_law : LinkPreservesRows
 rows_law s placement ys ms table bytes h exports = all_rows s placement ys ms table bytes h exports s.rows
 
--- ---- Exports.
+-- ---- The values of exports.
 
 pub export_value_law : LinkPreservesExportValues
 export_value_law s placement ys ms table i e v h exports at =
@@ -207,7 +208,7 @@ export_value_law s placement ys ms table i e v h exports at =
       λ k. (let q = value.0 k in found.1 (q.0, sym (same q.0) ∙ q.1)),
     )
 
--- ---- Files rest on the bytes of a script's rows alone.
+-- ---- The files depend only on the bytes of the script's rows.
 
 same_pieces : (start k : ℕ) (bytes others : RowBytes) (rs : List SegmentRow) (ps : List RowPlacement) → AllByRecursion (λ r. bytes r ≡ others r) rs → area_pieces start bytes (loaded_in k rs ps) ≡ area_pieces start others (loaded_in k rs ps)
 same_pieces start k bytes others [] ps h = refl
@@ -229,8 +230,8 @@ all_itself : (bytes : RowBytes) (rs : List SegmentRow) → AllByRecursion (λ r.
 all_itself bytes [] = tt
 all_itself bytes (r ∷ rs) = (refl, all_itself bytes rs)
 
--- The rows of a placed program have bytes and make these files exactly where each value that waits in a link passes its
--- check, and the link makes them.
+-- The rows of a placed program have bytes and its areas give these files if and only if each fixup of a row passes its check
+-- in the link and the link writes these files.
 pub files_law : (output_name : List ℕ) (s : Script) (placement : Placement) (ys : List Layout) (ms : List Module) (table : List (Result ℤ ValueFault)) (files : List OutputFile) → let l : Linkage = linkage_of s (linked.program_of ms) placement in AreObjectsOfLayouts ys ms → AreExports l table → HasRowsAndFiles output_name s ys placement (placed_program s placement ys) files ↔ ((check_each (check_fixup l (linked.program_of ms).members (table_exports table)) (fixups_by_row s.rows (linked.program_of ms).segments) ≡ Ok tt) × AreFiles output_name s (linked.program_of ms) placement l (table_exports table) files)
 files_law output_name s placement ys ms table files h exports =
     let l : Linkage = linkage_of s (linked.program_of ms) placement in
@@ -239,7 +240,7 @@ files_law output_name s placement ys ms table files h exports =
       λ k. record { bytes = written; rows = (rows_law s placement ys ms table written h exports).1 (k.0, all_itself written s.rows); image = k.1 },
     )
 
--- ---- Exports.
+-- ---- Checks of exports.
 
 passes_each : {A : Type 0} (check : A → Result (Unit {0}) LinkFault) (xs : List A) → (check_each check xs ≡ Ok tt) ↔ AllByRecursion (λ x. check x ≡ Ok tt) xs
 passes_each check [] = (λ k. tt, λ k. refl)
@@ -252,7 +253,7 @@ all_either P Q (x ∷ xs) f =
     let more = all_either P Q xs (λ i z e. f (suc i) z e) in
     (λ k. (one.0 k.0, more.0 k.1), λ k. (one.1 k.0, more.1 k.1))
 
--- a value is there where the check passes
+-- the check passes if and only if the result is a value
 abbrev found_at : ModuleLocation → Result ℤ ValueFault → Result (Unit {0}) LinkFault
 found_at s r = located_value s r >>= (λ v. Ok tt)
 
@@ -281,6 +282,6 @@ module _ (p : Program) where
         λ k. all_append OfExport first rest (one.1 (subst (AllByRecursion (HasExportValue p owner)) (sym names) k.0)) (more.1 k.1),
       )
 
--- All exports pass in a link exactly where all names that modules export have values in the whole program.
+-- all exports pass their checks in a link if and only if all exported names of the modules have values in the whole program
 pub exports_law : (s : Script) (placement : Placement) (ys : List Layout) (ms : List Module) (table : List (Result ℤ ValueFault)) → let l : Linkage = linkage_of s (linked.program_of ms) placement in AreObjectsOfLayouts ys ms → AreExports l table → (check_each (check_export l (linked.program_of ms).members (table_exports table)) (linked.program_of ms).exports ≡ Ok tt) ↔ HaveExportValues (placed_program s placement ys) 0 ys
 exports_law s placement ys ms table h exports = grind (arith, common_steps, passes, passes_each, all_either, there, value_there, export_value_law, all_modules, exports_are)

@@ -1,4 +1,4 @@
--- What holds of the names that an object imports, and of those in its contents.
+-- A link leaves no name unresolved if and only if the whole program provides the imports of the script and of all objects.
 use Rattle.std.proofs.Common.{◌≡◌, ◌≢◌, ℕ, ◌+◌, Bool, true, false, not, cond, List, [], ◌∷◌, ◌++◌, length, map, filter, Option, Some, None, Ok, is_some, refl, sym, ◌∙◌, ap, subst, arith, suc, nat_eq}
 use Rattle.std.specs.Prelude.{◌↔◌, ◌||◌}
 use Rattle.std.specs.List.{AllByRecursion, flat_map, list_any, position_from}
@@ -48,7 +48,7 @@ use Rattle.whole65.proofs.Positions.{itself, all_parts}
 use Rattle.whole65.proofs.Sources.{contents_of}
 use Rattle.whole65.specs.Modules.{forced_imports_by, forced_imports_of, table_of}
 
--- ---- A script's names are those of what it defines.
+-- ---- The names of a script's definitions.
 
 abbrev names_of : List ScriptSymbol → List (List ℕ)
 names_of ds = map (λ (d : ScriptSymbol). d.name) ds
@@ -67,9 +67,9 @@ of_row r q = grind (arith, common_steps)
 script_named : (s : Script) (needs : List SegmentNeed) (q : Placement) → place_of s needs ≡ Ok q → names_of (script_definitions s q) ≡ script_names s
 script_named s needs q h = grind (arith, common_steps, all_placed, zip_names, of_area, of_row, map-append)
 
--- ---- A name is given where somebody gives it.
+-- ---- A name is provided if and only if it is among the defined names.
 
--- so says the test, and so the provider
+-- the test for a defined name is true if and only if the name has a provider
 abbrev Knows : Bool → Provider → Type 0
 Knows b g = (g ≢ Nobody) ↔ (b ≡ true)
 
@@ -124,9 +124,9 @@ module _ (s : Script) (placement : Placement) (ys : List Layout) (ms : List Modu
       ∙ ap (λ b. b || is_among (names_of weak) name) (sym (list_any-append (λ n. bytes_eq n name) (script_names s) (export_names q))) in
       (λ k. sym test ∙ knows.0 (agree.0 k), λ k. agree.1 (knows.1 (test ∙ k)))
 
--- ---- What has to be given, each once.
+-- ---- References without repetitions.
 
--- what holds of all names holds of one that is among them
+-- a predicate that all names satisfy is satisfied by each name among them
 pub of_among : (P : List ℕ → Type 0) (names : List (List ℕ)) (n : List ℕ) → AllByRecursion P names → is_among names n ≡ true → P n
 of_among P [] n h e = cc
 of_among P (k ∷ names) n h e = grind (arith, common_steps, same_bytes, bytes_swap, (of_among P names n h.1))
@@ -144,7 +144,7 @@ none_left : (t : List ℕ → Bool) (names : List (List ℕ)) → (filter (λ n.
 none_left t [] = (λ k. tt, λ k. refl)
 none_left t (n ∷ names) = grind (arith, common_steps, (none_left t names))
 
--- the imports of members are those of their objects
+-- linking further modules appends the imports of their objects
 imports_after : (q : Program) (ms : List Module) → flat_map (λ (m : LinkedModule). m.imports) (with_modules q ms).members ≡ flat_map (λ (m : LinkedModule). m.imports) q.members ++ flat_map (λ (m : Module). m.object.imports) ms
 imports_after q [] = sym (append-nil (flat_map (λ (m : LinkedModule). m.imports) q.members))
 imports_after q (m ∷ ms) =
@@ -152,7 +152,7 @@ imports_after q (m ∷ ms) =
     ∙ ap (λ ns. ns ++ flat_map (λ (m : Module). m.object.imports) ms) (flat_map-append (λ (m : LinkedModule). m.imports) q.members (member q m ∷ []) ∙ ap (λ ns. flat_map (λ (m : LinkedModule). m.imports) q.members ++ ns) (append-nil m.object.imports))
     ∙ append_assoc (flat_map (λ (m : LinkedModule). m.imports) q.members) m.object.imports (flat_map (λ (m : Module). m.object.imports) ms)
 
--- A link leaves no name open where the imports of the script and of all objects are given in the whole program.
+-- a link leaves no name unresolved if and only if the whole program provides the imports of the script and of all objects
 pub none_open : (s : Script) (placement : Placement) (ys : List Layout) (ms : List Module) → AreObjectsOfLayouts ys ms → place_of s (needs_of ys) ≡ Ok placement → (unresolved_names s (program_of ms) ≡ []) ↔ (AllByRecursion (IsProvided (whole.placed_program s placement ys)) (symbol_imports s.symbols) × AllByRecursion (IsProvided (whole.placed_program s placement ys)) (flat_map (λ (m : Module). m.object.imports) ms))
 none_open s placement ys ms h placed =
     let q : Program = program_of ms in
@@ -187,7 +187,7 @@ key_for (m ∷ names) n = go (bytes_eq m n) refl (key_for names n)
     go false e (at_key k q called) = at_key (suc k) (after_front (λ k. bytes_eq k n) m names e ∙ ap (option_map suc) q) called
     go false e (no_key q none) = no_key (after_front (λ k. bytes_eq k n) m names e ∙ ap (option_map suc) q) (ap (λ b. b || is_among names n) e ∙ none)
 
--- ---- A module imports the names that it forces.
+-- ---- A module's forced imports are among its imports.
 
 any_forced : (n : List ℕ) (ls : List LaidOutStatement) → list_any (λ k. bytes_eq n k) (flat_map (λ l. forced_imports_by l.stated) ls) ≡ true → list_any (λ k. bytes_eq n k) (flat_map (λ l. imports_of l.stated) ls) ≡ true
 any_forced n [] e = e
@@ -204,7 +204,7 @@ among_swapped n (m ∷ names) = ap (λ b. b || is_among names n) (bytes_swap m n
 forced_among : (y : Layout) → AllByRecursion (λ n. is_among (table_of y).imports n ≡ true) (forced_imports_of y)
 forced_among y = grind (arith, common_steps, each_name, among_swapped, any_new, any_forced)
 
--- ---- What holds of the names of keys.
+-- ---- A predicate on the names of keys.
 
 module _ (P : List ℕ → Type 0) (names : List (List ℕ)) where
   abbrev pub OfKey : ℕ → Type 0
@@ -240,7 +240,7 @@ module _ (P : List ℕ → Type 0) (names : List (List ℕ)) where
   in_said [] h = tt
   in_said (c ∷ cs) h = grind (arith, common_steps, (all_parts OfKey (content_imports names c) (flat_map (content_imports names) cs) h), (all_parts OfKey (flat_map part_imports c.parts) (flat_map (declaration_imports names) c.said)), (all_apart (declaration_imports names) c.said), (in_said cs))
 
-  -- keys that come once, and all of them
+  -- if the keys without repetitions satisfy the predicate, all keys do
   all_keys : (ks : List ℕ) → AllByRecursion OfKey (distinct_keys [] ks) → AllByRecursion OfKey ks
   all_keys ks h = each_among OfKey ks (λ k e. one_of OfKey (distinct_keys [] ks) k h (any_once (nat_eq k) [] ks ∙ e))
 
@@ -252,7 +252,7 @@ module _ (P : List ℕ → Type 0) (names : List (List ℕ)) where
 
 -- ---- Objects.
 
--- what holds of all imports of an object holds of the names that the module forces
+-- a predicate that all imports of an object satisfy is satisfied by the forced imports of the module
 pub forced_hold : (P : List ℕ → Type 0) (y : Layout) (m : Module) → IsObjectOfLayout y m → AllByRecursion P m.object.imports → AllByRecursion P (forced_imports_of y)
 forced_hold P y m h all =
     let c = contents_of y m h in
@@ -263,7 +263,7 @@ forced_hold P y m h all =
     subst (AllByRecursion P) same
     (demands P names (all_declarations c.contents) told (subst (AllByRecursion (λ n. is_among names n ≡ true)) (sym same) (forced_among y)))
 
--- what holds of the imports of all contents holds of those of the object
+-- a predicate that the imports of all contents satisfy is satisfied by the imports of the object
 pub imports_hold : (P : List ℕ → Type 0) (y : Layout) (m : Module) → (h : IsObjectOfLayout y m) → AllByRecursion (λ (c : Content). AllByRecursion (OfPart P (table_of y).imports) c.parts) (contents_of y m h).contents → AllByRecursion (OfSaid P (table_of y).imports) (all_declarations (contents_of y m h).contents) → AllByRecursion P m.object.imports
 imports_hold P y m h parts told =
     let c = contents_of y m h in

@@ -1,4 +1,4 @@
--- What linking knows of the modules of a placed program, and the bytes of what they put into sections.
+-- The linker's view of the modules of a placed program, and the bytes of their sections.
 use Rattle.object65.specs.declared.object.Fragment.TheVariants as fragment
 use Rattle.std.specs.Prelude.{◌≡◌, ℕ, ℤ, List, [], ◌∷◌, ◌++◌, replicate, Result, Ok, suc, Option, Some, None, if◌then◌else◌, ◌+◌, pos, nat_lt, length, slice_get, ◌<◌, nat_eq, true, ⊤, ◌↔◌}
 use Rattle.object65.specs.Form.{Form}
@@ -28,23 +28,23 @@ use Rattle.link65.specs.declared.parts.Provider.TheVariants.{Nobody}
 use Rattle.link65.specs.declared.parts.ValueFault.{ValueFault}
 use Rattle.link65.specs.declared.parts.ValueFault.TheVariants.{NoValue}
 
--- ---- The bytes of what modules put into their sections, where forms have values.
+-- ---- The bytes of sections, by the values of forms.
 
--- which values forms have
+-- a relation of forms and their values
 abbrev pub Valuing : Type 1
 Valuing = Form → ℤ → Type 0
 
--- that of an object, where its sections have these bases and its imports come to this through so many exports
+-- the values by these bases of sections and by imports resolved through chains of some number of exports
 abbrev pub valued_by : {E : Type 0} → E → (ℕ → ℤ) → (ℕ → ℕ → Result ℤ E) → Valuing
 valued_by none bases values f v = (export_depth : ℕ) × (value_in none bases (values export_depth) f ≡ Ok v)
 
--- the bytes of a part of a module's section, by the fill value of its row
+-- the bytes of a part of a module's section, by the fill value of the row
 abbrev pub ArePart : Valuing → ℕ → Part → List ℕ → Type 0
 ArePart Has fill (Known own) bytes = bytes ≡ own
 ArePart Has fill (ReservedBytes n) bytes = bytes ≡ replicate n fill
 ArePart Has fill (LinkTimeValue width place f) bytes = (v : ℤ) × Has f v × EncodesValue width v bytes
 
--- of parts one behind the other
+-- the bytes of consecutive parts
 abbrev pub AreParts : Valuing → ℕ → List Part → List ℕ → Type 0
 AreParts Has fill [] bytes = bytes ≡ []
 AreParts Has fill (p ∷ ps) bytes =
@@ -61,24 +61,24 @@ AreFragments Has fill [] bytes = bytes ≡ []
 AreFragments Has fill (f ∷ fs) bytes =
     (own : List ℕ) × (rest : List ℕ) × IsFragment Has fill f own × AreFragments Has fill fs rest × (bytes ≡ own ++ rest)
 
--- ---- One segment of a link, as the sections of its name make it grow.
+-- ---- The growth of one segment of a link.
 
 abbrev pub or_empty : List ℕ → Option Segment → Segment
 or_empty name None = empty_segment name
 or_empty name (Some g) = g
 
--- the segment of a name behind the sections of a module
+-- the segment `name` after the sections of a module are appended
 abbrev pub after_sections : ℕ → List ℕ → Option Segment → List Section → Option Segment
 after_sections owner name g [] = g
 after_sections owner name g (s ∷ ss) =
     after_sections owner name (if bytes_eq s.name name then Some (segment_with_section owner (or_empty s.name g) s) else g) ss
 
--- after modules, the first of which has the index `owner`
+-- the segment after the sections of these modules; the first module has the index `owner`
 abbrev pub after_modules : ℕ → List ℕ → Option Segment → List Module → Option Segment
 after_modules owner name g [] = g
 after_modules owner name g (m ∷ ms) = after_modules (suc owner) name (after_sections owner name g m.object.sections) ms
 
--- ---- What linking knows of the modules of a placed program.
+-- ---- The linker's view of a placed program.
 
 abbrev pub no_symbols : Symbols
 no_symbols = record { definitions = []; scopes = []; imports = []; zero_page = [] }
@@ -98,12 +98,12 @@ abbrev pub or_first : Option ℕ → ℕ
 or_first None = 0
 or_first (Some index) = index
 
--- the index of the statement that makes a definition
+-- the index of the statement that contains a definition
 abbrev pub definer_in : Option Layout → ℕ → ℕ
 definer_in None definition = 0
 definer_in (Some y) definition = or_first (slice_get (definers_from 0 y.laid) definition)
 
--- where a module's section begins; a segment of which it has none is at its end there
+-- the position at which the section of a module begins; without a section, the end of the segment
 abbrev pub begin_in : List Layout → ℕ → Layout → List ℕ → ℕ
 begin_in ys owner y name = if has_section y name then section_start ys name owner else end_of 0 (segment_items ys name)
 
@@ -114,7 +114,7 @@ base_in s p ys owner g (Some y) =
     then wrap_signed (pos (run_of s.rows p.rows (segment_name_at y g) + begin_in ys owner y (segment_name_at y g)))
     else pos 0
 
--- by what imports come to
+-- the linker's view, by the values of imports
 abbrev pub objects_of : {E : Type 0} → E → (ℕ → ℕ → ℕ → Result ℤ E) → Script → Placement → List Layout → LinkerView E
 objects_of none imports s p ys = record {
   no_value_error = none;
@@ -125,26 +125,24 @@ objects_of none imports s p ys = record {
   imports = imports;
 }
 
--- ---- Forms in the contents of a module, and what linking knows of them.
-
--- ---- What imports come to.
+-- ---- The values of imports.
 
 abbrev pub provider_named : Script → Placement → Program → Option (List ℕ) → Provider
 provider_named s placement q None = Nobody
 provider_named s placement q (Some name) = provider_of (script_definitions s placement) q.exports (weak_symbols s.symbols) name
 
--- an import of a module has the value of the export of its name, through so many exports
+-- the value of an import of a module, through chains of at most `export_depth` exports
 abbrev pub imports_linked : Script → Placement → List Layout → List Module → ℕ → ℕ → ℕ → Result ℤ ValueFault
 imports_linked s placement ys ms export_depth owner k =
     import_value (exports_to_depth (linkage_of s (program_of ms) placement) export_depth) (provider_named s placement (program_of ms) (slice_get (symbols_at (slice_get ys owner)).imports k))
 
--- what linking knows of the modules of sources
+-- the linker's view of the modules of sources
 abbrev pub linked_objects : Script → Placement → List Layout → List Module → LinkerView ValueFault
 linked_objects s placement ys ms = objects_of NoValue (imports_linked s placement ys ms) s placement ys
 
 -- ---- Keys of forms.
 
--- the sections and the imports of a form have numbers in the object
+-- the sections and imports of a form have numbers in the object
 pub record IsKeyed (sections imports : List ℕ) (count : ℕ) (f : Form) : Type 0 where
   pub own_sections : AllByRecursion (λ g. list_any (nat_eq g) sections ≡ true) (sections_in f)
   pub own_imports : AllByRecursion (λ k. (list_any (nat_eq k) imports ≡ true) × (k < count)) (imports_in f)
@@ -163,9 +161,9 @@ pub record IsKeyedContent (sections imports : List ℕ) (count : ℕ) (c : Conte
   pub parts : AllByRecursion (IsKeyedPart sections imports count) c.parts
   pub said : AllByRecursion (IsKeyedSaid sections imports count) c.said
 
--- ---- The bytes of what lies in a segment of linked modules, where forms have values.
+-- ---- The bytes of a segment's cells, by the values of forms.
 
--- the value of a form of a linked module, through some number of exports
+-- the value of a form of a linked module, through chains of some number of exports
 abbrev pub linked_value : Linkage → ℕ → Valuing
 linked_value l owner =
     valued_by NoValue (base_of (slice_get l.modules owner)) (λ export_depth j. import_value (exports_to_depth l export_depth) (provider_at (slice_get l.modules owner) j))
@@ -180,14 +178,14 @@ AreCells l fill [] bytes = bytes ≡ []
 AreCells l fill (c ∷ cs) bytes =
     (own : List ℕ) × (rest : List ℕ) × IsCell l fill c own × AreCells l fill cs rest × (bytes ≡ own ++ rest)
 
--- a form in a part of a module has the value that the object's form has in a link
+-- the form of a deferred part has the same values in the module and, renumbered, in the link
 abbrev pub IsValuedIn : {E : Type 0} → LinkerView E → Linkage → ℕ → (sections imports : List ℕ) → Part → Type 0
 IsValuedIn o l owner sections imports (Known own) = ⊤
 IsValuedIn o l owner sections imports (ReservedBytes n) = ⊤
 IsValuedIn o l owner sections imports (LinkTimeValue width place f) =
     (v : ℤ) → HasValue o owner f v ↔ linked_value l owner (renumbered_form sections imports f) v
 
--- what lies in a segment, if there is one
+-- the cells of a segment, if there is one
 abbrev pub cells_or : Option Segment → List Cell
 cells_or None = []
 cells_or (Some g) = g.cells

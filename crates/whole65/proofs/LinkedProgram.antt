@@ -1,4 +1,4 @@
--- Modules are linked as the program is placed.
+-- The linker's view of the modules agrees with the placed program.
 use Rattle.std.proofs.lemmas.Grind.{common_steps}
 use Rattle.std.proofs.Common.{◌≡◌, ℕ, zero, suc, ◌+◌, List, [], ◌∷◌, ◌++◌, map, slice_get, Option, Some, None, Result, Ok, Err, refl, sym, ◌∙◌, ap, arith, ◌≢◌, ◌<◌, Bool, true, false, cond, take, subst}
 use Rattle.std.specs.List.{flat_map, AllByRecursion, list_any}
@@ -30,9 +30,9 @@ use Rattle.script65.specs.declared.placement.Placement.{Placement}
 use Rattle.script65.specs.declared.script.Script.{Script}
 use Rattle.whole65.specs.Programs.{laid_out_statement_at, binding_at, statement_address, placed_program}
 
--- ---- The statements that make definitions.
+-- ---- The statements that contain definitions.
 
--- the definition of a number and the statement that makes it
+-- the definition with this number and its statement
 pub record Made (i : ℕ) (ls : List LaidOutStatement) (d : ℕ) : Type 0 where
   pub index : ℕ
   pub laid : LaidOutStatement
@@ -93,7 +93,7 @@ look i (l ∷ ls) d = go (key_defined l.context l.stated) refl d (λ e. look (su
         let one : definitions_of l ≡ x ∷ [] = ap (λ z. definition_with z (value_defined l.stated) l.context l.size) e in
         later d (suc d) (ap (λ xs. slice_get (map (λ z. i) xs ++ definers_from (suc i) ls) (suc d)) one) (ap (λ xs. slice_get (xs ++ flat_map definitions_of ls) (suc d)) one) (next d)
 
--- ---- What names mean.
+-- ---- The bindings of names.
 
 abbrev pub shown_by : Option Layout → Result names.Binding AsmFault → Option SymbolBinding
 shown_by r (Err e) = None
@@ -112,7 +112,7 @@ same_meaning y x = grind (arith, common_steps, same_definition, look, same_impor
 pub none_shown : (r : Result names.Binding AsmFault) → None ≡ shown_by None r
 none_shown x = grind (arith, common_steps)
 
--- a definition stands where its statement does
+-- a definition has the context of its statement
 pub same_context : (y : Layout) (d : ℕ) (x : Definition) → slice_get (table_of y).definitions d ≡ Some x → context_at y (definer_in (Some y) d) ≡ x.context
 same_context y d x e = go (look 0 y.laid d)
   where
@@ -120,7 +120,7 @@ same_context y d x e = go (look 0 y.laid d)
     go (missing m) = let none : Some x ≡ None = sym e ∙ m.defined in absurd cc
     go (made m) = grind (arith, common_steps)
 
--- ---- What asks for no section places nothing.
+-- ---- In a segment without a section, all statements are empty.
 
 abbrev IsQuiet : LaidOutStatement → Type 0
 IsQuiet l = needs_section l.stated ≡ false → l.length ≡ 0
@@ -132,7 +132,7 @@ pub quiet : {y : Layout} → HasNoLineErrors y → AllByRecursion IsQuiet y.laid
 quiet no_statement = tt
 quiet (following y place x d none) = grind (arith, common_steps, (quiet d), all_more, places_nothing)
 
--- none of the module's statements there asks
+-- a statement in the segment `name` needs no section
 abbrev AsksNot : Layout → List ℕ → LaidOutStatement → Type 0
 AsksNot y name l = is_in_segment y name l ≡ true → needs_section l.stated ≡ false
 
@@ -144,13 +144,13 @@ quiet_lines : (position owner : ℕ) (y : Layout) (g : ℕ) (before ls : List La
 quiet_lines position owner y g before [] q a = refl
 quiet_lines position owner y g before (l ∷ ls) q a = grind (arith, common_steps, itself, (λ (z : ℕ). quiet_lines z owner y g (before ++ l ∷ []) ls q.1 a.1))
 
--- a statement there has the offset 0
+-- if the module has no section for the segment, the statement's offset is 0
 pub no_offset : (y : Layout) (index : ℕ) (l : LaidOutStatement) → HasNoLineErrors y → slice_get y.laid index ≡ Some l → has_section y (segment_name_at y l.context.segment) ≡ false → l.context.offset ≡ 0
 no_offset y index l d there asked =
     (placed 0 d).offsets index l there
     ∙ quiet_lines 0 0 y l.context.segment [] (take index y.laid) (all_front IsQuiet y.laid index (quiet d)) (all_front (AsksNot y (segment_name_at y l.context.segment)) y.laid index (none_asks y (segment_name_at y l.context.segment) y.laid asked))
 
--- ---- No item of the segment's list is such a statement.
+-- ---- If the module has no section for a segment, the segment's list contains no statement of the module.
 
 all_absent : (owner index : ℕ) (xs : List SegmentItem) → IsAbsent owner index xs → preceding_items owner index xs ≡ xs
 all_absent owner index [] h = refl
@@ -180,7 +180,7 @@ absent_from first (suc count) owner index (z ∷ ys) y name o e h =
     let next : owner ≡ suc first + count = omega (arith, o) in
     both_absent owner index (module_items first z name) (segment_items_from (suc first) ys name) (other_part first owner index other z name) (absent_from (suc first) count owner index ys y name next e h)
 
--- its position is the end of the list
+-- the position of such a statement is the end of the list
 pub at_end : (ys : List Layout) (owner index : ℕ) (y : Layout) (name : List ℕ) → slice_get ys owner ≡ Some y → has_section y name ≡ false → end_of 0 (preceding_items owner index (segment_items ys name)) ≡ end_of 0 (segment_items ys name)
 at_end ys owner index y name e h =
     ap (end_of 0) (all_absent owner index (segment_items ys name) (absent_from 0 owner owner index ys y name (omega arith) e h))
@@ -198,7 +198,7 @@ context_by x1 d x e = grind (arith, common_steps, same_context)
 
 -- ---- Addresses.
 
--- a sum of natural numbers, wrapped at any point
+-- wrapping a partial sum first doesn't change the wrapped sum
 moved : (run begin offset : ℕ) → wrap_signed (pos (run + (begin + offset))) ≡ wrap_signed (wrap_signed (pos (run + begin)) +ℤ pos offset)
 moved run begin offset = grind (arith, common_steps, ints, int_wrap-add_left)
 
@@ -222,7 +222,7 @@ module _ (s : Script) (p : Placement) (ys : List Layout) (laid_out : AllByRecurs
   of_module : (owner index : ℕ) (r : Option Layout) → slice_get ys owner ≡ r → statement_address s p ys owner index r (laid_out_statement_at r index) ≡ wrap_signed (base_in s p ys owner (context_in r index).segment r +ℤ pos (context_in r index).offset)
   of_module owner index x e = grind (arith, common_steps, zero_wraps, of_line)
 
--- The modules of a placed program are linked as that program: names mean the same, and statements have the addresses that
--- their sections' bases and their offsets make, for all that imports come to as their providers say.
+-- The linker's view agrees with the placed program: names have the same bindings, and the address of a statement is the base
+-- of its section plus its offset. The premise is that imports have the values of their providers.
 pub linked_law : (E : Type 0) → (none : E) (imports : ℕ → ℕ → ℕ → Result ℤ E) (s : Script) (placement : Placement) (ys : List Layout) → AllByRecursion HasNoLineErrors ys → let p : Program = placed_program s placement ys in let o : LinkerView E = objects_of none imports s placement ys in ((owner k : ℕ) → ImportHasValue p o owner k (slice_get (o.symbols owner).imports k)) → IsLinkerView p o
 linked_law x none imports s p ys laid_out given = grind (arith, common_steps, means_by, shown_is, symbols_at, context_in, context_by, of_module)

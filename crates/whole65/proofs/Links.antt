@@ -1,4 +1,4 @@
--- What a link comes to that gives files.
+-- The conditions under which a link gives files, and the layouts and names that sources and links share.
 use Rattle.std.proofs.lemmas.Grind.{common_steps}
 use Rattle.std.proofs.Common.{arith, ◌≡◌, ℕ, List, [], ◌∷◌, ◌++◌, Result, Ok, Err, refl, sym, subst, Option, None}
 use Rattle.std.specs.Prelude.{ℤ, ◌↔◌}
@@ -39,11 +39,10 @@ use Rattle.std.specs.List.{AllByRecursion}
 use Rattle.whole65.specs.Whole.{provided_names}
 use Rattle.whole65.specs.Sources.{AreObjectsOfLayouts}
 
--- ---- One thing first, and then another.
-
 -- ---- A link that gives files.
 
--- no name is given twice, none is left open, rows are placed, exports come to a table, all checks pass, and the files are made
+-- No name is provided twice, none is unresolved, the rows are placed, the exports have a table, all checks pass, and these
+-- are the files.
 pub record HasLink (output_name : List ℕ) (s : Script) (q : Program) (files : List OutputFile) : Type 0 where
   pub no_repetition : check_unique_names s q ≡ Ok tt
   pub none : unresolved_names s q ≡ []
@@ -68,11 +67,11 @@ module _ (output_name : List ℕ) (s : Script) (q : Program) (files : List Outpu
   pub link_by : (h : HasLink output_name s q files) → AndThen (check_unique_names s q) (λ u. IsProgramLink output_name s q) (Ok (linked_by h))
   link_by h = grind (arith, common_steps)
 
-  -- and such a link has all of this
+  -- conversely, a link that gives these files satisfies all of these conditions
   pub link_has : (linked : Linked) → AndThen (check_unique_names s q) (λ u. IsProgramLink output_name s q) (Ok linked) → linked.files ≡ files → HasLink output_name s q files
   link_has linked link same = grind (arith, common_steps)
 
--- ---- A source lays its statements one behind the other, none with a fault at its line.
+-- ---- A source is laid out without errors at its lines.
 
 one : (y z : Layout) (place : SourceLocation) (x : Statement) → HasNoLineErrors y → IsLaidOut y place x (Ok z) → HasNoLineErrors z
 one y z place x d h = by (line_fault (symbols_of y.laid) y.cursor x) refl h
@@ -118,13 +117,13 @@ opened : (m : Files) (job : Job) (o : Result expand.State ExpandFault) (r : Reac
 opened m job (Err e) r h = subst (λ (k : ReachedState Layout). HasNoLineErrors k.state) (sym h) no_statement
 opened m job (Ok s) r (q, defined, h) = followed m s (no_line job.source) job.defines q r defined h
 
--- what a source lays, it lays so: statement by statement, none with a fault at its line
+-- the layout that a source reaches has no line errors
 pub laid_out_law : (m : Files) (job : Job) (r : ReachedState Layout) → AreLaidOut m job r → HasNoLineErrors r.state
 laid_out_law m job r h = opened m job (first_state_in m job.source job.include) r h
 
--- ---- Names that are given, and imports that have values.
+-- ---- Names that are provided twice, and imports that have values.
 
--- A form that has a value has one of each of its imports.
+-- if a form has a value, so does each of its imports
 pub valued_imports_law : (E : Type 0) → (none : E) (bases : ℕ → ℤ) (values : ℕ → Result ℤ E) (f : Form) (v : ℤ) → value_in none bases values f ≡ Ok v → AllByRecursion (λ k. (w : ℤ) × (values k ≡ Ok w)) (imports_in f)
 valued_imports_law E none bases values (lit n) v e = tt
 valued_imports_law E none bases values (sec g a) v e = tt
@@ -135,6 +134,6 @@ valued_imports_law E none bases values (binary op f g) v e = grind (arith, commo
 pub none_again : (r : Option (List ℕ)) → (none_duplicate r ≡ Ok tt) ↔ (r ≡ None)
 none_again x = grind (arith, common_steps)
 
--- A name is given twice in a link exactly where it is in the whole program.
+-- a link finds no name that is provided twice if and only if there is none in the whole program
 pub names_law : (s : Script) (ys : List Layout) (ms : List Module) → AreObjectsOfLayouts ys ms → (check_unique_names s (program_of ms) ≡ Ok tt) ↔ (first_duplicate [] (provided_names s ys) ≡ None)
 names_law s ys ms h = grind (arith, common_steps, export_names_law, none_again)

@@ -1,4 +1,4 @@
--- What lies in a segment, and what an object's section puts there.
+-- A module's statements in a segment have the bytes of the cells that its section appends to the segment.
 use Rattle.std.proofs.lemmas.Grind.{common_steps}
 use Rattle.std.proofs.Common.{◌≡◌, ℕ, zero, suc, List, [], ◌∷◌, ◌++◌, map, refl, sym, ◌∙◌, ap, subst, ◌+◌, true, filter, Result, Ok, arith}
 use Rattle.std.specs.Prelude.{◌↔◌, replicate, ℤ, not, Some, slice_get}
@@ -28,7 +28,7 @@ use Rattle.whole65.specs.Segments.{largest_multiple, module_statements_after, st
 use Rattle.whole65.specs.Contents.{EncodesSegmentItems}
 use Rattle.whole65.specs.Values.{Program}
 
--- ---- What lies in a segment, and the fragments that were put there.
+-- ---- Cells and the fragments that they come from.
 
 module _ (l : Linkage) (fill : ℕ) where
   abbrev pub BothCells : List Cell → List Cell → List ℕ → Type 0
@@ -64,14 +64,13 @@ module _ (l : Linkage) (fill : ℕ) where
   of_fragments owner [] bytes = (λ h. h, λ h. h)
   of_fragments owner (f ∷ fs) bytes = grind (arith, common_steps, cells_joined, of_fragment, cells_split, (of_fragments owner fs))
 
--- What a module's section puts into its segment has the bytes of the section's fragments.
+-- the fragments of a section have the bytes of their cells
 pub cells_law : (l : Linkage) (fill owner : ℕ) (fs : List Fragment) (bytes : List ℕ) → AreFragments (linked_value l owner) fill fs bytes ↔ AreCells l fill (flat_map (fragment_cells owner) fs) bytes
 cells_law l fill owner fs bytes = of_fragments l fill owner fs bytes
 
--- ---- Fragments and the parts of which they are joined.
+-- ---- Fragments and the parts that they join.
 
--- The value of a form whose sections and imports have the numbers of an object is that of the form by those numbers' bases and
--- values.
+-- the value of a renumbered form is the value of the form, with bases and values looked up by the new numbers
 pub number_law : (E : Type 0) → (none : E) (bases : ℕ → ℤ) (values : ℕ → Result ℤ E) (sections imports : List ℕ) (f : Form) → value_in none bases values (renumbered_form sections imports f) ≡ value_in none (λ g. bases (number_of sections g)) (λ k. values (number_of imports k)) f
 number_law E none bases values ss is (lit v) = refl
 number_law E none bases values ss is (sec g a) = refl
@@ -80,7 +79,7 @@ number_law E none bases values ss is (prefix op f) = ap (λ r. r >>= (λ a. Ok (
 number_law E none bases values ss is (binary op f g) = grind (arith, common_steps, (number_law E none bases values ss is f), (number_law E none bases values ss is g))
 
 module _ (Has : Valuing) (fill : ℕ) where
-  -- ---- Without numbers.
+  -- ---- Parts and their fragments.
   same_part : (origins : SourceLocation → Origin) (ss is : List ℕ) (p : Part) (bytes : List ℕ) → ArePart (λ f v. Has (renumbered_form ss is f) v) fill p bytes ↔ IsFragment Has fill (fragment_of origins ss is p) bytes
   same_part origins ss is x bytes = grind (arith, common_steps)
 
@@ -88,7 +87,7 @@ module _ (Has : Valuing) (fill : ℕ) where
   same_parts origins ss is [] bytes = (λ h. h, λ h. h)
   same_parts origins ss is (p ∷ ps) bytes = grind (arith, common_steps, (same_parts origins ss is ps))
 
-  -- ---- Without the empty ones.
+  -- ---- Without empty fragments.
   no_bytes : (f : Fragment) → is_empty f ≡ true → (IsFragment Has fill f []) × ((bytes : List ℕ) → IsFragment Has fill f bytes → bytes ≡ [])
   no_bytes x e = grind (arith, common_steps)
 
@@ -99,7 +98,7 @@ module _ (Has : Valuing) (fill : ℕ) where
   all_kept [] bytes = (λ h. h, λ h. h)
   all_kept (f ∷ fs) bytes = grind (arith, common_steps, (all_kept fs), no_bytes)
 
-  -- ---- Joined.
+  -- ---- Joined fragments.
   more_fill : (m n : ℕ) → replicate (m + n) fill ≡ replicate m fill ++ replicate n fill
   more_fill zero n = (let same : zero + n ≡ n = omega arith in ap (λ k. replicate k fill) same)
   more_fill (suc m) n = (let same : suc m + n ≡ suc (m + n) = omega arith in ap (λ k. replicate k fill) same ∙ ap (λ z. fill ∷ z) (more_fill m n))
@@ -130,7 +129,7 @@ module _ (Has : Valuing) (fill : ℕ) where
   pub all_joined_are : (fs : List Fragment) (bytes : List ℕ) → AreFragments Has fill fs bytes ↔ AreFragments Has fill (merged_neighbours fs) bytes
   all_joined_are x bytes = grind (arith, common_steps, all_in_one)
 
--- ---- A module's lines in a segment, and what its object's section puts there.
+-- ---- A module's statements and its section.
 
 module _ {E : Type 0} (o : LinkerView E) (l : Linkage) (owner fill : ℕ) (sections imports : List ℕ) where
   of_part : (q : Part) (bytes : List ℕ) → IsValuedIn o l owner sections imports q → ArePart (HasValue o owner) fill q bytes ↔ ArePart (λ f v. linked_value l owner (renumbered_form sections imports f) v) fill q bytes
@@ -142,8 +141,8 @@ module _ {E : Type 0} (o : LinkerView E) (l : Linkage) (owner fill : ℕ) (secti
   of_parts [] bytes h = (λ k. k, λ k. k)
   of_parts (q ∷ qs) bytes h = grind (arith, common_steps, of_part, (of_parts qs))
 
--- A module's lines in a segment have the bytes of what its object's section puts there, where the forms in its parts have the
--- values of those in the object.
+-- If the deferred forms of a module's section have the same values in the link, then the module's statements in the segment
+-- have the bytes of the section's cells.
 pub module_law : (E : Type 0) → (p : Program) (o : LinkerView E) (l : Linkage) (fill begin owner g : ℕ) (y : Layout) (cs : List Content) (origins : SourceLocation → Origin) (sections imports bytes : List ℕ) → IsLinkerView p o → o.symbols owner ≡ table_of y → ((index : ℕ) (x : LaidOutStatement) → slice_get y.laid index ≡ Some x → o.contexts owner index ≡ x.context) → HasNoLineErrors y → IsMultiple begin (largest_multiple (statements_with_segment g (module_statements_after owner [] y.laid))) → (module_resolution y.laid).found ≡ Ok cs → AllByRecursion (IsValuedIn o l owner sections imports) (parts_in cs g) → EncodesSegmentItems p fill begin (map statement_item (statements_with_segment g (module_statements_after owner [] y.laid))) bytes ↔ AreCells l fill (flat_map (fragment_cells owner) (section_of origins y.cursor.segments sections imports cs g).fragments) bytes
 module_law E p o l fill begin owner g y cs origins sections imports bytes h table contexts d m e valued =
     let Has : Valuing = linked_value l owner in

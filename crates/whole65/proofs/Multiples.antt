@@ -1,4 +1,4 @@
--- Powers of two, their multiples, and what lies behind a multiple.
+-- Powers of two, their multiples, and positions after a multiple.
 use Rattle.std.proofs.lemmas.Grind.{common_steps}
 use Rattle.std.proofs.Common.{◌≡◌, ℕ, true, nat_eq, arith, zero, suc, ◌+◌, ◌-◌, ◌*◌, ◌^◌, ◌%◌, ◌/◌, ◌≤◌, ◌<◌, ◌⊎◌, inl, inr, max, sym, ◌∙◌, ap, subst, refl, List, [], ◌∷◌, ◌++◌, map, Bool, Option, Some, None, min}
 use Rattle.std.proofs.lemmas.Bool.Decides.{nat_tests}
@@ -19,7 +19,7 @@ use Rattle.semantics65.specs.Norms.{constant_in, nat_or_zero}
 use Rattle.syntax65.specs.declared.source_location.SourceLocation.{SourceLocation}
 use Rattle.script65.specs.Placing.{rounded_up}
 
--- ---- Numbers that are tested.
+-- ---- Decidable equality.
 
 pub equal : (n m : ℕ) → nat_eq n m ≡ true → n ≡ m
 equal n m e = grind (arith, nat_tests)
@@ -38,7 +38,7 @@ multiple_of_multiple b n m h k = grind (arith, common_steps, mul_assoc)
 pub itself : (n : ℕ) → IsMultiple n n
 itself n = record { factor = 1; product = omega arith }
 
--- the larger of two powers is a power, of which both are divisors
+-- the larger of two powers is a power and a multiple of both
 pub record Larger (n m : ℕ) : Type 0 where
   pub is_power : IsPower (max n m)
   pub first : IsMultiple (max n m) n
@@ -70,7 +70,7 @@ larger n m p q = go (split p.exponent q.exponent)
         let same : n ≡ max n m = omega (arith, le) in
         record { is_power = subst IsPower same p; first = subst (λ z. IsMultiple z n) same (itself n); second = subst (λ z. IsMultiple z m) same d }
 
--- a multiple moves the rounding along
+-- rounding up to a multiple of `n` commutes with adding a multiple of `n`
 pub round_shift : (b o n : ℕ) → IsMultiple b n → next_multiple_of (b + o) n ≡ b + next_multiple_of o n
 round_shift b o n h = grind (arith, common_steps, mul-add-mod_self_left, add_assoc)
 
@@ -84,14 +84,14 @@ of_parts x y q (suc r) pos_y h e =
     let small : (y - suc r) % y ≡ y - suc r = mod-eq_of_lt less in
     record { factor = suc q; product = omega (arith, small) }
 
--- what is rounded is a multiple
+-- a rounded number is a multiple
 pub rounded : (x n : ℕ) → 0 < n → IsMultiple (next_multiple_of x n) n
 rounded x n h = of_parts x n (x / n) (x % n) h (mod_below x n h) (div-add-mod x n)
 
 pub power_positive : (n : ℕ) → IsPower n → 0 < n
 power_positive n p = subst (λ z. 0 < z) (sym p.power) (pow_pos p.exponent)
 
--- ---- Lines behind a multiple of their alignment.
+-- ---- Statements that begin at a multiple of their alignment.
 
 pub end_of-append : (position : ℕ) (xs ys : List SegmentItem) → end_of position (xs ++ ys) ≡ end_of (end_of position xs) ys
 end_of-append position [] ys = refl
@@ -113,17 +113,17 @@ end_shift (x ∷ xs) b o p h =
     ap (λ n. end_of n (map statement_item xs)) (line_shift b o x.alignment x.laid first)
     ∙ end_shift xs b (statement_end o x.alignment x.laid) p.1 others
 
--- Lines that begin at a multiple of the largest of their own multiples end where they end from 0 on, moved to there: so
--- `.align` rounds a position in the whole list as it rounds an offset in the section.
+-- If statements begin at a multiple of their largest alignment, they end as far from there as from 0. So `.align` rounds a
+-- position in the segment as it rounds an offset in the section.
 pub shift_law : (xs : List ModuleStatement) (begin : ℕ) → ArePowers xs → IsMultiple begin (largest_multiple xs) → end_of begin (map statement_item xs) ≡ begin + end_of 0 (map statement_item xs)
 shift_law xs b p h = let same : b ≡ b + 0 = omega arith in ap (λ n. end_of n (map statement_item xs)) same ∙ end_shift xs b 0 p h
 
--- ---- A line ends its length behind its offset, and aligns to a power of two.
+-- ---- A statement ends its length after its offset, and its alignment is a power of two.
 
 no_alignment_fault : (y : Symbols) (w : Cursor) (x : Statement) → line_fault y w x ≡ None → alignment_fault y (context_of w) x ≡ None
 no_alignment_fault y w x h = grind (arith, common_steps)
 
--- ---- Multiples.
+-- ---- The operands of `.align`.
 
 power_among : (n : ℕ) (ps : List ℕ) → AllByRecursion IsPower ps → list_any (λ m. m == n) ps ≡ true → IsPower n
 power_among n [] h e = cc
@@ -138,7 +138,7 @@ all_powers = (power 0 1 (omega arith) refl, (power 1 2 (omega arith) refl, (powe
 not_when : (b : Bool) (e : AsmFault) → fault_if (not b) e ≡ None → b ≡ true
 not_when x1 e h = grind (arith, common_steps)
 
--- a constant that is one of the multiples
+-- a constant that is a power of two
 pub record IsAligned (r : Option ℤ) : Type 0 where
   pub alignment : ℕ
   pub value : r ≡ Some (pos alignment)
@@ -168,6 +168,6 @@ line_ends y w place x h = grind (arith, common_steps)
 by_parts : (x y q r : ℕ) → 0 < y → r < y → y * q + r ≡ x → (q + min 1 r) * y ≡ x + (y - r) % y
 by_parts x y q x1 pos_y h e = grind (arith, common_steps)
 
--- A link and the whole program round alike.
+-- the linker's `rounded_up` and the program's `next_multiple_of` are equal
 pub rounding_law : (position n : ℕ) → 0 < n → rounded_up position n ≡ next_multiple_of position n
 rounding_law position x1 h = grind (arith, common_steps, by_parts)

@@ -1,4 +1,4 @@
--- What a segment needs in a link, and in the whole program.
+-- A segment has the same need, a size and an alignment, in a link and in the whole program.
 use Rattle.std.proofs.Common.{◌≡◌, ◌∙◌, ℕ, suc, ◌<◌, max, Bool, true, false, cond, List, [], ◌∷◌, ◌++◌, inl, inr, map, Option, Some, None, refl, sym, ap, subst, arith}
 use Rattle.std.specs.Prelude.{IfSome}
 use Rattle.std.specs.Option.{option_map_or}
@@ -34,7 +34,7 @@ lines_alignment : (ls : List ModuleStatement) → alignment_of (map statement_it
 lines_alignment [] = refl
 lines_alignment (x ∷ ls) = ap (max x.alignment) (lines_alignment ls)
 
--- ---- That of a segment of the link.
+-- ---- The alignment of a segment of the link.
 
 abbrev align_or : Option Segment → ℕ
 align_or g = option_map_or (λ (g : Segment). g.align) g 1

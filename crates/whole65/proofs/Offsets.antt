@@ -1,4 +1,4 @@
--- Offsets are positions behind the lines before.
+-- The offset of a statement in its section is the position after the statements before it in its segment.
 use Rattle.std.proofs.lemmas.Grind.{common_steps}
 use Rattle.std.proofs.Common.{◌≡◌, ℕ, zero, suc, ◌+◌, ◌<◌, ◌≤◌, max, Bool, true, false, nat_eq, cond, List, [], ◌∷◌, ◌++◌, length, Option, Some, None, refl, sym, ap, subst, arith, map, take, slice_get, ◌∙◌}
 use Rattle.std.specs.List.{AllByRecursion}
@@ -19,12 +19,12 @@ use Rattle.whole65.specs.Offsets.{ArePowers, HasNoLineErrors, IsPower, no_statem
 use Rattle.whole65.specs.Segments.{ModuleStatement, end_of, largest_multiple, statement_item, statement_end, module_statement, module_statements_after}
 use Rattle.std.proofs.Math.Nat.{add_assoc}
 
--- ---- Segments behind a statement: which one is the current one, their ends and alignments.
+-- ---- Segments after a statement: the current one, their ends and alignments.
 
 abbrev pub are_below : ℕ → List ℕ → Type 0
 are_below count ks = AllByRecursion (λ k. k < count) ks
 
--- ---- How many segments there are.
+-- ---- The number of segments.
 
 named_more : (gs : List Segment) (n : List ℕ) (own : Option AddressSize) (place : Option ℕ) → length gs ≤ length (named_segments gs n own place)
 named_more gs n own x = grind (arith, common_steps)
@@ -60,7 +60,7 @@ named_end gs n own x g = grind (arith, common_steps, end_after)
 named_align : (gs : List Segment) (n : List ℕ) (own : Option AddressSize) (place : Option ℕ) (g : ℕ) → (segment_at (named_segments gs n own place) g).align ≡ (segment_at gs g).align
 named_align gs n own x g = grind (arith, common_steps, new_align)
 
--- what a statement adds to a segment: nothing, where it stands in another
+-- the length and alignment that a statement adds to a segment if it is in that segment
 pub record Adds (g h : Segment) (is_here : Bool) (count alignment : ℕ) : Type 0 where
   pub end : h.end ≡ g.end + cond is_here count 0
   pub align : h.align ≡ cond is_here (max g.align alignment) g.align
@@ -68,7 +68,7 @@ pub record Adds (g h : Segment) (is_here : Bool) (count alignment : ℕ) : Type 
 pub adds : (y : Symbols) (w : Cursor) (x : Statement) (g : ℕ) → w.current < length w.segments → 1 ≤ (segment_at w.segments g).align → Adds (segment_at w.segments g) (segment_at (segments_after w.segments w.current (length_of y (context_of w) (own_size w) x) (statement_alignment y (context_of w) x) x) g) (nat_eq w.current g) (length_of y (context_of w) (own_size w) x) (statement_alignment y (context_of w) x)
 adds y w x g lt one = grind (arith, common_steps, nat_tests, grown_end, grown_align, grown_other, equal, named_end, named_align)
 
--- ---- One more line.
+-- ---- A further statement.
 
 pub lines_push : (owner : ℕ) (before ls : List LaidOutStatement) (l : LaidOutStatement) → module_statements_after owner before (ls ++ l ∷ []) ≡ module_statements_after owner before ls ++ module_statement owner (before ++ ls) l ∷ []
 lines_push owner before [] l = ap (λ b. module_statement owner b l ∷ []) (sym (append-nil before))
@@ -86,7 +86,7 @@ pub largest_one : (ys : List ModuleStatement) → 1 ≤ largest_multiple ys
 largest_one [] = omega arith
 largest_one (y ∷ ys) = let h = largest_one ys in omega (arith, h)
 
--- the position behind the lines in a segment, and the largest multiple there
+-- the position after the statements in a segment
 abbrev end_at : ℕ → List ModuleStatement → ℕ
 end_at g xs = end_of 0 (map statement_item (statements_with_segment g xs))
 
@@ -96,7 +96,7 @@ end_push g xs x b e = grind (arith, common_steps, filter-append, map-append, end
 largest_at_push : (g : ℕ) (xs : List ModuleStatement) (x : ModuleStatement) (b : Bool) → nat_eq x.laid.context.segment g ≡ b → largest_multiple (statements_with_segment g (xs ++ x ∷ [])) ≡ cond b (max (largest_multiple (statements_with_segment g xs)) x.alignment) (largest_multiple (statements_with_segment g xs))
 largest_at_push g xs x b e = grind (arith, common_steps, filter-append, largest_push, largest_one)
 
--- ---- What holds behind each statement.
+-- ---- The invariant after each statement.
 
 abbrev HasOffset : ℕ → List LaidOutStatement → LaidOutStatement → Type 0
 HasOffset owner before l = l.context.offset ≡ end_at l.context.segment (module_statements_after owner [] before)
@@ -173,9 +173,9 @@ placed owner (following y place x d none) = step owner y place x (placed owner d
 pub offset_law : OffsetIsPosition
 offset_law y owner d = grind (arith, common_steps, placed)
 
--- ---- Each line of a section ends its length behind its position.
+-- ---- Each statement of a section ends its length after its position.
 
--- from a position on, each of these lines ends its length further on
+-- from this position on, each statement ends its length after its position
 abbrev pub EndsAt : ℕ → List ModuleStatement → Type 0
 EndsAt position [] = Unit {0}
 EndsAt position (x ∷ xs) = (statement_end position x.alignment x.laid ≡ position + x.laid.length) × EndsAt (statement_end position x.alignment x.laid) xs

@@ -1,4 +1,4 @@
--- Positions in the list of a segment.
+-- The position of a statement in its segment's list is the start of the module's section plus the statement's offset.
 use Rattle.std.proofs.lemmas.Grind.{common_steps}
 use Rattle.std.proofs.Common.{◌≡◌, ℕ, zero, suc, ◌+◌, Bool, true, false, nat_eq, cond, List, [], ◌∷◌, ◌++◌, length, map, take, slice_get, filter, Some, refl, sym, ◌∙◌, ap, arith, ◌≢◌, ◌<◌, Option, None, subst, max, drop, ◌^◌}
 use Rattle.std.specs.Prelude.{⊤}
@@ -26,7 +26,7 @@ use Rattle.semantics65.specs.Numbering.{number_of, segment_power}
 
 -- ---- The items of a list before a statement.
 
--- the statement is none of these items
+-- no item is the statement
 abbrev pub IsAbsent : ℕ → ℕ → List SegmentItem → Type 0
 IsAbsent owner index xs = AllByRecursion (λ x. is_statement owner index x ≡ false) xs
 
@@ -40,7 +40,7 @@ apart n m h = grind (arith, nat_tests)
 pub alike : (n : ℕ) → nat_eq n n ≡ true
 alike n = grind (arith, nat_tests)
 
--- ---- Other modules.
+-- ---- The other modules.
 
 other_lines : (first owner index : ℕ) → first ≢ owner → (q : LaidOutStatement → Bool) (before ls : List LaidOutStatement) → IsAbsent owner index (map statement_item (filter (λ (x : ModuleStatement). q x.laid) (module_statements_after first before ls)))
 other_lines first owner index h q before [] = tt
@@ -53,14 +53,14 @@ other_part first owner index h y name = go (has_section y name)
     go true = (refl, other_lines first owner index h (is_in_segment y name) [] y.laid)
     go false = tt
 
--- ---- The module itself.
+-- ---- The module of the statement.
 
 pub stopped : (owner index : ℕ) (q : LaidOutStatement → Bool) (before ls : List LaidOutStatement) (rest : List SegmentItem) (i : ℕ) (l : LaidOutStatement) → index ≡ length before + i → slice_get ls i ≡ Some l → q l ≡ true → preceding_items owner index (map statement_item (filter (λ (x : ModuleStatement). q x.laid) (module_statements_after owner before ls)) ++ rest) ≡ map statement_item (filter (λ (x : ModuleStatement). q x.laid) (module_statements_after owner before (take i ls)))
 stopped owner index q before [] rest i l e s t = cc
 stopped owner index q before (x ∷ ls) rest zero l e s t = grind (arith, common_steps, alike)
 stopped owner index q before (x ∷ ls) rest (suc i) l e s t = grind (arith, common_steps, (stopped owner index q (before ++ x ∷ []) ls rest i l))
 
--- ---- Each statement stands in a segment, and no two segments have one name.
+-- ---- The segment of each statement exists, and no two segments have one name.
 
 -- no two segments have one name
 abbrev pub Distinct : List Segment → Type 0
@@ -106,7 +106,7 @@ pub named : {y : Layout} → HasNoLineErrors y → Named y
 named no_statement = record { distinct = λ g h lt lt' e. (let none : g ≡ 0 = omega (arith, lt) in let also : h ≡ 0 = omega (arith, lt') in none ∙ sym also); standing = tt }
 named (following y place x d none) = later y place x (placed 0 d).here (named d)
 
--- ---- Lines of a segment by its name and by its number.
+-- ---- The statements of a segment by its name and by its index.
 
 pub itself : (xs : List ℕ) → bytes_eq xs xs ≡ true
 itself xs = grind (arith, bytes_eq-Decides xs xs)
@@ -129,7 +129,7 @@ all_get P [] i x h e = cc
 all_get P (y ∷ xs) zero x h e = let same : y ≡ x = cc in subst P same h.0
 all_get P (y ∷ xs) (suc i) x h e = all_get P xs i x h.1 e
 
--- ---- A front of a module's lines.
+-- ---- A prefix of a module's statements.
 
 lines_both : (owner : ℕ) (before xs ys : List LaidOutStatement) → module_statements_after owner before (xs ++ ys) ≡ module_statements_after owner before xs ++ module_statements_after owner (before ++ xs) ys
 lines_both owner before [] ys = ap (λ b. module_statements_after owner b ys) (sym (append-nil before))
@@ -172,7 +172,7 @@ module _ (owner index : ℕ) (y : Layout) (l : LaidOutStatement) (d : HasNoLineE
   all_powers : ArePowers (front ++ after_front)
   all_powers = subst ArePowers in_order (powers_at g (module_statements_after owner [] y.laid) (placed owner d).powers)
 
-  -- the position in a list that begins with the module's part, from a position on
+  -- the statement's position in a list that begins with the module's items, counted from `position`
   pub in_part : (position : ℕ) (rest : List SegmentItem) → has_section y (segment_name_at y g) ≡ true → end_of position (preceding_items owner index (module_items owner y (segment_name_at y g) ++ rest)) ≡ next_multiple_of position (largest_multiple (statements_in_segment owner y (segment_name_at y g))) + l.context.offset
   in_part position rest asked =
       let n = named d in
@@ -192,7 +192,7 @@ module _ (owner index : ℕ) (y : Layout) (l : LaidOutStatement) (d : HasNoLineE
       ∙ shift_law front begin (all_parts (λ (x : ModuleStatement). IsPower x.alignment) front after_front all_powers).0 (front_multiple begin front after_front all_powers is_multiple)
       ∙ ap (λ n. begin + n) (sym ((placed owner d).offsets index l there))
 
--- ---- Module by module.
+-- ---- Induction on the modules.
 from_module : (position first count owner index : ℕ) (ys : List Layout) (y : Layout) (l : LaidOutStatement) → owner ≡ first + count → slice_get ys count ≡ Some y → HasNoLineErrors y → slice_get y.laid index ≡ Some l → has_section y (segment_name_at y l.context.segment) ≡ true → end_of position (preceding_items owner index (segment_items_from first ys (segment_name_at y l.context.segment))) ≡ section_start_from position first ys (segment_name_at y l.context.segment) count + l.context.offset
 from_module position first count owner index [] y l o e d there asked = cc
 from_module position first zero owner index (z ∷ ys) y l o e d there asked = grind (arith, common_steps, (in_part owner index y l d there position (segment_items_from (suc owner) ys (segment_name_at y l.context.segment)) asked))
@@ -204,14 +204,14 @@ from_module position first (suc count) owner index (z ∷ ys) y l o e d there as
     ∙ end_of-append position (module_items first z name) (preceding_items owner index (segment_items_from (suc first) ys name))
     ∙ from_module (end_of position (module_items first z name)) (suc first) count owner index ys y l next e d there asked
 
--- In the list of a segment of which the module has a section, a statement's position is where the module's section begins,
--- moved by the statement's offset.
+-- If the module has a section for the segment, the position of a statement in the segment's list is the start of the section
+-- plus the statement's offset.
 pub position_law : (ys : List Layout) (owner index : ℕ) (y : Layout) (l : LaidOutStatement) → slice_get ys owner ≡ Some y → HasNoLineErrors y → slice_get y.laid index ≡ Some l → has_section y (segment_name_at y l.context.segment) ≡ true → position_of ys (segment_name_at y l.context.segment) owner index ≡ section_start ys (segment_name_at y l.context.segment) owner + l.context.offset
 position_law ys owner index y l e d there asked = from_module 0 0 owner owner index ys y l (omega arith) e d there asked
 
 -- ---- The alignment of a section in an object.
 
--- so it is with each exponent below a number
+-- the index of `2 ^ k` in the list of powers is `k`, for each `k` below the number
 abbrev AreFound : ℕ → Type 0
 AreFound zero = ⊤
 AreFound (suc n) = (number_of powers (2 ^ n) ≡ n) × AreFound n
@@ -238,6 +238,6 @@ power_at [] g = refl
 power_at (x ∷ gs) zero = refl
 power_at (x ∷ gs) (suc g) = power_at gs g
 
--- The section of an object for a segment is aligned as the module's lines in that segment are.
+-- the section of an object is aligned to the largest alignment of the module's statements in its segment
 pub alignment_law : (y : Layout) (owner g : ℕ) → HasNoLineErrors y → 2 ^ segment_power (slice_get y.cursor.segments g) ≡ largest_multiple (statements_with_segment g (module_statements_after owner [] y.laid))
 alignment_law y owner g d = grind (arith, common_steps, placed, power_at, its_power, largest_power, powers_at)

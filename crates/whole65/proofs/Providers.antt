@@ -1,4 +1,4 @@
--- Who gives a name, in a link and in the whole program.
+-- A name has the same provider in a link and in the whole program.
 use Rattle.std.proofs.lemmas.Grind.{common_steps}
 use Rattle.std.proofs.Common.{◌≡◌, ℕ, zero, suc, ◌+◌, Bool, true, false, cond, List, [], ◌∷◌, ◌++◌, length, map, slice_get, Option, Some, None, Result, Ok, Err, refl, sym, ◌∙◌, ap, subst, arith}
 use Rattle.std.specs.Prelude.{ℤ, filter_map, find}
@@ -46,9 +46,9 @@ use Rattle.whole65.specs.Sources.{AreObjectsOfLayouts}
 use Rattle.whole65.specs.Values as values
 use Rattle.whole65.specs.Values.{by_module, by_nobody, by_script}
 
--- ---- Exports as they are written.
+-- ---- Exports in objects.
 
--- an export has the form of the definition of its name, with the numbers of the object
+-- an export has the form of its name's definition, with the numbers of the object
 abbrev IsWritten : Symbols → (sections numbers : List ℕ) → ℕ → Export → Type 0
 IsWritten z sections numbers count e =
     (f : Form) × (j : ℕ) × IsKeyed sections numbers count f × (e.form ≡ renumbered_form sections numbers f) × (definition_index z (named 0 e.name) ≡ Some j) × (defined_form z j ≡ Ok f)
@@ -76,7 +76,7 @@ exports_after p (m ∷ ms) = grind (arith, common_steps, (exports_after (with_mo
 pub exports_are : (ms : List Module) → (program_of ms).exports ≡ linked_exports 0 ms
 exports_are ms = exports_after no_program ms
 
--- an export of a module, and the form that its source has for it
+-- an export of a module and its form in the source
 pub record IsExportOf (ys : List Layout) (ms : List Module) (e : parts.ModuleExport) : Type 0 where
   pub layout : Layout
   pub object : Module
@@ -115,7 +115,7 @@ module _ (ys : List Layout) (ms : List Module) where
       (of_source owner y m cs at_y at_m c.found m.object.exports (subst (λ (o : Object). AllByRecursion (IsWritten z sections numbers (length z.imports)) o.exports) (sym c.object) written))
       (of_sources rest ns (suc owner) h.1 (λ i. up_y (suc i) ∙ ap (slice_get ys) (next i)) (λ i. up_m (suc i) ∙ ap (slice_get ms) (next i)))
 
--- ---- The first of a name.
+-- ---- The first element with a name.
 
 pub data Located {A : Type 0} (name_of : A → List ℕ) (name : List ℕ) (xs : List A) : Type 0 where
   absent : find (λ x. bytes_eq (name_of x) name) xs ≡ None → position_in (map name_of xs) name ≡ None → Located name_of name xs
@@ -145,9 +145,9 @@ locate name_of name xs = go (locate_from name_of name 0 xs)
     go (absent_from f q) = absent f q
     go (there_from i x f q at called) = there i x f (grind (arith, common_steps)) at called
 
--- ---- Both providers.
+-- ---- The two providers.
 
--- who gives a name in the whole program, and in a link with these exports
+-- the provider of a name in the whole program and in a link with these exports
 pub data Agree (exports : List parts.ModuleExport) (name : List ℕ) : values.Provider → Provider → Type 0 where
   of_script : (v : ℤ) → Agree exports name (by_script v) (ByScript v)
   of_nobody : Agree exports name by_nobody Nobody
@@ -189,7 +189,7 @@ providers_agree s placement ys ms name h =
     let same : exporter_from 0 ys name weak ≡ found = exporters 0 ys ms name weak h ∙ ap (λ es. by_found (find (λ e. bytes_eq e.name name) es) weak) (sym (exports_are ms)) in
     grind (arith, common_steps, by_definitions)
 
--- ---- What imports come to.
+-- ---- The values of imports.
 
 pub past_all : (ls : List LaidOutStatement) → slice_get ls (length ls) ≡ None
 past_all [] = refl
@@ -217,7 +217,7 @@ module _ (s : Script) (placement : Placement) (ys : List Layout) (ms : List Modu
   abbrev l : Linkage
   l = linkage_of s (program_of ms) placement
 
-  -- the normal form of an export's name behind the last statement
+  -- the normal form of an exported name after the last statement of its module
   pub export_normal : (e : parts.ModuleExport) (m : IsExportOf ys ms e) → norm (suc (suc (length (table_of m.layout).definitions))) (o.symbols e.owner) (o.contexts e.owner (p.global_index e.owner)) (tree.name false (e.name ∷ [])) ≡ Ok m.form
   export_normal e m = grind (arith, common_steps, symbols_at, context_in, past_all, global_form)
 
@@ -248,6 +248,6 @@ module _ (s : Script) (placement : Placement) (ys : List Layout) (ms : List Modu
       given_by h owner k x (whole.provider_of s placement ys x) (linked.provider_of (script_definitions s placement) (program_of ms).exports (weak_symbols s.symbols) x) (providers_agree s placement ys ms x h)
       (λ export_depth. ap (λ r. import_value (exports_to_depth l export_depth) (provider_named s placement (program_of ms) r)) e)
 
--- What linking knows of the modules of sources is of their program: each import comes to what its provider says.
+-- the linker's view of the modules of sources agrees with the whole program: each import has the value of its provider
 pub sources_law : (s : Script) (placement : Placement) (ys : List Layout) (ms : List Module) → AreObjectsOfLayouts ys ms → IsLinkerView (whole.placed_program s placement ys) (linked_objects s placement ys ms)
 sources_law s placement ys ms h = grind (arith, common_steps, linked_law, imports_linked, all_laid_out, given)

@@ -1,4 +1,4 @@
--- Segments of a link and of the whole program: what they need, and what lies in them.
+-- Segments of a link and of the whole program have the same sizes and the same bytes.
 use Rattle.std.proofs.lemmas.Grind.{common_steps}
 use Rattle.std.proofs.Common.{◌≡◌, ℕ, ◌<◌, Bool, true, cond, List, [], ◌∷◌, ◌++◌, length, map, Option, Some, None, refl, sym, ◌∙◌, ap, suc, ◌+◌, ◌-◌, slice_get, Ok, subst, arith}
 use Rattle.std.specs.Prelude.{◌||◌, ◌↔◌, replicate}
@@ -44,7 +44,7 @@ use Rattle.whole65.specs.Offsets.{IsMultiple, statements_with_segment}
 use Rattle.whole65.specs.Programs as whole
 use Rattle.whole65.specs.Values.{Program}
 
--- ---- Names, each once.
+-- ---- Names without repetitions.
 
 abbrev with_name : List (List ℕ) → List ℕ → List (List ℕ)
 with_name known n = cond (list_any (λ k. bytes_eq n k) known) known (known ++ n ∷ [])
@@ -63,7 +63,7 @@ pub any_map : (N : ℕ → List ℕ) (n : List ℕ) (ks : List ℕ) → list_any
 any_map N n [] = refl
 any_map N n (k ∷ ks) = ap (λ b. bytes_eq n (N k) || b) (any_map N n ks)
 
--- names of keys that come once are found as those of all are
+-- adding a new key adds its name, if the name is new
 one_key : (N : ℕ → List ℕ) (known : List (List ℕ)) (found : List ℕ) (k : ℕ) → with_new_names known (map N (with_key found k)) ≡ with_name (with_new_names known (map N found)) (N k)
 one_key x known found k = grind (arith, common_steps, map-append, new_append, held, itself, any_new, any_map, or_true)
 
@@ -137,7 +137,7 @@ placement_law s ys ms h =
     λ name. grind (arith, common_steps, (linked_size gs name), (size_law ys ms name h), (whole_size ys (segments_of ys) name)) in
     same_needs s (map places.need_of gs) (map (need_of ys) (segments_of ys)) (linked_names gs ∙ names ∙ sym (whole_names ys (segments_of ys))) sizes
 
--- ---- Lists behind lists.
+-- ---- Bytes of concatenated lists.
 
 module _ (p : Program) (fill : ℕ) where
   abbrev BothBytes : ℕ → List SegmentItem → List SegmentItem → List ℕ → Type 0
@@ -153,7 +153,7 @@ module _ (p : Program) (fill : ℕ) where
       let (own, rest, h, g, e') = bytes_split (end_after position x) xs zs b more in
       (a ++ own, rest, (a, own, k, h, refl), g, e ∙ ap (λ z. a ++ z) e' ∙ sym (append_assoc a own rest))
 
--- ---- Parts of a segment.
+-- ---- A module's part of a segment.
 
 keyed_in : (sections imports : List ℕ) (count g : ℕ) (cs : List Content) → AllByRecursion (IsKeyedContent sections imports count) cs → AllByRecursion (IsKeyedPart sections imports count) (parts_in cs g)
 keyed_in sections imports count g [] h = tt
@@ -172,7 +172,7 @@ module _ (s : Script) (placement : Placement) (ys : List Layout) (ms : List Modu
   abbrev l : Linkage
   l = linkage_of s (linked.program_of ms) placement
 
-  -- what lies there, and behind it the bytes of items
+  -- the bytes of cells, followed by the bytes of items
   abbrev Split : List Cell → ℕ → List SegmentItem → List ℕ → Type 0
   Split cells position items bytes = (own : List ℕ) × (rest : List ℕ) × AreCells l fill cells own × EncodesSegmentItems p fill position items rest × (bytes ≡ own ++ rest)
 
@@ -276,6 +276,6 @@ module _ (s : Script) (placement : Placement) (ys : List Layout) (ms : List Modu
         λ k. (let b = bytes_split p fill (size_or g) (module_items owner y name) (segment_items_from (suc owner) rest name) k.1 k.3 in deeper.1 (k.0 ++ b.0, b.1, (one (k.0 ++ b.0)).1 (k.0, b.0, k.2, b.2, refl), subst (λ n. EncodesSegmentItems p fill n (segment_items_from (suc owner) rest name) b.1) (sym size) b.3, k.4 ∙ ap (λ z. k.0 ++ z) b.4 ∙ sym (append_assoc k.0 b.0 b.1))),
       )
 
--- What lies in a segment of a link has the bytes of the segment's list in the whole program.
+-- the cells of a segment of the link have the bytes of the segment's list in the whole program
 pub linked_bytes_law : (s : Script) (placement : Placement) (ys : List Layout) (ms : List Module) (fill : ℕ) (name bytes : List ℕ) → AreObjectsOfLayouts ys ms → IsLinkerView (whole.placed_program s placement ys) (linked_objects s placement ys ms) → AreCells (linkage_of s (linked.program_of ms) placement) fill (cells_or (segment_of (linked.program_of ms).segments name)) bytes ↔ EncodesSegmentItems (whole.placed_program s placement ys) fill 0 (segment_items ys name) bytes
 linked_bytes_law s placement ys ms fill name bytes sources objects = grind (arith, common_steps, modules, cells_or, after_modules, segment_law)

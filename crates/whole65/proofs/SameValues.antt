@@ -1,4 +1,4 @@
--- A normal form has the value of its expression.
+-- An expression has the value of its normal form.
 use Rattle.std.proofs.lemmas.Grind.{common_steps}
 use Rattle.std.proofs.Common.{◌≡◌, ℕ, zero, suc, ◌+◌, false, refl, sym, ◌∙◌, subst, arith, List, Option, Some, None, Result, Ok, ap, [], ◌∷◌}
 use Rattle.std.specs.Prelude.{ℤ, slice_get, pos}
@@ -21,7 +21,7 @@ use Rattle.base65.specs.declared.values.Op2.{Op2}
 use Rattle.object65.proofs.Foldings.{binary_fold_law, prefix_fold_law}
 use Rattle.object65.specs.Folding.{fold1, fold2}
 
--- ---- A value stays where imports come to more.
+-- ---- Values are preserved if imports are resolved through more exports.
 
 pub bind_ok : {E A B : Type 0} (r : Result A E) (f : A → Result B E) (y : B) → (r >>= f) ≡ Ok y → (x : A) × (r ≡ Ok x) × (f x ≡ Ok y)
 bind_ok x f y e = grind (arith, common_steps)
@@ -29,11 +29,11 @@ bind_ok x f y e = grind (arith, common_steps)
 pub folded_ok : (r : Result Form FormFault) (f : Form) → fold_result r ≡ Ok f → r ≡ Ok f
 folded_ok x f e = grind (arith, common_steps)
 
--- what is written with its place is what was to be written
+-- the check of the file name doesn't change the result
 pub written_ok : {A : Type 0} (place : SourceLocation) (a b : A) → with_file_name_check place a ≡ Ok b → a ≡ b
 written_ok {A = A} place a b e = grind (arith, common_steps)
 
--- the second has the values of the first
+-- each value of `few` is a value of `more`
 abbrev pub Covers : {E : Type 0} → (ℕ → Result ℤ E) → (ℕ → Result ℤ E) → Type 0
 Covers few more = (k : ℕ) (v : ℤ) → few k ≡ Ok v → more k ≡ Ok v
 
@@ -45,7 +45,7 @@ value_covered none bases few more h (prefix op f) v q = grind (arith, common_ste
 value_covered none bases few more h (binary op f g) v q = grind (arith, common_steps, (value_covered none bases few more h f), (value_covered none bases few more h g))
 
 module _ {E : Type 0} (p : Program) (o : LinkerView E) (h : IsLinkerView p o) where
-  -- what is reached through so many exports is reached through one more
+  -- imports keep their values if the chains of exports may be one longer
   Reaches : ℕ → Type 0
   Reaches export_depth = (owner : ℕ) → Covers (o.imports export_depth owner) (o.imports (suc export_depth) owner)
 
@@ -76,7 +76,7 @@ module _ {E : Type 0} (p : Program) (o : LinkerView E) (h : IsLinkerView p o) wh
 
 -- ---- An expression has at most one value.
 
--- what an import's value comes from
+-- the derivation of an import's value, by the provider
 abbrev pub FromProvider : Program → List ℕ → Provider → ℤ → Type 0
 FromProvider p x (by_module provider) v = Value p provider (p.global_index provider) (name false (x ∷ [])) v
 FromProvider p x (by_script u) v = u ≡ v
@@ -95,14 +95,14 @@ From p owner index (tree.unary op e) v = (a : ℤ) × Value p owner index e a ×
 From p owner index (tree.binary op e f) v = (a : ℤ) × (b : ℤ) × Value p owner index e a × Value p owner index f b × (value2 op a b ≡ Some v)
 From p owner index e v = FromMeaning p owner (p.binding owner index e) v
 
--- what has a meaning comes from it
+-- if an expression has a binding, the binding's value is the expression's
 by_meaning : (p : Program) (owner index : ℕ) (e : Tree) (v : ℤ) (m : SymbolBinding) → operand_binding p owner index e ≡ Some m → FromMeaning p owner (Some m) v → From p owner index e v
 by_meaning p owner index x v m q h = grind (arith, common_steps)
 
 pub inverse : (p : Program) {owner index : ℕ} {e : Tree} {v : ℤ} → Value p owner index e v → From p owner index e v
 inverse p x1 = grind (arith, common_steps)
 
--- and the meaning of what has one is all that its value comes from
+-- conversely, the expression's value is the value of its binding
 pub of_meaning : (p : Program) (owner index : ℕ) (e : Tree) (v : ℤ) (m : SymbolBinding) → operand_binding p owner index e ≡ Some m → From p owner index e v → FromMeaning p owner (Some m) v
 of_meaning p owner index x v m q h = grind (arith, common_steps)
 
@@ -124,9 +124,9 @@ unique p (joined {op = op} {a = a} {b = b} {v = v} d₁ d₂ q) w h =
 pub one_value_law : ValueIsUnique
 one_value_law p owner index e v w d h = unique p d w h
 
--- ---- The form of what stands for a definition.
+-- ---- The form of a name.
 
--- the form of what means this, through at most so many constants
+-- the form of a binding; constants are expanded to at most this depth
 abbrev pub IsFormOf : {E : Type 0} → LinkerView E → ℕ → ℕ → Form → SymbolBinding → Type 0
 IsFormOf o depth owner f (label_at index) = f ≡ address_of (o.contexts owner index)
 IsFormOf o depth owner f (constant_at index e) = norm depth (o.symbols owner) (o.contexts owner index) e ≡ Ok f
@@ -137,15 +137,15 @@ IsForm o depth owner f (Some m) = IsFormOf o depth owner f m
 IsForm o depth owner f None = (k : ℕ) × (slice_get (o.symbols owner).imports k ≡ None) × (f ≡ imp k)
 
 module _ {E : Type 0} (p : Program) (o : LinkerView E) (h : IsLinkerView p o) where
-  -- the form of an operand is that of what it means
+  -- the form of an operand is the form of its binding
   pub operand : (depth owner index : ℕ) (e : Tree) (f : Form) → (binding_of (o.symbols owner) (o.contexts owner index) e >>= form_of_binding (norm depth (o.symbols owner)) (o.symbols owner)) ≡ Ok f → IsForm o depth owner f (p.binding owner index e)
   operand depth owner index e f q = grind (arith, common_steps)
 
-  -- likewise of an expression that has a meaning
+  -- the form of an expression with a binding is the form of the binding
   pub meant : (depth owner index : ℕ) (e : Tree) (m : SymbolBinding) (f : Form) → operand_binding p owner index e ≡ Some m → norm (suc depth) (o.symbols owner) (o.contexts owner index) e ≡ Ok f → IsFormOf o depth owner f m
   meant depth owner index x m f w q = grind (arith, common_steps)
 
--- ---- A normal form has the value of its expression.
+-- ---- An expression has the value of its normal form.
 
 or_none_is : {E : Type 0} (none : E) (r : Option ℤ) (v : ℤ) → r ≡ Some v → or_none none r ≡ Ok v
 or_none_is none x v q = grind (arith, common_steps)
@@ -154,7 +154,7 @@ or_none_from : {E : Type 0} (none : E) (r : Option ℤ) (v : ℤ) → or_none no
 or_none_from none x v q = grind (arith, common_steps)
 
 module _ {E : Type 0} (p : Program) (o : LinkerView E) (h : IsLinkerView p o) where
-  -- the forms of an operation's parts
+  -- the forms of an operation's operands
   one_part : (depth owner index : ℕ) (op : Op1) (e : Tree) (f : Form) → norm (suc depth) (o.symbols owner) (o.contexts owner index) (tree.unary op e) ≡ Ok f → (g : Form) × (norm (suc depth) (o.symbols owner) (o.contexts owner index) e ≡ Ok g) × (fold1 op g ≡ Ok f)
   one_part depth owner index op e f q = grind (arith, common_steps)
 
@@ -167,7 +167,7 @@ module _ {E : Type 0} (p : Program) (o : LinkerView E) (h : IsLinkerView p o) wh
   at_place : (export_depth owner index : ℕ) → form_value o export_depth owner (address_of (o.contexts owner index)) ≡ Ok (p.address owner index)
   at_place export_depth owner index = ap Ok (sym (h.addresses owner index))
 
-  -- ---- From the program to the objects.
+  -- ---- From the whole program to the objects.
   export_of : (owner k : ℕ) (x : List ℕ) (provider : ℕ) → slice_get (o.symbols owner).imports k ≡ Some x → p.provider x ≡ by_module provider → ImportHasExportValue p o owner k x provider
   export_of owner k x provider there g = grind (arith, common_steps)
 
@@ -200,15 +200,15 @@ module _ {E : Type 0} (p : Program) (o : LinkerView E) (h : IsLinkerView p o) wh
       let u₂ : form_value o (n₁ + n₂) owner k ≡ Ok b = value_later p o h n₁ n₂ owner k b e₂ in
       (n₁ + n₂, binary_fold_law E o.no_value_error (o.bases owner) (o.imports (n₁ + n₂) owner) op g k f t ∙ rw (u₁, u₂) (or_none_is o.no_value_error (value2 op a b) v w))
 
-  -- ---- From the objects to the program.
-  -- what is known of forms, one export deeper
+  -- ---- From the objects to the whole program.
+  -- the induction hypothesis on `export_depth`: the value of a form is the value of its expression
   abbrev Below : ℕ → Type 0
   Below export_depth = (depth owner index : ℕ) (e : Tree) (f : Form) (v : ℤ) → norm depth (o.symbols owner) (o.contexts owner index) e ≡ Ok f → form_value o export_depth owner f ≡ Ok v → Value p owner index e v
 
   abbrev BelowExport : ℕ → Type 0
   BelowExport export_depth = (before : ℕ) → export_depth ≡ suc before → Below before
 
-  -- what is known through one constant less
+  -- the induction hypothesis on `depth`
   abbrev Through : ℕ → ℕ → Type 0
   Through export_depth depth = (owner index : ℕ) (e : Tree) (f : Form) (v : ℤ) → norm depth (o.symbols owner) (o.contexts owner index) e ≡ Ok f → form_value o export_depth owner f ≡ Ok v → Value p owner index e v
 

@@ -1,4 +1,4 @@
--- Bases of sections in a link, and forms of modules with the numbers of objects.
+-- The bases of sections and the values of renumbered forms in a link are those of the whole program.
 use Rattle.whole65.proofs.SectionBytes.{in_middle}
 use Rattle.semantics65.proofs.Segments.{all_same}
 use Rattle.std.proofs.lemmas.Grind.{common_steps}
@@ -47,9 +47,9 @@ use Rattle.script65.specs.declared.placement.RowPlacement.{RowPlacement}
 use Rattle.semantics65.specs.Module.{module_resolution}
 use Rattle.whole65.specs.Objects.{form_value}
 
--- ---- What the value of a form rests on.
+-- ---- The value of a form depends only on its own sections and imports.
 
--- The value of a form rests on the bases of its own sections and on what its own imports come to, and on no others.
+-- the value of a form depends only on the bases of its own sections and the values of its own imports
 pub own_parts_law : (E : Type 0) → (none : E) (bases others : ℕ → ℤ) (values rest : ℕ → Result ℤ E) (f : Form) → AllByRecursion (λ g. bases g ≡ others g) (sections_in f) → AllByRecursion (λ k. values k ≡ rest k) (imports_in f) → value_in none bases values f ≡ value_in none others rest f
 own_parts_law E none bases others values rest (lit v) h k = refl
 own_parts_law E none bases others values rest (sec g a) h k = ap (λ b. Ok (wrap_signed (b +ℤ a))) h.0
@@ -60,12 +60,12 @@ own_parts_law E none bases others values rest (binary op f g) h k =
     let named = all_parts (λ i. values i ≡ rest i) (imports_in f) (imports_in g) k in
     grind (arith, common_steps, (own_parts_law E none bases others values rest f own.0 named.0), (own_parts_law E none bases others values rest g own.1 named.1))
 
--- The base of a section in a link is where it begins behind the run address of its segment's row, wrapped.
+-- the base of a section in a link is the run address of its segment's row plus the section's position, wrapped
 pub base_law : (rows : List SegmentRow) (places : List RowPlacement) (at : SectionPosition) → address_of rows places at ≡ wrap_signed (pos (run_of rows places at.segment + at.offset))
 unfolding int_wrap
 base_law rows places at = refl
 
--- ---- Members.
+-- ---- Linked modules.
 
 get_front : {A : Type 0} (xs ys : List A) (i : ℕ) (x : A) → slice_get xs i ≡ Some x → slice_get (xs ++ ys) i ≡ Some x
 get_front [] ys i x e = cc
@@ -111,9 +111,9 @@ source_at (z ∷ ys) [] i y m h e f = absurd h
 source_at (z ∷ ys) (x ∷ ms) zero y m h e f = grind (arith, common_steps)
 source_at (z ∷ ys) (x ∷ ms) (suc i) y m h e f = source_at ys ms i y m h.1 e f
 
--- ---- Places of sections.
+-- ---- Positions of sections.
 
--- a key among others stands as they do
+-- a predicate that all keys satisfy is satisfied by each key among them
 pub one_of : (P : ℕ → Type 0) (ks : List ℕ) (g : ℕ) → AllByRecursion P ks → list_any (nat_eq g) ks ≡ true → P g
 one_of P [] g h e = cc
 one_of P (k ∷ ks) g h e = grind (arith, common_steps, (one_of P ks g h.1), equal)
@@ -129,7 +129,7 @@ module _ (y : Layout) (owner : ℕ) (origins : SourceLocation → Origin) (secti
   place_at gs [] g h o e = cc
   place_at gs (k ∷ ks) g h o e = grind (arith, common_steps, (place_at (with_section owner gs (own_section k)) ks g h.1 o.1), number_first, equal, one_of, number_later, other_end)
 
--- ---- Where sections begin.
+-- ---- The starts of sections.
 
 begins : (ys : List Layout) (y : Layout) (name : List ℕ) (position first i : ℕ) → slice_get ys i ≡ Some y → section_start_from position first ys name i ≡ next_multiple_of (end_of position (segment_items_from first (take i ys) name)) (largest_multiple (statements_in_segment (first + i) y name))
 begins [] y name position first i e = cc
@@ -139,7 +139,7 @@ begins (z ∷ ys) y name position first (suc i) e = grind (arith, common_steps, 
 less : (n m : ℕ) → n < m → nat_lt n m ≡ true
 less n m h = grind (arith, nat_tests)
 
--- The base of a section of an object in a link is that of the module's segment in the whole program.
+-- the base of an object's section in a link is the base of the module's segment in the whole program
 pub section_base_law : (s : Script) (placement : Placement) (ys : List Layout) (ms : List Module) (owner g : ℕ) (y : Layout) (m : Module) (cs : List Content) → AreObjectsOfLayouts ys ms → slice_get ys owner ≡ Some y → slice_get ms owner ≡ Some m → (module_resolution y.laid).found ≡ Ok cs → list_any (nat_eq g) (section_keys cs) ≡ true → base_of (slice_get (linkage_of s (linked.program_of ms) placement).modules owner) (number_of (section_keys cs) g) ≡ base_in s placement ys owner g (Some y)
 section_base_law s placement ys ms owner g y m cs h at_y at_m e among =
     let source : IsObjectOfLayout y m = source_at ys ms owner y m h at_y at_m in
@@ -171,7 +171,7 @@ all_of : (p : ℕ → Bool) (xs : List ℕ) → list_all p xs ≡ true → AllBy
 all_of p [] e = tt
 all_of p (x ∷ xs) e = grind (arith, common_steps, (all_of p xs))
 
--- what holds of all keys that are among some holds of each of them
+-- a predicate that each key among `xs` satisfies is satisfied by all of `xs`
 pub each_among : (P : ℕ → Type 0) (xs : List ℕ) → ((k : ℕ) → list_any (nat_eq k) xs ≡ true → P k) → AllByRecursion P xs
 each_among P [] up = tt
 each_among P (x ∷ xs) up = grind (arith, common_steps, (each_among P xs))
@@ -229,7 +229,7 @@ module _ (sections imports : List ℕ) (count : ℕ) where
         keyed_contents names cs h.1 (among_rest (content_imports names c) (flat_map (content_imports names) cs) up),
       )
 
--- All forms in a module's contents have the sections and the imports of its object.
+-- the sections and imports of all forms in a module's contents have numbers in the module's object
 pub keyed_law : (y : Layout) (cs : List Content) → IsWellFormedLayout y → (module_resolution y.laid).found ≡ Ok cs → AllByRecursion (IsKeyedContent (section_keys cs) (import_keys (table_of y).imports cs) (length (table_of y).imports)) cs
 keyed_law y cs h e =
     let names : List (List ℕ) = (table_of y).imports in
@@ -238,7 +238,7 @@ keyed_law y cs h e =
 
 -- ---- Values.
 
--- what stands at the number of a key
+-- the element at the number of a key
 at_number : {A : Type 0} (G : List ℕ → A) (names : List (List ℕ)) (keys : List ℕ) (k : ℕ) (d : A) → list_any (nat_eq k) keys ≡ true → get_or (map G (map (name_of names) keys)) (number_of keys k) d ≡ G (name_of names k)
 at_number G names [] k d e = cc
 at_number G names (x ∷ keys) k d e = grind (arith, common_steps, (at_number G names keys k d), number_first, equal, number_later)
@@ -248,7 +248,7 @@ got [] k h = absurd (omega (arith, h))
 got (n ∷ names) zero h = refl
 got (n ∷ names) (suc k) h = got names k (omega (arith, h))
 
--- Such a form comes in a link, through so many exports, to what linking knows of it in the whole program.
+-- for such a form, the linker's view of the whole program and the link compute the same result at each export depth
 pub form_law : (s : Script) (placement : Placement) (ys : List Layout) (ms : List Module) (owner export_depth : ℕ) (y : Layout) (m : Module) (cs : List Content) (f : Form) → AreObjectsOfLayouts ys ms → slice_get ys owner ≡ Some y → slice_get ms owner ≡ Some m → (module_resolution y.laid).found ≡ Ok cs → let sections : List ℕ = section_keys cs in let imports : List ℕ = import_keys (table_of y).imports cs in let l : Linkage = linkage_of s (linked.program_of ms) placement in IsKeyed sections imports (length (table_of y).imports) f → form_value (linked_objects s placement ys ms) export_depth owner f ≡ value_of_form l (exports_to_depth l export_depth) owner (renumbered_form sections imports f)
 form_law s placement ys ms owner export_depth y m cs f h at_y at_m e =
     let names : List (List ℕ) = (table_of y).imports in

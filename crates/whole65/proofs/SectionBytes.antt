@@ -1,4 +1,4 @@
--- The bytes of a module's lines in a segment and those of its parts there.
+-- A module's statements in a segment have the bytes of the parts of its section.
 use Rattle.std.proofs.lemmas.Grind.{common_steps}
 use Rattle.std.proofs.Common.{◌≡◌, ℕ, ◌+◌, Bool, true, false, cond, List, Result, Ok, Err, refl, sym, ◌∙◌, ap, subst, arith, suc, ◌-◌, [], ◌∷◌, ◌++◌, length, Option, Some, None, nat_eq, map, slice_get}
 use Rattle.std.specs.Prelude.{ℤ, pos, ◌+ℤ◌, ◌-ℤ◌, ◌↔◌, replicate}
@@ -44,7 +44,7 @@ use Rattle.whole65.specs.Offsets.{statements_with_segment, IsMultiple, HasNoLine
 use Rattle.semantics65.specs.Layout.{Layout}
 use Rattle.whole65.specs.Modules.{table_of}
 
--- ---- Values as they are stored.
+-- ---- Stored values.
 
 -- the bytes of a form's value
 abbrev pub HasBytes : {E : Type 0} → LinkerView E → ℕ → Width → Form → List ℕ → Type 0
@@ -57,7 +57,7 @@ module _ {E : Type 0} (o : LinkerView E) (owner fill : ℕ) where
   of_waiting : (width : Width) (place : SourceLocation) (f : Form) (part : Part) (bytes : List ℕ) → with_file_name_check place (LinkTimeValue width place f) ≡ Ok part → ArePart (HasValue o owner) fill part bytes ↔ HasBytes o owner width f bytes
   of_waiting width place f part bytes e = grind (arith, common_steps)
 
-  -- a part has the bytes of the form that is stored
+  -- the part that stores a form has the bytes of the form's value
   pub of_stored : (width : Width) (place : SourceLocation) (f : Form) (part : Part) (bytes : List ℕ) → value_part width place f ≡ Ok part → ArePart (HasValue o owner) fill part bytes ↔ HasBytes o owner width f bytes
   of_stored width place (lit v) part bytes e = of_literal width v part bytes (fits_width width v) refl e
   of_stored width place (sec k a) part bytes e = of_waiting width place (sec k a) part bytes e
@@ -101,7 +101,7 @@ module _ {E : Type 0} (o : LinkerView E) (owner fill : ℕ) where
   unchanged : (width : Width) (f h : Form) (bytes : List ℕ) → ◌≡◌ {A = Result Form AsmFault} (Ok f) (Ok h) → HasBytes o owner width f bytes ↔ HasBytes o owner width h bytes
   unchanged width f h bytes e = grind (arith, common_steps)
 
-  -- an operand's value is counted as its form is
+  -- the bytes of an operand are those of the form that `operand_form` returns
   pub of_operand : (width : Width) (address : ℤ) (s : Context) (f h : Form) (bytes : List ℕ) → address ≡ wrap_signed (o.bases owner s.segment +ℤ pos s.offset) → operand_form width s f ≡ Ok h → Counted width address f bytes ↔ HasBytes o owner width h bytes
   of_operand Branch address s f h bytes at e = of_branch address s f h bytes at (folded_ok (fold2 Subtract f (sec s.segment (pos (s.offset + 2)))) h e)
   of_operand Byte address s f h bytes at e = unchanged Byte f h bytes e
@@ -109,17 +109,17 @@ module _ {E : Type 0} (o : LinkerView E) (owner fill : ℕ) where
   of_operand BigEndianWord address s f h bytes at e = unchanged BigEndianWord f h bytes e
   of_operand Dword address s f h bytes at e = unchanged Dword f h bytes e
 
--- ---- The bytes of lines and those of parts.
+-- ---- The bytes of statements and of parts.
 
 module _ {E : Type 0} (p : Program) (o : LinkerView E) (h : IsLinkerView p o) (fill : ℕ) (x : ModuleStatement) (at_context : o.contexts x.owner x.index ≡ x.laid.context) where
-  -- these pieces of the statement come to these contents
+  -- these pieces of the statement result in these contents
   abbrev Come : List (List ℕ) → List Piece → List Content → Type 0
   Come names ps cs = AllCome (o.symbols x.owner) x.laid names ps cs
 
   abbrev HaveBytes : List Content → List ℕ → Type 0
   HaveBytes cs bytes = AreParts (HasValue o x.owner) fill (all_put cs) bytes
 
-  -- one part alone
+  -- a list of one part has the bytes of the part
   single : (q : Part) (bytes : List ℕ) → ArePart (HasValue o x.owner) fill q bytes ↔ AreParts (HasValue o x.owner) fill (q ∷ []) bytes
   single q bytes = grind (arith, common_steps)
 
@@ -175,7 +175,7 @@ module _ {E : Type 0} (p : Program) (o : LinkerView E) (h : IsLinkerView p o) (f
   of_instruction m d (FillByte b) names _ bytes no_piece = (λ k. k, λ k. k)
   of_instruction m d (FileOffset b) names _ bytes no_piece = (λ k. k, λ k. k)
 
-  -- ---- Room, parts of files, and statements that put nothing.
+  -- ---- Reserved space, included files, and statements without bytes.
 
   of_alone : (q : Part) (names : List (List ℕ)) (cs : List Content) (bytes : List ℕ) → Come names (known_part q ∷ []) cs → ArePart (HasValue o x.owner) fill q bytes ↔ HaveBytes cs bytes
   of_alone q names _ bytes (a_piece (a_part _) no_piece) = single q bytes
@@ -202,12 +202,11 @@ of_line p o h fill position x (statement.Align n v) names cs bytes s e all =
 of_line p o h fill position x (statement.Incbin file n v) names cs bytes s e all = of_alone p o h fill x s _ names cs bytes all
 of_line p o h fill position x t names cs bytes s e all = none p o h fill x s cs bytes (none_put all (pieces_alike x.laid.length x.laid.encoding t))
 
--- A line of the whole program has the bytes of the parts that its statement's pieces put into the section, at a position at
--- which it ends its length further on.
+-- if a statement ends its length after its position, it has the bytes of the parts that its pieces append to the section
 pub parts_law : (E : Type 0) → (p : Program) (o : LinkerView E) (fill position : ℕ) (x : ModuleStatement) (names : List (List ℕ)) (cs : List Content) (bytes : List ℕ) → IsLinkerView p o → o.contexts x.owner x.index ≡ x.laid.context → statement_end position x.alignment x.laid ≡ position + x.laid.length → AllCome (o.symbols x.owner) x.laid names (pieces_of x.laid.length x.laid.encoding x.laid.stated) cs → EncodesStatement p fill position x bytes ↔ AreParts (HasValue o x.owner) fill (all_put cs) bytes
 parts_law E p o fill position x names cs bytes h s e all = of_line p o h fill position x x.laid.stated names cs bytes s e all
 
--- ---- Parts behind parts.
+-- ---- The bytes of concatenated parts.
 
 abbrev Both : Valuing → ℕ → List Part → List Part → List ℕ → Type 0
 Both Has fill ps qs bytes = (own : List ℕ) × (rest : List ℕ) × AreParts Has fill ps own × AreParts Has fill qs rest × (bytes ≡ own ++ rest)
@@ -222,7 +221,7 @@ parts_split Has fill (p ∷ ps) qs bytes (a, b, k, more, e) =
     let (own, rest, h, g, e') = parts_split Has fill ps qs b more in
     (a ++ own, rest, (a, own, k, h, refl), g, e ∙ ap (λ z. a ++ z) e' ∙ sym (append_assoc a own rest))
 
--- ---- Lines.
+-- ---- The statements of a module.
 
 pub in_middle : {A : Type 0} (before : List A) (l : A) (ls : List A) → slice_get (before ++ l ∷ ls) (length before) ≡ Some l
 in_middle [] l ls = refl
@@ -259,8 +258,8 @@ module _ {E : Type 0} (p : Program) (o : LinkerView E) (h : IsLinkerView p o) (f
             λ k. (let s = parts_split (HasValue o owner) fill (all_put own) (parts_in cs g) bytes k in (s.0, s.1, (one s.0).1 s.2, (deeper following s.1 ends.1).1 s.3, s.4)),
           )
 
--- A module's lines in a segment, from a multiple of their alignment on, have the bytes of what its statements put into the
--- section.
+-- If a module's statements in a segment begin at a multiple of their largest alignment, they have the bytes of the parts
+-- that they append to the section.
 pub section_law : (E : Type 0) → (p : Program) (o : LinkerView E) (fill begin owner g : ℕ) (y : Layout) (cs : List Content) (bytes : List ℕ) → IsLinkerView p o → o.symbols owner ≡ table_of y → ((index : ℕ) (l : LaidOutStatement) → slice_get y.laid index ≡ Some l → o.contexts owner index ≡ l.context) → HasNoLineErrors y → IsMultiple begin (largest_multiple (statements_with_segment g (module_statements_after owner [] y.laid))) → (module_resolution y.laid).found ≡ Ok cs → EncodesSegmentItems p fill begin (map statement_item (statements_with_segment g (module_statements_after owner [] y.laid))) bytes ↔ AreParts (HasValue o owner) fill (parts_in cs g) bytes
 section_law E p o fill begin owner g y cs bytes h table contexts d m e =
     let lines : List ModuleStatement = statements_with_segment g (module_statements_after owner [] y.laid) in

@@ -1,4 +1,4 @@
--- The sections of an object, and what they make of one segment.
+-- The sections of an object, and their effect on one segment.
 use Rattle.std.proofs.lemmas.Slice.Eq.{bytes_eq-Decides}
 use Rattle.std.proofs.lemmas.Grind.{common_steps}
 use Rattle.std.proofs.Common.{◌≡◌, ℕ, suc, length, ◌<◌, Bool, true, false, nat_eq, cond, List, [], ◌∷◌, ◌++◌, map, filter, Option, Some, None, Ok, refl, sym, ◌∙◌, ap, subst, arith, zero, slice_get}
@@ -29,7 +29,7 @@ use Rattle.link65.specs.Programs.{segment_with_section, Module, Program, member,
 use Rattle.link65.specs.Programs as linked
 use Rattle.whole65.proofs.LinkedObjects.{after_sections, or_empty, after_modules}
 
--- ---- Each once.
+-- ---- Keys without repetitions.
 
 abbrev pub with_key : List ℕ → ℕ → List ℕ
 with_key found k = cond (list_any (nat_eq k) found) found (found ++ k ∷ [])
@@ -81,13 +81,13 @@ number_first ks k g e = ap (λ o. unwrap_or o 0) (at_front (nat_eq g) k ks e)
 pub number_later : (ks : List ℕ) (k g : ℕ) → nat_eq g k ≡ false → list_any (nat_eq g) ks ≡ true → number_of (k ∷ ks) g ≡ suc (number_of ks g)
 number_later ks k g e h = grind (arith, common_steps, after_front, none_found)
 
--- ---- Sections that are asked for.
+-- ---- Requested sections.
 
 lines_asked : (z : Symbols) (names : List (List ℕ)) (ls : List LaidOutStatement) (cs : List Content) → AreStated z names ls cs → segment_requests cs ≡ map (λ l. l.context.segment) (filter (λ l. needs_section l.stated) ls)
 lines_asked z names [] _ no_line = refl
 lines_asked z names (l ∷ ls) _ (a_line ds cs found more) = grind (arith, common_steps, (stated z names l ds found), (lines_asked z (names ++ exported_names (all_declarations ds)) ls cs more))
 
--- a module's contents ask for the segments in which the statements that ask stand
+-- a module's contents request the segments of the statements that need a section
 pub asked_are : (y : Layout) (cs : List Content) → (module_resolution y.laid).found ≡ Ok cs → segment_requests cs ≡ map (λ l. l.context.segment) (filter (λ l. needs_section l.stated) y.laid)
 asked_are y cs e = lines_asked (table_of y) [] y.laid cs (are_stated y cs e)
 
@@ -114,7 +114,7 @@ keys_of y cs d e =
       has = λ name. asked_there y name y.laid ∙ ap (list_any (λ g. bytes_eq (segment_name_at y g) name)) (sym asked) ∙ sym (any_once (λ g. bytes_eq (segment_name_at y g) name) [] (segment_requests cs));
     }
 
--- ---- The sections of an object, and what they make of one segment.
+-- ---- The effect of an object's sections on one segment.
 
 pub name_at : (gs : List Segment) (g : ℕ) → g < length gs → numbering.segment_name (slice_get gs g) ≡ (segment_at gs g).name
 name_at [] g lt = absurd (omega (arith, lt))
@@ -135,12 +135,12 @@ module _ (y : Layout) (owner : ℕ) (origins : SourceLocation → Origin) (secti
   none_there [] h e g = refl
   none_there (k ∷ ks) h e g = grind (arith, common_steps, section_named, (none_there ks h.1))
 
-  -- no other key is of the same name
+  -- if a key has the name and isn't among the keys, none of the keys has the name
   others_apart : (k : ℕ) → Distinct y.cursor.segments → k < length y.cursor.segments → is_named k ≡ true → (ks : List ℕ) → AllByRecursion (λ g. g < length y.cursor.segments) ks → list_any (nat_eq k) ks ≡ false → list_any is_named ks ≡ false
   others_apart k d lt e [] h apart = refl
   others_apart k d lt e (x ∷ ks) h apart = grind (arith, common_steps, (others_apart k d lt e ks h.1), (bytes_eq-Decides (segment_name_at y k) name), (bytes_eq-Decides (segment_name_at y x) name), (bytes_eq-Decides (segment_name_at y k) (segment_name_at y x)))
 
-  -- one section of the module is in the segment
+  -- one section of the module is appended to the segment
   pub record IsGrown (ks : List ℕ) (g : Option linked.Segment) : Type 0 where
     pub key : ℕ
     pub among : list_any (nat_eq key) ks ≡ true
@@ -169,9 +169,9 @@ module _ (y : Layout) (owner : ℕ) (origins : SourceLocation → Origin) (secti
           let r = more e in
           record { key = r.key; among = grind (arith, common_steps); below = r.below; called = r.called; is = grind (arith, common_steps, (section_named k h.0)) }
 
--- ---- A segment is grown by the sections of its name alone.
+-- ---- Only sections with its name change a segment.
 
--- a segment, if it is the one of the name, or else another
+-- a segment if it has the name, otherwise another one
 abbrev first : List ℕ → LinkedSegment → Option LinkedSegment → Option LinkedSegment
 first name g other = cond (bytes_eq g.name name) (Some g) other
 
@@ -187,6 +187,6 @@ all_modules : (p : Program) (ms : List Module) (name : List ℕ) → segment_of 
 all_modules p [] name = refl
 all_modules p (m ∷ ms) name = grind (arith, common_steps, all_sections, (all_modules (with_module p m) ms name))
 
--- A segment of linked modules is what the sections of its name make of it, module by module.
+-- a segment of the linked modules is the result of appending the sections with its name, in the order of the modules
 pub segment_law : (ms : List Module) (name : List ℕ) → segment_of (linked.program_of ms).segments name ≡ after_modules 0 name None ms
 segment_law ms name = all_modules no_program ms name

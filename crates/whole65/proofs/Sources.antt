@@ -1,4 +1,4 @@
--- The contents of a source's object, and what its sections make of a segment.
+-- The contents of a source's object, and the effect of its sections on a segment.
 use Rattle.std.proofs.lemmas.Grind.{common_steps}
 use Rattle.std.proofs.Common.{◌≡◌, ℕ, suc, ◌+◌, ◌<◌, Bool, true, false, nat_eq, cond, List, [], ◌∷◌, ◌++◌, length, map, filter, take, slice_get, Some, Result, Ok, refl, sym, ◌∙◌, ap, arith, inl, inr, Option, None}
 use Rattle.std.specs.Prelude.{not, sum_by}
@@ -72,7 +72,7 @@ joined_parts_long origins ss is ps = all_long (fragments_of origins ss is ps) �
 
 -- ---- Statements.
 
--- statements each of which places what it was measured to place
+-- each statement has the length that was measured for it
 abbrev AreMeasured : List LaidOutStatement → Type 0
 AreMeasured ls = (i : ℕ) (l : LaidOutStatement) → slice_get ls i ≡ Some l → (before : Symbols) × IsMeasured before l
 
@@ -87,7 +87,7 @@ module _ (z : Symbols) (owner g : ℕ) where
       let own : sum_by part_len (parts_in ds g) ≡ cond (nat_eq l.context.segment g) l.length 0 = slots_long z names one.0 l g ds one.1 found in
       grind (arith, common_steps, (λ (n : ℕ) (ends : EndsAt n (here (before ++ l ∷ []) ls)). lines_long (before ++ l ∷ []) ls (names ++ exported_names (all_declarations ds)) cs n ends (λ i x e. measured (suc i) x e) more))
 
--- It is as long as they are.
+-- the section is as long as the module's statements in the segment
 pub length_law : (y : Layout) (owner g : ℕ) (cs : List Content) (origins : SourceLocation → Origin) (sections imports : List ℕ) → HasNoLineErrors y → IsWellFormedLayout y → (module_resolution y.laid).found ≡ Ok cs → section_len (section_of origins y.cursor.segments sections imports cs g) ≡ end_of 0 (map statement_item (statements_with_segment g (module_statements_after owner [] y.laid)))
 length_law y owner g cs origins sections imports d s e =
     let parts = joined_parts_long origins sections imports (parts_in cs g) in
@@ -96,13 +96,13 @@ length_law y owner g cs origins sections imports d s e =
 
 -- ---- Contents.
 
--- the contents of which a module's object is made, of one version or the other
+-- the contents from which a module's object, or version 1 of it, is built
 pub record HasContents (y : Layout) (m : Module) : Type 0 where
   pub contents : List Content
   pub found : (module_resolution y.laid).found ≡ Ok contents
   pub version : ℕ
   pub files : List (List ℕ)
-  -- what places are in the object
+  -- the origins of source locations in the object
   pub origins : SourceLocation → Origin
   pub object : m.object ≡ object_by version files origins y.cursor.segments (table_of y).imports contents
 
@@ -146,7 +146,7 @@ size_or g = option_map_or (λ (g : linked.Segment). g.size) g 0
 pub size_or_empty : (name : List ℕ) (g : Option linked.Segment) → (or_empty name g).size ≡ size_or g
 size_or_empty name x = grind (arith, common_steps)
 
--- what a section makes of a segment, or that there is none
+-- the effect of a module's sections on a segment: none, or one section is appended
 pub data Following (y : Layout) (m : Module) (origins : SourceLocation → Origin) (cs : List Content) (owner : ℕ) (name : List ℕ) (g : Option linked.Segment) : Type 0 where
   unchanged : has_section y name ≡ false → after_sections owner name g m.object.sections ≡ g → Following y m origins cs owner name g
   grows :
@@ -174,9 +174,9 @@ after_source y m h owner name g = go (has_section y name) refl
             let r = one_there y owner origins (section_keys cs) (import_keys (table_of y).imports cs) cs name (section_keys cs) (named h.no_line_errors).distinct keys.standing keys.single (sym (keys.has name) ∙ e) g in
             grows r.key e r.among r.below r.called (same ∙ r.is)
 
--- ---- Where a part begins and ends.
+-- ---- The start and end of a module's part.
 
--- the lines of a name are those of its segment's number
+-- the statements in a segment by its name are those by its index
 pub in_segment : (owner : ℕ) (y : Layout) (g : ℕ) → HasNoLineErrors y → g < length y.cursor.segments → statements_in_segment owner y (segment_name_at y g) ≡ statements_with_segment g (module_statements_after owner [] y.laid)
 in_segment owner y g d lt = by_number owner y g (named d).distinct lt [] y.laid (named d).standing
 
@@ -188,7 +188,7 @@ begin_is_multiple y owner key position d =
     let lines : List ModuleStatement = statements_with_segment key (module_statements_after owner [] y.laid) in
     rounded position (largest_multiple lines) (power_positive (largest_multiple lines) (largest_power lines (powers_at key (module_statements_after owner [] y.laid) (placed owner d).powers)))
 
--- the part of a module that has a section
+-- the items of a module that has a section
 pub whole_part : (y : Layout) (owner key : ℕ) (name : List ℕ) → HasNoLineErrors y → key < length y.cursor.segments → segment_name_at y key ≡ name → has_section y name ≡ true → module_items owner y name ≡ rounding (largest_multiple (statements_with_segment key (module_statements_after owner [] y.laid))) ∷ map statement_item (statements_with_segment key (module_statements_after owner [] y.laid))
 whole_part y owner key name d lt called has = grind (arith, common_steps, in_segment)
 
@@ -214,7 +214,7 @@ part_end y m owner name g h = go (after_source y m h owner name g)
         ∙ sym (shift_law lines begin (powers_at key (module_statements_after owner [] y.laid) (placed owner h.no_line_errors).powers) (begin_is_multiple y owner key (size_or g) h.no_line_errors))
         ∙ ap (end_of (size_or g)) (sym (whole_part y owner key name h.no_line_errors lt called has))
 
--- ---- Module by module.
+-- ---- Induction on the modules.
 
 pub modules_end : (ys : List Layout) (ms : List Module) (owner : ℕ) (name : List ℕ) (g : Option linked.Segment) → AreObjectsOfLayouts ys ms → size_or (after_modules owner name g ms) ≡ end_of (size_or g) (segment_items_from owner ys name)
 modules_end [] [] owner name g h = refl
@@ -222,6 +222,6 @@ modules_end [] (m ∷ ms) owner name g h = absurd h
 modules_end (y ∷ ys) [] owner name g h = absurd h
 modules_end (y ∷ ys) (m ∷ ms) owner name g h = grind (arith, common_steps, part_end, end_of-append, (modules_end ys ms (suc owner) name (after_sections owner name g m.object.sections) h.1))
 
--- A segment of linked modules is as long as the list of all lines of its name.
+-- a segment of the linked modules is as long as the list of all statements in the segment of its name
 pub size_law : (ys : List Layout) (ms : List Module) (name : List ℕ) → AreObjectsOfLayouts ys ms → linked.end_of (linked.program_of ms).segments name ≡ end_of 0 (segment_items ys name)
 size_law ys ms name h = ap size_or (segment_law ms name) ∙ modules_end ys ms 0 name None h

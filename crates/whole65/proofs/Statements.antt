@@ -1,4 +1,4 @@
--- What laid statements come to, one behind the other: what each of them asks for, puts into its section and says.
+-- The contents of laid-out statements, in order: their section requests, parts and declarations.
 use Rattle.std.proofs.lemmas.Grind.{common_steps, flat_map-append}
 use Rattle.std.proofs.lemmas.List.{append-nil}
 use Rattle.std.proofs.Common.{◌≡◌, ◌∙◌, ℕ, Bool, true, false, cond, nat_eq, List, [], ◌∷◌, ◌++◌, map, Option, Some, None, Result, Ok, refl, sym, ap, subst, ◌⊎◌, inl, inr, arith, if◌then◌else◌}
@@ -21,13 +21,13 @@ use Rattle.semantics65.specs.Types.{Action, AsmFault, Item, SourceLocation, Stat
 use Rattle.whole65.proofs.SameValues.{bind_ok, written_ok}
 use Rattle.whole65.specs.Modules.{table_of}
 
--- ---- What a piece comes to.
+-- ---- The content of a piece.
 
--- an export of a name says nothing: the name was exported before, or the module doesn't define it
+-- an export has no declaration: its name was exported before, or the module doesn't define it
 abbrev pub IsLeftOut : Symbols → List (List ℕ) → List ℕ → Type 0
 IsLeftOut y names n = (list_any (bytes_eq n) names ≡ true) ⊎ (definition_index y (named 0 n) ≡ None)
 
--- a piece of a laid statement, behind exports of these names
+-- the content of a piece of a laid-out statement, after exports of `names`
 pub data Comes (y : Symbols) (names : List (List ℕ)) (l : LaidOutStatement) : Piece → Content → Type 0 where
   a_part : (q : Part) → Comes y names l (known_part q) (section_part l.context.segment q)
   a_datum :
@@ -96,7 +96,7 @@ comes y names l (exported must n) m h = by (list_any (bytes_eq n) names) refl (p
         let (ss, said, last) = bind_ok (export_declarations y l.place n (undefined_export_result must n) (definition_index y (named 0 n))) declarations_result m made in
         subst (Comes y names l (exported must n)) (same_content (without_warning (declaration_content ss)) m last) (defining (definition_index y (named 0 n)) e refl ss said)
 
--- pieces one behind the other
+-- the contents of consecutive pieces
 pub data AllCome (y : Symbols) (l : LaidOutStatement) : List (List ℕ) → List Piece → List Content → Type 0 where
   no_piece : {names : List (List ℕ)} → AllCome y l names [] []
   a_piece :
@@ -109,20 +109,20 @@ all_come y l names [] (c ∷ cs) h = absurd h
 all_come y l names (p ∷ ps) [] h = absurd h
 all_come y l names (p ∷ ps) (c ∷ cs) (w, made, h) = a_piece (comes y names l p (record { content = c; warning = w }) made) (all_come y l (names ++ exported_names c.said) ps cs h)
 
--- ---- Parts, and what is said.
+-- ---- Parts and declarations.
 
 -- the parts of contents
 abbrev pub all_put : List Content → List Part
 all_put cs = flat_map (λ c. c.parts) cs
 
--- a piece that puts a part somewhere, and says nothing; another one puts none
+-- whether a piece results in a part, without declarations; other pieces have no part
 abbrev pub is_part : Piece → Bool
 is_part (known_part q) = true
 is_part (expression_value (datum width) e) = true
 is_part (expression_value (operand width) e) = true
 is_part _ = false
 
--- a statement whose pieces are such
+-- whether all pieces of a statement result in parts; otherwise none does
 abbrev pub has_parts : Statement → Bool
 has_parts (Instruction m o) = true
 has_parts (Values width items) = true
@@ -173,13 +173,13 @@ none_put (a_piece first more) (own, all) = grind (arith, common_steps, (puts_non
 no_parts : (x : Statement) → needs_section x ≡ false → has_parts x ≡ false
 no_parts x1 e = grind (arith, common_steps)
 
--- a statement that asks for no section puts nothing there
+-- a statement that needs no section has no parts
 pub quiet_parts : {y : Symbols} {l : LaidOutStatement} {names : List (List ℕ)} {cs : List Content} (count : ℕ) (s : EncodingChoice) (x : Statement) → AllCome y l names (pieces_of count s x) cs → needs_section x ≡ false → all_put cs ≡ []
 quiet_parts count s x all e = none_put all (subst (λ b. AllByRecursion (λ p. is_part p ≡ b) (pieces_of count s x)) (no_parts x e) (pieces_alike count s x))
 
--- ---- Where a piece's content stands.
+-- ---- The segment of a piece's content.
 
--- it asks for no section, and puts parts into the segment alone
+-- the content requests no section, and any parts are in this segment
 abbrev StandsIn : ℕ → Content → Type 0
 StandsIn g c = (c.requests_section ≡ false) × ((c.segment ≡ g) ⊎ (c.parts ≡ []))
 
@@ -194,9 +194,9 @@ parts_own : {y : Symbols} {l : LaidOutStatement} {names : List (List ℕ)} {ps :
 parts_own g no_piece = grind (arith, common_steps)
 parts_own g (a_piece first more) = grind (arith, common_steps, (stands_in first), (parts_own g more))
 
--- ---- What a statement says.
+-- ---- The declarations of a statement.
 
--- exports of names, behind those of other names: each says one that is defined and that was not exported before
+-- the declarations of exports after exports of other names: one for each name that is defined and wasn't exported before
 pub data SaidOnce (y : Symbols) (place : SourceLocation) : List (List ℕ) → List (List ℕ) → List Declaration → Type 0 where
   no_name : {names : List (List ℕ)} → SaidOnce y place names [] []
   left_out :
@@ -207,7 +207,7 @@ pub data SaidOnce (y : Symbols) (place : SourceLocation) : List (List ℕ) → L
       list_any (bytes_eq n) names ≡ false → definition_index y (named 0 n) ≡ Some j → defined_form y j ≡ Ok f →
       SaidOnce y place (names ++ n ∷ []) ns ss → SaidOnce y place names (n ∷ ns) (ExportedSymbol n place f ∷ ss)
 
--- this is said by a statement
+-- the declarations of a statement
 abbrev pub IsSaidBy : Symbols → List (List ℕ) → LaidOutStatement → Statement → List Declaration → Type 0
 IsSaidBy y names l (Export ns) ss = SaidOnce y l.place names ns ss
 IsSaidBy y names l (Global own ns) ss = SaidOnce y l.place names ns ss
@@ -247,8 +247,8 @@ said_by count s _ cs all = nothing_said cs all
 
 -- ---- Statements.
 
--- A statement, behind exports of these names, comes to contents: it asks for its section where it does, and then comes what its
--- pieces come to.
+-- The contents of a statement after exports of `names`: a request of its section if it needs one, then the contents of its
+-- pieces.
 pub record Stated (y : Symbols) (names : List (List ℕ)) (l : LaidOutStatement) (ds : List Content) : Type 0 where
   pub own : List Content
   pub pieces : AllCome y l names (pieces_of l.length l.encoding l.stated) own
@@ -292,7 +292,7 @@ stated y names l ds h = by (needs_section l.stated) refl ds h
           said = said_by l.length l.encoding l.stated ds all;
         })
 
--- statements one behind the other, behind exports of these names
+-- the contents of consecutive statements, after exports of `names`
 pub data AreStated (y : Symbols) : List (List ℕ) → List LaidOutStatement → List Content → Type 0 where
   no_line : {names : List (List ℕ)} → AreStated y names [] []
   a_line :
@@ -306,11 +306,11 @@ all_stated y names (l ∷ ls) cs h =
     let split = found_split y names (slots_of l) (flat_map slots_of ls) cs h in
     subst (AreStated y names (l ∷ ls)) split.all (a_line split.first split.last split.before (all_stated y (names ++ exported_names (all_declarations split.first)) ls split.last split.following))
 
--- what a module comes to is what its statements come to
+-- the contents of a module are those of its statements
 pub are_stated : (y : Layout) (cs : List Content) → (module_resolution y.laid).found ≡ Ok cs → AreStated (table_of y) [] y.laid cs
 are_stated y cs e = all_stated (table_of y) [] y.laid cs (found_each (table_of y) [] (flat_map slots_of y.laid) cs e)
 
--- ---- Contents behind contents.
+-- ---- Concatenated contents.
 
 pub said_append : (ds cs : List Content) → all_declarations (ds ++ cs) ≡ all_declarations ds ++ all_declarations cs
 said_append ds cs = flat_map-append (λ (c : Content). c.said) ds cs

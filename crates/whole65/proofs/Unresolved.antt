@@ -1,4 +1,5 @@
--- A link leaves names open exactly where the whole program lacks some that have to be given.
+-- If a link leaves no name unresolved, the whole program provides the script's imports and the forced imports; conversely,
+-- none is unresolved if these are provided and all rows, exports and assertions have values.
 use Rattle.std.proofs.lemmas.Grind.{common_steps}
 use Rattle.std.proofs.Common.{◌≡◌, ℕ, suc, Bool, true, false, nat_eq, cond, List, [], ◌∷◌, ◌++◌, length, map, filter, slice_get, Option, Some, None, Ok, refl, sym, ◌∙◌, ap, subst, zero, ◌+◌, ◌<◌, arith}
 use Rattle.std.specs.Prelude.{⊤, ℤ, unwrap_or}
@@ -54,14 +55,14 @@ use Rattle.whole65.specs.Offsets.{statements_with_segment}
 use Rattle.link65.specs.Programs as linked
 use Rattle.link65.specs.Names.{unresolved_names, symbol_imports}
 
--- ---- What asks for no section puts nothing there.
+-- ---- Statements that need no section have no parts.
 
--- what holds of the parts in each section that is asked for holds of the parts of all contents
+-- the parts in each requested section satisfy the predicate
 module _ (P : Part → Type 0) where
   abbrev pub Asked : List Content → Type 0
   Asked cs = (g : ℕ) → list_any (nat_eq g) (segment_requests cs) ≡ true → AllByRecursion P (parts_in cs g)
 
-  -- in the segments of which these statements ask for sections
+  -- the parts in each segment in which these statements request a section satisfy the predicate
   abbrev AskedBy : List LaidOutStatement → List Content → Type 0
   AskedBy ls cs = (g : ℕ) → list_any (nat_eq g) (map (λ l. l.context.segment) (filter (λ l. needs_section l.stated) ls)) ≡ true → AllByRecursion P (parts_in cs g)
 
@@ -119,7 +120,7 @@ module _ (s : Script) (placement : Placement) (ys : List Layout) (ms : List Modu
   IsValuedCheck (ForcedImport n) = ⊤
   IsValuedCheck (LinkAssertion act place words f) = HasSome f
 
-  -- an import that comes to a value has a name that is given
+  -- an import that has a value has a name that is provided
   one_given : (export_depth k : ℕ) (w : ℤ) → o.imports export_depth owner k ≡ Ok w → OfKey (IsProvided p) z.imports k
   one_given export_depth k w e = by (slice_get z.imports k) refl (subst (λ r. objects.ImportHasValue p o owner k (slice_get (symbols_at r).imports k)) at_y ((sources_law s placement ys ms h).imports_agree owner k))
     where
@@ -205,7 +206,7 @@ module _ (s : Script) (placement : Placement) (ys : List Layout) (ms : List Modu
       (all_parts_given cs (parts_asked IsValuedPart y cs c.found asked))
       (said_given (all_declarations cs) demands (exports_valued (all_declarations cs) says.are_defined names) (checks_valued [] y.laid [] cs refl (are_stated y cs c.found) asserted))
 
--- ---- From the link.
+-- ---- From the link to the whole program.
 
 forced_all : (p : Program) (ys : List Layout) (ms : List Module) → AreObjectsOfLayouts ys ms → AllByRecursion (IsProvided p) (flat_map (λ (m : Module). m.object.imports) ms) → HaveForcedImports p ys
 forced_all p [] [] h k = tt
@@ -214,8 +215,7 @@ forced_all p (y ∷ ys) (m ∷ ms) h k =
     (forced_hold (IsProvided p) y m h.0 both.0, forced_all p ys ms h.1 both.1)
 forced_all p _ _ h k = absurd h
 
--- Where a link leaves no name open, the names that have to be given in the whole program are: the script's imports, and those
--- that modules import whether or not they use them.
+-- if a link leaves no name unresolved, the whole program provides the script's imports and the modules' forced imports
 pub given_law : (s : Script) (placement : Placement) (ys : List Layout) (ms : List Module) → let p : Program = placed_program s placement ys in AreObjectsOfLayouts ys ms → place_of s (needs_of ys) ≡ Ok placement → unresolved_names s (linked.program_of ms) ≡ [] → AllByRecursion (IsProvided p) (symbol_imports s.symbols) × HaveForcedImports p ys
 given_law s placement ys ms h placed none = grind (arith, common_steps, none_open, forced_all)
 
@@ -230,7 +230,7 @@ any_at name [] i y at e = absurd cc
 any_at name (x ∷ ys) zero y at e = grind (arith, common_steps, list_any-append)
 any_at name (x ∷ ys) (suc i) y at e = grind (arith, common_steps, (any_at name ys i y at e), list_any-append)
 
--- what holds of all rows holds of one of a name, if it is there
+-- if the rows contain one with this name and all satisfy the predicate, that row does
 row_of : (P : SegmentRow → Type 0) (rows : List SegmentRow) (name : List ℕ) → AllByRecursion P rows → has_row rows name ≡ true → (r : SegmentRow) × P r × (r.name ≡ name)
 unfolding has_row
 row_of P [] name h e = absurd cc
@@ -248,7 +248,7 @@ part_bytes p fill name (x ∷ rest) owner position (suc i) bytes y e h =
     let (begin, mine, there) = part_bytes p fill name rest (suc owner) (end_of position (module_items owner x name)) i others y e more in
     (begin, mine, grind (arith, common_steps))
 
--- ---- To the link.
+-- ---- From the whole program to the link.
 
 module _ (s : Script) (placement : Placement) (ys : List Layout) (ms : List Module) (bytes : RowBytes) (h : AreObjectsOfLayouts ys ms) (placed : place_of s (needs_of ys) ≡ Ok placement) (rows : AllByRecursion (EncodesRow (whole.placed_program s placement ys) ys bytes) s.rows) where
   abbrev whole_program : Program
@@ -301,7 +301,7 @@ module _ (s : Script) (placement : Placement) (ys : List Layout) (ms : List Modu
       (module_given s placement ys ms h owner y at_y m k.0 forced.0 exported.0 asserted.0 (asked_valued owner y at_y m k.0))
       (modules_given rest ns (suc owner) k.1 (λ i. up (suc i) ∙ ap (slice_get ys) (next i)) forced.1 exported.1 asserted.1)
 
--- A link leaves no name open where they are given, and all that has to have a value in the whole program has one: rows, exports
--- and assertions.
+-- A link leaves no name unresolved if the whole program provides the script's imports and the forced imports, and all rows,
+-- exports and assertions have values.
 pub resolved_law : (s : Script) (placement : Placement) (ys : List Layout) (ms : List Module) (bytes : RowBytes) → let p : Program = placed_program s placement ys in AreObjectsOfLayouts ys ms → place_of s (needs_of ys) ≡ Ok placement → AllByRecursion (IsProvided p) (symbol_imports s.symbols) → HaveForcedImports p ys → HaveExportValues p 0 ys → PassAssertions p 0 ys → AllByRecursion (EncodesRow p ys bytes) s.rows → unresolved_names s (linked.program_of ms) ≡ []
 resolved_law s placement ys ms bytes h placed own forced exported asserted rows = grind (arith, common_steps, none_open, modules_given)

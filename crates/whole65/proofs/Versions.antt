@@ -1,4 +1,4 @@
--- The object of version 1 of statements, as one of those that places' origins make.
+-- Version 1 of the object of statements is the object that results from origins with lines only.
 use Rattle.std.proofs.lemmas.Grind.{common_steps}
 use Rattle.std.proofs.Common.{arith, ◌≡◌, ℕ, ◌+◌, not, List, [], ◌∷◌, ◌++◌, map, filter, refl, ◌∙◌, ap}
 use Rattle.std.specs.Prelude.{filter_map}
@@ -31,7 +31,7 @@ kept_in_one [] = refl
 kept_in_one (f ∷ fs) = grind (arith, common_steps, (kept_in_one fs), empty_in_one)
 
 module _ (origins : SourceLocation → Origin) (sections imports : List ℕ) where
-  -- places without their files
+  -- origins without files
   abbrev lines : SourceLocation → Origin
   lines place = line_origin (origins place)
 
@@ -65,7 +65,7 @@ module _ (origins : SourceLocation → Origin) (sections imports : List ℕ) whe
 
 -- ---- Objects.
 
--- what an object of statements says in version 1 is the object of the same statements by lines alone
+-- version 1 of an object is the object of version 1 of the same contents, with origins that have only lines
 pub by_lines : (version : ℕ) (files : List (List ℕ)) (origins : SourceLocation → Origin) (gs : List Segment) (names : List (List ℕ)) (cs : List Content) → version_one_object (object_by version files origins gs names cs) ≡ object_by 1 [] (λ place. line_origin (origins place)) gs names cs
 by_lines version files origins gs names cs =
     let sections : List ℕ = section_keys cs in

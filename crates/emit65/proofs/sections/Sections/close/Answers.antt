@@ -7,4 +7,4 @@ pub returns : goal.returns
 returns c = λ xs h.
     let files = names_in c.args.self.files in
     let list = c.in_ok-entries.ensures in
-    stands_closed c.args.self _ xs refl refl (list.equivalent files) (list.standing files) h
+    stands_closed c.args.self _ xs refl refl (list.equivalent files) (list.file_bounds files) h

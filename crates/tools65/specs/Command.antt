@@ -51,9 +51,9 @@ IsAssemblyOutcome a x o = IsResultOutcome a x.out x.err x.result o
 abbrev pub IsOutcomeOfAssemble : AssembleView → Files → Outcome → Type 0
 IsOutcomeOfAssemble a m o = (x : asm.Outcome) × IsOutcome m (job_in a) x × IsAssemblyOutcome a x o
 
--- A run has an outcome that `IsOutcomeOf` allows for the files before the run, or one that only reports that memory ran out. The
--- run prints the outcome's texts, writes its files and returns its status, or memory ran out while it wrote the files. `Option
--- Files` are the files after the run: `None` means that they aren't known, and then no run satisfies this.
+-- A run has an outcome that `IsOutcomeOf` allows for the files before the run, or one that only reports that memory ran out.
+-- The run prints the outcome's texts, writes its files and returns its status, or memory ran out while it wrote the files.
+-- `Option Files` are the files after the run: `None` means that they aren't known, and then no run satisfies this.
 abbrev pub RunHasOutcome : (Files → Outcome → Type 0) → List ℕ → Files → Option Files → Streams → Status → Type 0
 RunHasOutcome IsOutcomeOf memory_text m new io status =
     (o : Outcome) × (IsOutcomeOf m o ⊎ (o ≡ error_outcome memory_text)) × (CommitsOutcome o m new io status ⊎ HasMemoryFailure o memory_text m new io status)
@@ -75,8 +75,8 @@ command_memory_message (assemble a) = file_memory_message a.source
 command_memory_message (link l) = link_memory_message
 command_memory_message (archive a) = file_memory_message a.library
 
--- A run with these arguments: of the command line that they parse to; if they don't parse, the run reports an error. Memory may
--- also run out before they are parsed.
+-- A run with these arguments: of the command line that they parse to; if they don't parse, the run reports an error. Memory
+-- may also run out before they are parsed.
 abbrev pub ArgsRunHasOutcome : Result CommandView LineFault → Files → Option Files → Streams → Status → Type 0
 ArgsRunHasOutcome (Ok line) m new io status =
     RunHasOutcome (IsOutcomeOfCommand line) (command_memory_message line) m new io status ⊎ CommitsOutcome (error_outcome arguments_memory_message) m new io status

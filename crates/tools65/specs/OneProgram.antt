@@ -32,14 +32,14 @@ use Rattle.output65.specs.Outputs.{error_outcome, with_map}
 
 -- ---- Sources, their objects, and what they are as one program.
 
--- the input of a run of the assembler: all files at that time, and the job, which names the source file, the folders of included files
--- and the constants that the command line defines
+-- the input of a run of the assembler: all files at that time, and the job, which names the source file, the folders of
+-- included files and the constants that the command line defines
 pub record Source : Type 0 where
   pub files : Files
   pub job : Job
 
--- A module's object is the one that the assembler makes of a source, or this object in version 1 of the file format, which has no
--- file names: its locations have only lines.
+-- A module's object is the one that the assembler makes of a source, or this object in version 1 of the file format, which
+-- has no file names: its locations have only lines.
 abbrev pub IsObjectOf : Source → Module → Type 0
 IsObjectOf x m = (o : asm.Outcome) × (p : Object) × IsOutcome x.files x.job o × (o.result ≡ Ok p) × IsEitherVersion p m.object
 
@@ -49,9 +49,9 @@ AreObjectsOf (x ∷ xs) (m ∷ ms) = IsObjectOf x m × AreObjectsOf xs ms
 AreObjectsOf [] (m ∷ ms) = ⊥
 AreObjectsOf (x ∷ xs) [] = ⊥
 
--- The expanded statements of a source have this layout, and none is rejected at its line. (Errors that are found after the last
--- line are stated elsewhere. `AreLaidOut` states which state a source reaches: `state` is the layout of the statements before the
--- first rejected one, and `fault` is its error.)
+-- The expanded statements of a source have this layout, and none is rejected at its line. (Errors that are found after the
+-- last line are stated elsewhere. `AreLaidOut` states which state a source reaches: `state` is the layout of the statements
+-- before the first rejected one, and `fault` is its error.)
 abbrev pub IsLayoutOf : Source → Layout → Type 0
 IsLayoutOf x y = AreLaidOut x.files x.job (record { state = y; fault = None })
 
@@ -66,8 +66,8 @@ AreLayoutsOf (x ∷ xs) [] = ⊥
 abbrev pub HasImage : List ℕ → Script → List Source → List OutputFile → Type 0
 HasImage output s xs files = (ys : List Layout) × AreLayoutsOf xs ys × IsWholeProgramImage output s ys files
 
--- Linking the objects that the assembler makes of sources gives files if and only if the sources have an image as one program, and
--- these files are the image.
+-- Linking the objects that the assembler makes of sources gives files if and only if the sources have an image as one
+-- program, and these files are the image.
 abbrev pub OneProgramLaw : Type 0
 OneProgramLaw =
     (output : List ℕ) (s : Script) (xs : List Source) (ms : List Module) (files : List OutputFile) →
@@ -99,12 +99,14 @@ AreModulesOfLibrary s m before library ms =
     (es : List Entry) × (indices : List ℕ) × (index_in m library ≡ Ok es)
     × IsSelection es (open_names s (program_of before)) (strong_names s (program_of before)) indices × AreModulesOfEntries m library (selected_entries es indices) ms
 
--- the modules of an input, given the modules before it: of a library the members that are needed, of an object file its module
+-- the modules of an input, given the modules before it: of a library the members that are needed, of an object file its
+-- module
 abbrev pub AreModulesOfInput : Script → Files → List Module → List ℕ → List Module → Type 0
 AreModulesOfInput s m before name ms =
     IfLibraryElse (is_library_in m name) (AreModulesOfLibrary s m before name ms) ((x : Module) × IsModuleOf m (file_input name) x × (ms ≡ x ∷ []))
 
--- the modules of all inputs, given the modules before them; selection doesn't reject a name that is defined twice, the link does
+-- the modules of all inputs, given the modules before them; selection doesn't reject a name that is defined twice, the link
+-- does
 abbrev pub AreModulesOfInputs : Script → Files → List Module → List (List ℕ) → List Module → Type 0
 AreModulesOfInputs s m before [] ms = ms ≡ []
 AreModulesOfInputs s m before (name ∷ names) ms =
@@ -113,8 +115,8 @@ AreModulesOfInputs s m before (name ∷ names) ms =
 
 -- ---- A run.
 
--- The script of a command line is this one, and the modules that the command line selects are the objects that the assembler makes
--- of these sources, in this order, each in either version of the format.
+-- The script of a command line is this one, and the modules that the command line selects are the objects that the assembler
+-- makes of these sources, in this order, each in either version of the format.
 pub record SelectsObjectsOf (l : LinkView) (m : Files) (s : Script) (xs : List Source) : Type 0 where
   pub text : List ℕ
   pub file : get m l.script ≡ Some text
@@ -140,8 +142,9 @@ IsLinkError l o = (e : LinkCommandFault) × (o ≡ error_outcome (error_message 
 abbrev pub HasNoImage : LinkView → Script → List Source → Type 0
 HasNoImage l s xs = (files : List OutputFile) → HasImage (output_of l) s xs files → ⊥
 
--- An outcome of a link's command line with these files: whether it succeeds, and which files it has but for the map, is determined
--- by the image of the sources as one program. (That the modules are objects of these sources is a premise of `LinksWholeProgram`.)
+-- An outcome of a link's command line with these files: whether it succeeds, and which files it has but for the map, is
+-- determined by the image of the sources as one program. (That the modules are objects of these sources is a premise of
+-- `LinksWholeProgram`.)
 pub record IsWholeProgramOutcome (l : LinkView) (s : Script) (xs : List Source) (m : Files) (o : Outcome) : Type 0 where
   pub is_link_outcome : IsOutcomeOfLink l m o
   -- if the sources have an image as one program, the outcome has its files, and then the map
@@ -151,11 +154,11 @@ pub record IsWholeProgramOutcome (l : LinkView) (s : Script) (xs : List Source) 
       ((files : List OutputFile) × HasImage (output_of l) s xs files × HasFiles l files o)
       ⊎ (HasNoImage l s xs × IsLinkError l o)
 
--- What `one_program` states of a run: a link of sources' objects writes the image that the sources have as one program, or reports an error if they have
--- none; or memory runs out, which it reports.
+-- What `one_program` states of a run: a link of sources' objects writes the image that the sources have as one program, or
+-- reports an error if they have none; or memory runs out, which it reports.
 pub record AgreesWithWholeProgram (l : LinkView) (s : Script) (xs : List Source) (m : Files) (new : Option Files) (io : Streams) (status : Status) : Type 0 where
-  -- the run commits an outcome of the whole program, or memory ran out while it wrote the files; or it only reports that memory
-  -- ran out
+  -- the run commits an outcome of the whole program, or memory ran out while it wrote the files; or it only reports that
+  -- memory ran out
   pub run_effect : RunHasOutcome (IsWholeProgramOutcome l s xs) link_memory_message m new io status
   -- a run that succeeds wrote the image and the map
   pub on_success :

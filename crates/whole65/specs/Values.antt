@@ -28,8 +28,8 @@ pub data Provider : Type 0 where
 pub record Program : Type 0 where
   -- the binding of a name in an expression of a statement, if it has one
   pub binding : (owner index : ℕ) → Tree → Option SymbolBinding
-  -- the index after the last statement of a module. No statement has it; exported names are evaluated there, in the global scope
-  -- (`global_context` of Modules).
+  -- the index after the last statement of a module. No statement has it; exported names are evaluated there, in the global
+  -- scope (`global_context` of Modules).
   pub global_index : (owner : ℕ) → ℕ
   pub provider : List ℕ → Provider
   -- the address of a statement

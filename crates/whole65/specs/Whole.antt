@@ -1,5 +1,5 @@
--- The image of several modules as one program. A row is an entry of SEGMENTS in the linker script: a segment's areas, alignment
--- and fill value. An area is an entry of MEMORY.
+-- The image of several modules as one program. A row is an entry of SEGMENTS in the linker script: a segment's areas,
+-- alignment and fill value. An area is an entry of MEMORY.
 use Rattle.std.specs.Prelude.{◌≡◌, ◌≢◌, ℕ, suc, ℤ, pos, false, List, [], ◌∷◌, None, Ok, ◌++◌, ⊤}
 use Rattle.std.specs.List.{flat_map, AllByRecursion}
 use Rattle.syntax65.specs.Trees.{name}
@@ -23,8 +23,8 @@ use Rattle.whole65.specs.Values.{Program, Value, by_nobody}
 
 -- ---- Names and expressions that must have a value even if they aren't used.
 
--- A name that a module exports has a value in the module's global scope. (`name false (x ∷ [])` is the plain name `x`, without
--- a leading `::`.)
+-- A name that a module exports has a value in the module's global scope. (`name false (x ∷ [])` is the plain name `x`,
+-- without a leading `::`.)
 abbrev pub HasExportValue : Program → ℕ → List ℕ → Type 0
 HasExportValue p owner x = (v : ℤ) × Value p owner (p.global_index owner) (name false (x ∷ [])) v
 

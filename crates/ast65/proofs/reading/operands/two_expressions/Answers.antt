@@ -12,7 +12,7 @@ returns-in_err-first c =
 
 pub returns-in_err-second : goal.returns-in_err-second
 returns-in_err-second c =
-    parses_fault _ _ c.from_residual-in_err-second.result c.in_err-second.field-0.0 c.from_residual-in_err-second.ensures.1 c.in_err-second.ensures.no_failure
+    parses_fault _ _ c.from_residual-in_err-second.result c.in_err-second.field-0.0 c.from_residual-in_err-second.ensures.1 c.in_err-second.ensures.inside
     (first_goes (IsExpression (lexemes c.args.first.now)) (λ x. AndThenReturn (IsExpression (lexemes c.args.second.now)) (λ y. Ok (x, Some y))) (λ x. x) c.from_residual-in_err-second.result c.in_ok-first.first c.in_ok-first.ensures.value
     (then_fault _ _ _ c.from_residual-in_err-second.result c.in_err-second.field-0.0 c.from_residual-in_err-second.ensures.1 c.in_err-second.ensures.value))
 

@@ -59,6 +59,7 @@ count = λ c. c.kept
     "crates/low65/proofs/store/read_all/Answers.antt": """use Rattle.low65.proofs.store.read_all.Goals as goal
 pub returns-in-Gone-clause-read : goal.returns-in-Gone-clause-read
 returns-in-Gone-clause-read c = c.args.place.line ∙ c.in_ok-moved.ensures.moved
+other c = c.in_err-text.ensures.read
 """,
     "crates/low65/mutants/no_line.edit": 'file: src/store.rt\nold: if place.line == 0 { Err(Fault::Gone) }\nnew: if true { Err(Fault::Gone) }\n',
     "crates/high65/src/lib.rt": """ghost use Rattle.high65.specs.Failing.{Gives};
@@ -127,7 +128,11 @@ CASES = {
     "a label of one crate": ([LABEL], [
         ("low65/src/store.rt", "ensures read {", "ensures result {"), ("low65/proofs/store/read_all/Answers.antt", "clause-read", "clause-result"),
         ("high65/proofs/all/Answers.antt", "read_all.ensures.read", "read_all.ensures.result"),
+        ("low65/proofs/store/read_all/Answers.antt", "text.ensures.read", "text.ensures.result"),
         ("high65/proofs/all/Answers.antt", "bytes.ensures.read", "bytes.ensures.result"), ("PROVED", "`read`", "`result`")]),
+    "a label of a crate that no proof of the other can call": (["high65\tlabel\t-\tread\tresult"], [
+        ("high65/src/lib.rt", "ensures read {", "ensures result {"), ("high65/proofs/all/Answers.antt", "c.all.ensures.read", "c.all.ensures.result"),
+        ("high65/proofs/all/Answers.antt", "bytes.ensures.read", "bytes.ensures.result")]),
     "a method": (["low65\tmethod\tstore.Place\tmoved\tlater"], [
         ("low65/src/store.rt", "fn moved", "fn later"), ("low65/src/store.rt", ".moved(", ".later("), ("low65/proofs/store/read_all/Answers.antt", "in_ok-moved", "in_ok-later")]),
     "a field and a variable": ([LINE, LINE.replace("field", "variable")], [

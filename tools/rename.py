@@ -242,8 +242,10 @@ class Renaming:
         row = (near or rows)[0]
         if not row and self.labelled[word] and file.area == "proofs" and function not in self.functions:
             # (a call whose result has a name is known by that name alone)
-            row = next(iter(self.labelled[word].values()))[0]
-            self.notes.append(f"{file.where(at)}: {word} became {row.new}: is it a clause of a function of row {row.line}?")
+            callable_crates = {file.crate, *self.tree.needs[file.crate], "*"}
+            row = next((it for rows in self.labelled[word].values() for it in rows if callable_crates & {*it.crates}), None)
+            if row:
+                self.notes.append(f"{file.where(at)}: {word} became {row.new}: is it a clause of a function of row {row.line}?")
         if row and (file.area == "src" and self.applies(row, file) or file.area != "src"):
             self.change(file, at, word, row, row.new)
 

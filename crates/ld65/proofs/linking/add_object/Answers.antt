@@ -16,21 +16,21 @@ pub returns-in_err-end-clause-added : goal.returns-in_err-end-clause-added
 returns-in_err-end-clause-added g c =
     let p = err_from_is_err_and c.from_residual-in_err-end.result c.from_residual-in_err-end.ensures.1 in
     let begun = c.in_ok-begin_module.ensures.begun in
-    rw (p.1, p.2) (no_records _ (input_of c.args.object.now) c.args.linker.now _ c.in_ok-head.head c.begin_module.new.self c.add_records.new.linker c.in_err-end.field-0.0 c.in_ok-head.ensures.frame.files c.in_ok-head.ensures.read begun c.in_err-end.ensures.fed)
+    rw (p.1, p.2) (no_records _ (input_of c.args.object.now) c.args.linker.now _ c.in_ok-head.head c.begin_module.new.self c.add_records.new.linker c.in_err-end.field-0.0 c.in_ok-head.ensures.frame.files c.in_ok-head.ensures.read begun c.in_err-end.ensures.added)
 
 pub returns-in_err-check_end-clause-added : goal.returns-in_err-check_end-clause-added
 returns-in_err-check_end-clause-added g c =
     let p = err_from_is_err_and c.from_residual-in_err-check_end.result c.from_residual-in_err-check_end.ensures.1 in
     let begun = c.in_ok-begin_module.ensures.begun in
     let files = c.in_ok-head.ensures.frame.files in
-    rw (p.1, p.2) (more_after _ (input_of c.args.object.now) c.args.linker.now _ _ c.in_ok-head.head c.in_ok-end.end c.begin_module.new.self c.add_records.new.linker c.in_err-check_end.field-0.0 files (c.in_ok-end.ensures.files ∙ files) c.in_ok-head.ensures.read begun c.in_ok-end.ensures.fed c.in_err-check_end.ensures.read)
+    rw (p.1, p.2) (more_after _ (input_of c.args.object.now) c.args.linker.now _ _ c.in_ok-head.head c.in_ok-end.end c.begin_module.new.self c.add_records.new.linker c.in_err-check_end.field-0.0 files (c.in_ok-end.ensures.files ∙ files) c.in_ok-head.ensures.read begun c.in_ok-end.ensures.added c.in_err-check_end.ensures.read)
 
 pub returns-clause-added : goal.returns-clause-added
 returns-clause-added g c =
     let begun = c.in_ok-begin_module.ensures.begun in
     let files = c.in_ok-head.ensures.frame.files in
     let script = c.in_ok-end.ensures.keeps.script ∙ c.in_ok-begin_module.ensures.keeps.script in
-    whole_module _ (input_of c.args.object.now) c.args.linker.now _ _ c.in_ok-head.head c.in_ok-end.end c.begin_module.new.self c.add_records.new.linker c.end_module.new.self c.end_module.result files (c.in_ok-end.ensures.files ∙ files) c.in_ok-head.ensures.read begun c.in_ok-end.ensures.fed c.in_ok-check_end.ensures.read script c.end_module.ensures.ended
+    whole_module _ (input_of c.args.object.now) c.args.linker.now _ _ c.in_ok-head.head c.in_ok-end.end c.begin_module.new.self c.add_records.new.linker c.end_module.new.self c.end_module.result files (c.in_ok-end.ensures.files ∙ files) c.in_ok-head.ensures.read begun c.in_ok-end.ensures.added c.in_ok-check_end.ensures.read script c.end_module.ensures.ended
 
 pub returns-in_err-head-clause-frame : goal.returns-in_err-head-clause-frame
 returns-in_err-head-clause-frame g c modules stands =
@@ -58,7 +58,7 @@ returns-clause-frame g c modules stands =
     let fed = c.in_ok-end.ensures.frame modules c.args.object.now.name.now _ (begun modules stands) in
     let end = c.in_ok-check_end.ensures.frame in
     untouched _ _ _ c.end_module.result (end.files ∙ fed.files ∙ head.files) (kept_count _ _ _ end.count ∙ none_passed _ _ _ fed.count ∙ kept_count _ _ _ head.count)
-    (end_free c.in_ok-head.head c.in_ok-end.end _ (input_of c.args.object.now) c.args.linker.now c.begin_module.new.self c.add_records.new.linker c.end_module.new.self c.end_module.result begun c.in_ok-end.ensures.fed c.end_module.ensures.ended modules stands)
+    (end_free c.in_ok-head.head c.in_ok-end.end _ (input_of c.args.object.now) c.args.linker.now c.begin_module.new.self c.add_records.new.linker c.end_module.new.self c.end_module.result begun c.in_ok-end.ensures.added c.end_module.ensures.ended modules stands)
 
 pub returns-in_err-head-clause-within : goal.returns-in_err-head-clause-within
 returns-in_err-head-clause-within g c modules stands failed fits =
@@ -82,4 +82,4 @@ returns-in_err-check_end-clause-within g c modules stands failed fits =
 pub returns-clause-within : goal.returns-clause-within
 returns-clause-within g c modules stands failed fits =
     let begun = c.in_ok-begin_module.ensures.begun in
-    absurd (end_free c.in_ok-head.head c.in_ok-end.end _ (input_of c.args.object.now) c.args.linker.now c.begin_module.new.self c.add_records.new.linker c.end_module.new.self c.end_module.result begun c.in_ok-end.ensures.fed c.end_module.ensures.ended modules stands failed)
+    absurd (end_free c.in_ok-head.head c.in_ok-end.end _ (input_of c.args.object.now) c.args.linker.now c.begin_module.new.self c.add_records.new.linker c.end_module.new.self c.end_module.result begun c.in_ok-end.ensures.added c.end_module.ensures.ended modules stands failed)

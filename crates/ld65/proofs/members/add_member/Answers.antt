@@ -11,7 +11,7 @@ returns-in_err-name-clause-added g c =
 
 pub returns-in-Ok-clause-added : goal.returns-in-Ok-clause-added
 returns-in-Ok-clause-added g c =
-    member_fed _ c.args.member.now.library.now c.args.member.now.entry.now c.args.linker.now c.add_object.new.linker _ (c.as_slice.ensures ∙ c.in_ok-name.ensures) c.in-Ok.ensures.modules
+    member_fed _ c.args.member.now.library.now c.args.member.now.entry.now c.args.linker.now c.add_object.new.linker _ (c.as_slice.ensures ∙ c.in_ok-name.ensures) c.in-Ok.ensures.added
 
 pub returns-in-Ok-clause-frame : goal.returns-in-Ok-clause-frame
 returns-in-Ok-clause-frame g c =
@@ -21,7 +21,7 @@ returns-in-Ok-clause-frame g c =
 pub returns-in-Err-clause-added : goal.returns-in-Err-clause-added
 returns-in-Err-clause-added g c =
     let called = c.as_slice.ensures in
-    rw c.of_member.ensures (member_refused _ c.args.member.now.library.now c.args.member.now.entry.now c.args.linker.now c.add_object.new.linker _ c.in-Err.fault (c.in_ok-name.ensures) (rw called at c.in-Err.ensures.modules))
+    rw c.of_member.ensures (member_refused _ c.args.member.now.library.now c.args.member.now.entry.now c.args.linker.now c.add_object.new.linker _ c.in-Err.fault (c.in_ok-name.ensures) (rw called at c.in-Err.ensures.added))
 
 pub returns-in-Err-clause-frame : goal.returns-in-Err-clause-frame
 returns-in-Err-clause-frame g c =

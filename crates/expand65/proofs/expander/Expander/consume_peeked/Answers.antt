@@ -5,8 +5,8 @@ use Rattle.expand65.specs.Representation.{measure_of}
 use Rattle.expand65.proofs.BufferedLines.{following, less_after, line_given}
 use Rattle.expand65.proofs.expander.Expander.consume_peeked.Goals as goal
 
-pub returns-clause-given : goal.returns-clause-given
-returns-clause-given c = λ n ts (right, bare, next) is.
+pub returns-clause-statements : goal.returns-clause-statements
+returns-clause-statements c = λ n ts (right, bare, next) is.
     let old = c.args.self.now in
     let e = c.consume_peeked.ensures in
     let P : PendingLine → Type 0 = λ f. YieldsStatements old (line_statements (take n ts) (drop n ts)) (following old c.consume_peeked.new.self f) in
@@ -20,4 +20,4 @@ returns-clause-less c = λ ts (right, bare, next).
     subst P (sym bare) (less_after old c.consume_peeked.new.self right bare next.1 e.room e.innermost.outer)
 
 pub returns-clause-positioned : goal.returns-clause-positioned
-returns-clause-positioned c = λ m ts (right, bare, next) h. c.consume_peeked.ensures.stands m ts next h
+returns-clause-positioned c = λ m ts (right, bare, next) h. c.consume_peeked.ensures.stack_position m ts next h

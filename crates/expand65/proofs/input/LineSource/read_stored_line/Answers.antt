@@ -10,8 +10,8 @@ use Rattle.expand65.proofs.StepSequences.{where_so}
 use Rattle.expand65.proofs.Iterations.{takes_in_turn}
 use Rattle.expand65.proofs.input.LineSource.read_stored_line.Goals as goal
 
-pub returns-in-Repeat-clause-taken : goal.returns-in-Repeat-clause-taken
-returns-in-Repeat-clause-taken g c =
+pub returns-in-Repeat-clause-next_line : goal.returns-in-Repeat-clause-next_line
+returns-in-Repeat-clause-next_line g c =
     let old = c.in-Repeat.replay in
     let new = c.read_stored_line-in-Repeat.new.self in
     let r = c.read_stored_line-in-Repeat.result in

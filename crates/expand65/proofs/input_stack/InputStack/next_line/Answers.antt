@@ -64,15 +64,15 @@ returns-in_err-line-clause-stopped g c = λ stands.
     let moves : IsLineOf old.top.source old.location → c.update_location.new.location ≡ next_location mid old.location = λ is. c.update_location.ensures ∙ c.in_ok-next.ensures.onward old.location is not_end in
     rw (p.1, p.2) (stopped_so o (λ m. FailsAtLine m last_failure (remaining_of m old)) old new f same (λ failed. fails_within o last_failure old mid c.update_location.new.location next (c.in_err-line.ensures.file failed) c.in_ok-next.ensures.next_item c.in_ok-next.ensures.same not_end c.update_location.ensures (reading_within o old mid c.update_location.new.location last_failure f failed c.in_ok-next.ensures.at stops moves stands))))
 
-pub returns-then-is_end-clause-stands : goal.returns-then-is_end-clause-stands
-returns-then-is_end-clause-stands g c = λ stands.
+pub returns-then-is_end-clause-stack_position : goal.returns-then-is_end-clause-stack_position
+returns-then-is_end-clause-stack_position g c = λ stands.
     (let o = g.S.Store.files c.args.store.now in
     let old = c.args.self.now in
     let new : InputStack = record { top = record { source = c.begin_line.new.self; conditions = old.top.conditions; return_location = old.top.return_location }; outer = old.outer; budget = old.budget; location = old.location } in
     stands_by o (λ m. (q : SourceLocation) → IsSourceAt m old.top.source q → IsSourceAt m c.begin_line.new.self q) old new (λ m at h. reads_on m old new refl refl c.in_ok-next.ensures.kind refl (at old.location (innermost_at m old h)) h) c.in_ok-next.ensures.at stands)
 
-pub returns-clause-stands : goal.returns-clause-stands
-returns-clause-stands g c = λ stands.
+pub returns-clause-stack_position : goal.returns-clause-stack_position
+returns-clause-stack_position g c = λ stands.
     (let o = g.S.Store.files c.args.store.now in
     let old = c.args.self.now in
     let mid = c.begin_line.new.self in

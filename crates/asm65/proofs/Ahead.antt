@@ -1,4 +1,4 @@
--- The statements of a line that is taken where it stands.
+-- The statements of a peeked line, which needs no expansion.
 use Rattle.std.proofs.lemmas.Bool.Decides.{nat_tests}
 use Rattle.std.proofs.Common.{◌≡◌, ◌∙◌, ℕ, Bool, true, false, ◌+◌, ◌<◌, ◌≤◌, List, [], ◌∷◌, length, take, drop, refl, subst, arith, Option}
 use Rattle.std.specs.Prelude.{Ok, Err, ◌==◌}
@@ -21,7 +21,7 @@ use Rattle.asm65.specs.Assembly.{AnswersWithoutFile}
 use Rattle.asm65.specs.declared.assembler.Assembler.{Assembler}
 use Rattle.asm65.specs.declared.driver.Run.{Run}
 
--- the statements of a line more may be taken
+-- before a peeked line, there is headroom for four openings
 pub roomy_ahead : (run : Run) (p : Peeked) (ts : List Lexeme) → IsPeekedLine run.expander p ts → IsRunning run → HasHeadroom 4 run.assembler
 roomy_ahead run p ts (right, bare, next) (t, reached, h) = (h.count, t, omega (arith, h.room, left), h.holds)
   where
@@ -31,7 +31,7 @@ roomy_ahead run p ts (right, bare, next) (t, reached, h) = (h.count, t, omega (a
 pub roomy_less : (less more : ℕ) (a : Assembler) → HasHeadroom (more + less) a → HasHeadroom more a
 roomy_less less more a (count, t, room, holds) = (count, t, omega (arith, room), holds)
 
--- and what stands behind one that was
+-- after the label of the line, there is headroom for one opening
 pub roomy_after : (IsValid : Type 0) (Is : State → _ → Type 0) (old new : Assembler) → HasHeadroom 4 old → RefinesAllTransitions IsValid Is 2 old new (Ok tt) → HasHeadroom 1 new
 roomy_after IsValid Is old new (count, t, room, holds) taken =
     let b = taken count t (omega (arith, room)) holds in
@@ -69,7 +69,7 @@ module _ (o : Option Files) (last_failure : LastFailure) (location : SourceLocat
   label_taken [] ts old mid new v r some taken rest = absurd (some refl)
   label_taken (l ∷ ls) ts old mid new v r some taken rest = one_more old mid new (label (l ∷ ls)) (rest_statements ts) r (record { taken = taken; stopped = tt }) rest
 
--- ---- Whether a line was taken.
+-- ---- Whether a line was assembled.
 
 pub line_taken : (o : Option Files) (last_failure : LastFailure) (old new : Run) (b : Bool) → b ≡ true → AssemblesOptionalLine o last_failure old new (Ok b) → AssemblesLine o last_failure old new (Ok tt)
 line_taken o last_failure old new true e h = h

@@ -1,4 +1,4 @@
--- What slots come to, and an assembler behind the last line.
+-- The resolution of slots, and the result of an assembler after the last line.
 use Rattle.std.proofs.Common.{◌≡◌, ◌∙◌, ◌||◌, ℕ, Bool, true, false, List, refl, sym, ap, [], ◌∷◌, ◌++◌, subst, append_assoc, length, map}
 use Rattle.base65.specs.Outcome.{◌>>=◌, Unless}
 use Rattle.ast65.specs.declared.fault.AsmFault.{AsmFault}
@@ -36,7 +36,7 @@ use Rattle.asm65.specs.Assembly.{located_result, is_system_error_result, is_diag
 use Rattle.asm65.specs.Internal.AssemblerState.{Represents}
 use Rattle.asm65.specs.Internal.RunState.{AreFaultySlots, AreInitialEntries, AreResolvedSlots, RefinesObject, IsFaultySlot, IsObjectOf, IsResolvedSlot, CanReplace, HasLocation}
 
--- ---- Faults from outside.
+-- ---- System errors.
 
 pub unless : (b : Bool) (P : Type 0) → (b ≡ false → P) → Unless b P
 unless true P h = tt
@@ -50,7 +50,7 @@ pub certain : (b : Bool) (P : Type 0) → Unless b P → b ≡ false → P
 certain true P u e = absurd cc
 certain false P u e = u
 
--- a fault that isn't from outside is the one that was found
+-- if an error is no system error, memory didn't run out
 pub found_inside : (e : AsmFault) (P : Type 0) → Unless (is_out_of_memory e) P → is_system_error e ≡ false → P
 found_inside e P h k = certain (is_out_of_memory e) P h (either_false (is_out_of_memory e) (is_failure e) k)
 
@@ -58,9 +58,9 @@ pub no_more : (b c : Bool) → (b ≡ true → c ≡ true) → c ≡ false → b
 no_more true c h e = absurd (let both : true ≡ false = sym (h refl) ∙ e in cc)
 no_more false c h e = refl
 
--- ---- One more entry.
+-- ---- A further entry.
 
--- lists that are nothing together
+-- both parts of an empty concatenation are empty
 pub none_first : {A : Type 0} (xs ys : List A) → xs ++ ys ≡ [] → xs ≡ []
 none_first [] ys h = refl
 none_first (x ∷ xs) ys h = absurd cc
@@ -69,7 +69,7 @@ none_last : {A : Type 0} (xs ys : List A) → xs ++ ys ≡ [] → ys ≡ []
 none_last [] ys h = h
 none_last (x ∷ xs) ys h = absurd cc
 
--- an entry that doesn't wait holds its content
+-- an entry that isn't deferred represents a resolved slot
 known_slot : (files : List (List ℕ)) (e : SectionEntry) → ((w : Box Fixup) → e ≡ FixupEntry w → ⊥) → slot_of files e ≡ resolved (content_of files e)
 known_slot files (Bytes g bytes) h = refl
 known_slot files (Reserve g n) h = refl
@@ -77,7 +77,7 @@ known_slot files (Value width g o f) h = refl
 known_slot files (DeclarationEntry t) h = refl
 known_slot files (FixupEntry w) h = absurd (h w refl)
 
--- and stays as it is
+-- the resolution of such an entry is the entry itself, without a warning
 pub known_settled : (y : Symbols) (files : List (List ℕ)) (e : SectionEntry) (now : ResolveState) → ((w : Box Fixup) → e ≡ FixupEntry w → ⊥) → AreInitialEntries files (e ∷ []) → IsResolvedSlot y files (slot_of files e) e now now
 known_settled y files e now h fed =
     let is = known_slot files e h in
@@ -91,7 +91,7 @@ known_settled y files e now h fed =
       err = sym (append-nil now.err);
     }
 
--- an entry stands in the place of its content
+-- an entry that isn't deferred may replace its content
 pub replaced : (files : List (List ℕ)) (pos : SourcePos) (e : SectionEntry) → HasLocation pos e → CanReplace files (content_of files e) e
 replaced files pos (Bytes g bytes) h = slots_same (resolved (content_of files (Bytes g bytes)) ∷ [])
 replaced files pos (Reserve g n) h = slots_same (resolved (content_of files (Reserve g n)) ∷ [])
@@ -99,7 +99,7 @@ replaced files pos (Value width g o f) h = slots_same (resolved (content_of file
 replaced files pos (DeclarationEntry t) h = slots_same (resolved (content_of files (DeclarationEntry t)) ∷ [])
 replaced files pos (FixupEntry w) h = absurd h
 
--- it stands in one of the files
+-- if the file index of its location is below a bound, so is that of the entry
 pub stands_there : (count : ℕ) (pos : SourcePos) (e : SectionEntry) → nat_lt pos.file count ≡ true → HasLocation pos e → has_file_below count e ≡ true
 stands_there count pos (Bytes g bytes) lt h = refl
 stands_there count pos (Reserve g n) lt h = refl
@@ -107,7 +107,7 @@ stands_there count pos (Value width g o f) lt h = ap (λ (p : SourcePos). nat_lt
 stands_there count pos (DeclarationEntry t) lt h = ap (λ (p : SourcePos). nat_lt p.file count) h ∙ lt
 stands_there count pos (FixupEntry w) lt h = absurd h
 
--- ---- Slots come to their contents one behind the other.
+-- ---- The resolution of slots in order.
 
 fed_first : (files : List (List ℕ)) (e : SectionEntry) (es : List SectionEntry) → AreInitialEntries files (e ∷ es) → AreInitialEntries files (e ∷ [])
 fed_first files e es h =
@@ -123,7 +123,8 @@ fed_rest files e es h = record {
   no_declarations = none_last (content_so_far (slot_of files e)).said (all_declarations (contents_so_far (map (slot_of files) es))) h.no_declarations;
 }
 
--- some slots have come to their contents, which entries hold, and others are left
+-- the loop invariant: the entries so far represent the contents of the first slots, and the remaining slots are still to be
+-- resolved
 pub record SoFar (y : Symbols) (files : List (List ℕ)) (all : List Slot) (done left : List SectionEntry) (old new : ResolveState) : Type 0 where
   pub contents : List Content
   pub said : List ℕ
@@ -189,13 +190,13 @@ ends y files all done old new so = record {
   err = so.err;
 }
 
--- ---- The object of what was fed.
+-- ---- The object of the slots.
 
--- entries of sections that hold nothing that is said
+-- the entries of closed sections without declarations have valid file indices and no declarations
 pub fed_closed : (xs : List Slot) (t : ClosedSections) → HasSlots xs t → all_declarations (contents_so_far xs) ≡ [] → AreInitialEntries (names_in t.files) t.entries.items
 fed_closed xs t h unsaid = record { standing = h.standing; no_declarations = sym h.equivalent.held.said ∙ unsaid }
 
--- contents that slots have come to stand in their place
+-- the closed sections represent the resolved contents instead of the slots
 settled_slots : (y : Symbols) (xs : List Slot) (t u : ClosedSections) (cs ds : List Content) → u.requested ≡ t.requested → u.files ≡ t.files → HasSlots xs t → (resolution_of y [] xs).found ≡ Ok cs → AreEquivalentContents cs ds → AreEquivalentSlots (map resolved ds) (map (slot_of (names_in t.files)) u.entries.items) → HaveFilesBelow (length (names_in t.files)) u.entries.items → HasSlots (map resolved cs) u
 settled_slots y xs t u cs ds requested files h found alike entries standing = record {
   requested = ap section_keys (held_contents cs) ∙ keys_found y [] xs cs found ∙ h.requested ∙ ap (λ s. s.keys) (sym requested);
@@ -205,7 +206,7 @@ settled_slots y xs t u cs ds requested files h found alike entries standing = re
   standing = subst (λ (fs : Files). HaveFilesBelow (length (names_in fs)) u.entries.items) (sym files) standing;
 }
 
--- an object that is made of what slots have come to
+-- the object of the resolved entries is the object of the slots
 pub object_come : (y : Symbols) (segments : List Segment) (xs : List Slot) (t u : ClosedSections) (old new : ResolveState) (o : Object) → u.requested ≡ t.requested → u.files ≡ t.files → names_of old.exported ≡ [] → HasSlots xs t → AreResolvedSlots y (names_in t.files) (map (slot_of (names_in t.files)) t.entries.items) u.entries.items old new → ((cs : List Content) → HasSlots (map resolved cs) u → o ≡ object_with segments y.imports cs) → ((cs : List Content) → HasSlots (map resolved cs) u → AreWellFormedContents segments y.imports cs → is_well_formed_object o ≡ true) → IsObjectOf y segments xs o old.err new.err
 object_come y segments xs t u old new o requested files none h k made good =
     let slots : List Slot = map (slot_of (names_in t.files)) t.entries.items in
@@ -221,7 +222,7 @@ object_come y segments xs t u old new o requested files none h k made good =
       err = k.err;
     }
 
--- or their first fault
+-- the case of an error: the first error of the entries is that of the slots
 pub fault_come : (y : Symbols) (xs : List Slot) (t : ClosedSections) (e : Diagnostic) (names : List (List ℕ)) (old new : List ℕ) → names ≡ [] → HasSlots xs t → Unless (is_diagnostic_system_error e) (AreFaultySlots y names (map (slot_of (names_in t.files)) t.entries.items) e old new) → Unless (is_diagnostic_system_error e) (AreFaultySlots y [] xs e old new)
 fault_come y xs t e names old new none h = unless_then (is_diagnostic_system_error e) (λ k.
     let slots : List Slot = map (slot_of (names_in t.files)) t.entries.items in
@@ -231,9 +232,9 @@ fault_come y xs t e names old new none h = unless_then (is_diagnostic_system_err
       err = k.err;
     })
 
--- ---- What an assembler comes to behind the last line.
+-- ---- The result after the last line.
 
--- by the symbol table and the segments of the state that it holds
+-- the assembler's symbol table and segments are those of the state that it represents
 held_comes : (count : ℕ) (t : State) (a : Assembler) (new : List ℕ) (r : Result Object Diagnostic) → Represents count t a → RefinesObject (table_of a.symbols) a.cursor.segments t.slots a.texts.err new r → RefinesObject t.symbols t.cursor.segments t.slots t.err new r
 held_comes count t a new r h k =
     let first : RefinesObject t.symbols a.cursor.segments t.slots a.texts.err new r = subst (λ (y : Symbols). RefinesObject y a.cursor.segments t.slots a.texts.err new r) h.symbols k in
@@ -255,7 +256,7 @@ answer_concluded t out new (Err e) same u inside =
 pub comes_concluded : (count : ℕ) (t : State) (a : Assembler) (new : List ℕ) (r : Result Object Diagnostic) → Represents count t a → RefinesObject (table_of a.symbols) a.cursor.segments t.slots a.texts.err new r → is_system_error_result r ≡ false → record { result = located_result r; out = a.texts.out; err = new } ≡ outcome_of_state t None
 comes_concluded count t a new r h k inside = answer_concluded t a.texts.out new r h.out (held_comes count t a new r h k) inside
 
--- its object can be written, if what it rests on holds
+-- the object is well-formed if its contents are
 abbrev pub IsGoodIf : Assembler → Object → Type 0
 IsGoodIf a o =
     (count : ℕ) (t : State) → Represents count t a →

@@ -1,4 +1,4 @@
--- The constants of the command line, one behind the other.
+-- The constants of the command line, defined in order.
 use Rattle.std.proofs.Common.{◌≡◌, ◌∙◌, ℕ, zero, suc, ◌+◌, ◌≤◌, ◌<◌, false, List, [], ◌∷◌, length, drop, get_or, map, refl, sym, ap, subst, arith}
 use Rattle.std.specs.Prelude.{Ok, Err, IfErr, ⊤}
 use Rattle.syntax65.specs.Trees.{number}
@@ -17,7 +17,7 @@ use Rattle.asm65.specs.Internal.AssemblerState.{Represents}
 use Rattle.asm65.specs.Internal.RunState.{IsReached, following, at_first, RefinesTransition}
 use Rattle.asm65.proofs.Runs.{Answer, fault_first, fault_then, says_same, takes_quiet}
 
--- one opens nothing, and its name is no object's
+-- the transition for one constant, which opens nothing and may have any name
 abbrev pub DefinesBy : SourceLocation → Define → Assembler → Assembler → Answer → Type 0
 DefinesBy location d old new r =
     (count : ℕ) (t : State) → count + 1 ≤ opening_limit → Represents count t old →
@@ -30,7 +30,7 @@ defines_by location d old new (Ok v) taken same = λ count t room h.
 defines_by location d old new (Err e) taken same = λ count t room h.
     fault_first ⊤ (StepsTo t location (Constant d.0 (number d.1))) count t new e (taken count t h (omega (arith, room))) (λ inside. says_same count t old new h (same inside))
 
--- what is defined so far, with constants that are left
+-- the loop invariant: the state after the constants so far, and the remaining constants
 pub record SoFar (location : SourceLocation) (ds left : List Define) (a : Assembler) : Type 0 where
   pub state : State
   pub goes : DefinesOn StepsTo location (DefinesConstants StepsTo initial_state location ds) left state

@@ -1,4 +1,4 @@
--- Pieces that are entered, one behind the other, and when they are put at once.
+-- The emission of pieces in order: at once, if their content is final, or deferred.
 use Rattle.std.proofs.Common.{◌≡◌, ℕ, zero, suc, List, [], ◌∷◌, ◌++◌, map, refl, sym, ap, subst, append-nil, append_assoc}
 use Rattle.std.specs.Prelude.{ℤ, pos, negsuc, Bool, true, false, Option, Some, None, Result, Ok, Err}
 use Rattle.std.specs.List.{list_all}
@@ -34,7 +34,7 @@ use Rattle.asm65.specs.Internal.AssemblerState.{EmitsPieces, AreEncodedNumbers, 
 use Rattle.asm65.proofs.Puttings.{literal_is, stored_is}
 use Rattle.asm65.proofs.Waitings.{all_entered, holds_all, holds_entered, waits_enters}
 
--- ---- One behind the other.
+-- ---- Pieces in order.
 
 puts_append : (location : SourceLocation) (s : Context) (t u v : State) (ps qs : List Piece) → PieceSteps location s t ps u → PieceSteps location s u qs v → PieceSteps location s t (ps ++ qs) v
 puts_append location s t u v [] qs h k = subst (λ w. PieceSteps location s w qs v) h k
@@ -49,7 +49,7 @@ enters_both location s ps qs old mid new first second count t h =
     let y = second count x.0 x.2 in
     (y.0, puts_append location s t x.0 y.0 ps qs x.1 y.1, y.2)
 
--- ---- At once.
+-- ---- Emission at once.
 
 abbrev fed : Assembler → Sections → Assembler
 fed a x = record a { sections = x }
@@ -59,11 +59,11 @@ fed_enters old x location s p c quiet feeds encoding count t h =
     let there : HasFinalContent t.symbols location s p c = subst (λ y. HasFinalContent y location s p c) h.symbols encoding in
     (with_content t c, (with_content t c, emitted_now c there, refl), holds_entered count t old (fed old x) h (record { symbols = refl; cursor = refl; texts = refl }) c quiet feeds)
 
--- what needs no value
+-- a part that needs no value
 pub given_enters : (old : Assembler) (x : Sections) (location : SourceLocation) (s : Context) (p : Part) → AppendsSlot old.sections x (resolved (section_part s.segment p)) → EmitsPieces location s (known_part p ∷ []) old (fed old x)
 given_enters old x location s p feeds = fed_enters old x location s (known_part p) (section_part s.segment p) refl feeds (settled_given (table_of old.symbols) location s p)
 
--- a value whose form is final and puts a part
+-- a value with a final form, which appends a part
 module _ (old : Assembler) (x : Sections) (location : SourceLocation) (s : Context) (why : Purpose) (e : Tree) (f : Form) (final : IsFinal (table_of old.symbols) s e f) where
   value_entered : (r : Result Part AsmFault) → value_result location s why f ≡ (r >>= part_result s.segment) → AppendsPart old.sections x s.segment r true → EmitsPieces location s (expression_value why e ∷ []) old (fed old x)
   value_entered (Ok p) is feeds = fed_enters old x location s (expression_value why e) (section_part s.segment p) refl feeds (final_settles (table_of old.symbols) location s why e f (section_part s.segment p) final is)
@@ -79,7 +79,7 @@ datum_tried old x location s width e f b final h = value_tried old x location s 
 pub operand_tried : (old : Assembler) (x : Sections) (location : SourceLocation) (s : Context) (width : Width) (e : Tree) (f : Form) (b : Bool) → IsFinal (table_of old.symbols) s e f → AppendsPart old.sections x s.segment (operand_part width s location f) b → EmitsIfResolved location s (expression_value (operand width) e) old (fed old x) b
 operand_tried old x location s width e f b final h = value_tried old x location s (operand width) e f final (operand_part width s location f) b refl h
 
--- ---- Elements of lists, one behind the other, and their final forms.
+-- ---- The elements of lists, and their final forms.
 
 pub next_finals : (y : Symbols) (s : Context) (x : Item) (items : List Item) (forms : List (Option Form)) (o : Option Form) (rest : List (Option Form)) → HaveFinals y s (x ∷ items) forms → IsNextForm forms o rest → HasFinal y s (item_tree x) o × HaveFinals y s items rest
 next_finals y s x items [] o rest h n = (subst (HasFinal y s (item_tree x)) (sym n.0) (none_final (item_tree x)), subst (HaveFinals y s items) (sym n.1) (λ i z p at held. absurd cc))
@@ -91,9 +91,9 @@ next_finals y s x items (f ∷ fs) o rest h n =
     let both = finals_rest y s x items f fs h in
     (subst (HasFinal y s (item_tree x)) (sym n.0) both.0, subst (HaveFinals y s items) (sym n.1) both.1)
 
--- ---- Numbers in one go.
+-- ---- Numbers in one call.
 
--- a number that is in range
+-- the content of a number in range is final
 number_settled : (y : Symbols) (location : SourceLocation) (s : Context) (width : Width) (n : ℕ) → fits_width width (pos n) ≡ true → HasFinalContent y location s (expression_value (datum width) (number n)) (section_part s.segment (Known (value_bytes width (pos n))))
 number_settled y location s width n fits =
     final_settles y location s (datum width) (number n) (lit (pos n)) (section_part s.segment (Known (value_bytes width (pos n)))) (λ z more. refl)
@@ -127,7 +127,7 @@ numbers_enter old x location s width ns bytes value_part feeds count t h =
 
 -- ---- Assertions.
 
--- nothing is said
+-- appending no declarations changes nothing
 pub says_nothing : (x : Sections) → AppendsSlot x x (resolved (declaration_content []))
 says_nothing x xs h = held_stand xs [] (declaration_content [] ∷ []) x (alike_sym (declaration_content [] ∷ []) [] (empty_alike 0 false)) refl (subst (λ (ys : List Slot). RepresentsSlots ys x) (sym (append-nil xs)) h)
 
@@ -139,23 +139,23 @@ so_used location s action.Warning text (pos (suc n)) h = refl
 so_used location s action.Error text (negsuc n) h = refl
 so_used location s action.Warning text (negsuc n) h = refl
 
--- an assertion that is so whatever statements follow
+-- an assertion that is true whatever statements follow
 pub so_enters : (old : Assembler) (location : SourceLocation) (s : Context) (act : Action) (text : List ℕ) (e : Tree) (v : ℤ) → (v ≡ pos 0 → ⊥) → IsFinal (table_of old.symbols) s e (lit v) → EmitsPieces location s (expression_value (asserted act text) e ∷ []) old old
 so_enters old location s act text e v h final = fed_enters old old.sections location s (expression_value (asserted act text) e) (declaration_content []) refl (says_nothing old.sections) (final_settles (table_of old.symbols) location s (asserted act text) e (lit v) (declaration_content []) final (so_used location s act text v h))
 
--- one that may be so
+-- an assertion whose value is a final number is emitted only if the number isn't 0
 pub assertion_tried : (old : Assembler) (location : SourceLocation) (s : Context) (act : Action) (text : List ℕ) (e : Tree) (f : Form) (v : ℤ) → IsFinal (table_of old.symbols) s e f → literal_in (Ok f) ≡ Some v → (b : Bool) → (b ≡ true → v ≡ pos 0 → ⊥) → EmitsIfResolved location s (expression_value (asserted act text) e) old old b
 assertion_tried old location s act text e f v final is true other = so_enters old location s act text e v (other refl) (subst (IsFinal (table_of old.symbols) s e) (literal_is f v is) final)
 assertion_tried old location s act text e f v final is false other = refl
 
--- ---- At once, or later.
+-- ---- Emission at once, or later.
 
--- what is emitted at once
+-- the case of a piece that is emitted at once
 pub emitted_at_once : (old new : Assembler) (location : SourceLocation) (s : Context) (p : Piece) (b : Bool) → EmitsIfResolved location s p old new b → b ≡ true → EmitsPieces location s (p ∷ []) old new
 emitted_at_once old new location s p true h e = h
 emitted_at_once old new location s p false h e = absurd cc
 
--- what isn't put at once waits
+-- the case of a piece that is deferred
 pub tried_waits : (old mid new : Assembler) (location : SourceLocation) (s : Context) (p : Piece) (b : Bool) → EmitsIfResolved location s p old mid b → b ≡ false → DefersPiece location s p mid new → EmitsPieces location s (p ∷ []) old new
 tried_waits old mid new location s p true h e waits = absurd cc
 tried_waits old mid new location s p false h e waits = subst (λ (a : Assembler). EmitsPieces location s (p ∷ []) a new) h (waits_enters mid new location s p waits)

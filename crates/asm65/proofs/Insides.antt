@@ -1,4 +1,4 @@
--- No fault of a statement is a store's.
+-- The errors of statements are never failures of the store.
 use Rattle.std.proofs.Common.{◌≡◌, ℕ, zero, suc, ℤ, pos, Bool, true, false, refl, List, [], ◌∷◌, ◌+◌, length, take, Option, Some, None, slice_get}
 use Rattle.std.specs.Prelude.{Result, Ok, Err, IfErr, ◌-◌, nat_le, nat_lt, ◌&&◌, if◌then◌else◌}
 use Rattle.base65.specs.Outcome.{◌>>=◌, Refines, Unless}
@@ -109,9 +109,9 @@ inside_norm_of y s e = inside_norm (suc (length y.definitions)) y s e
 inside_defined : (y : Symbols) (j : ℕ) → IsInside (defined_form y j)
 inside_defined y j = inside_meaning (norm_of y) y (inside_norm_of y) (defined_at j)
 
--- ---- What waits.
+-- ---- Deferred pieces.
 
--- what is written may have a name that is too long
+-- the only possible error is that the name of the file is too long
 inside_written : {A : Type 0} (location : SourceLocation) (x : A) → IsInside (with_file_name_check location x)
 inside_written {A} location x = by (is_file_name location.file)
   where
@@ -192,14 +192,14 @@ inside_made y location s (piece.imported n) = inside_said (import_fault y n) (in
 inside_made y location s (piece.forced_import n) = tt
 inside_made y location s (piece.exported must n) = inside_said (export_declarations y location n (undefined_export_result must n) (definition_index y (named 0 n))) (inside_export y location n must (definition_index y (named 0 n)))
 
--- ---- What a call answers.
+-- ---- Results of calls.
 
 memory_inside : (e : AsmFault) → is_out_of_memory e ≡ true → is_failure e ≡ false
 memory_inside (Expansion expand.FileError) h = absurd cc
 memory_inside FileError h = absurd cc
 memory_inside _ h = refl
 
--- where a fault is memory's, or one that is no store's
+-- the error of a call is that of the definition, unless memory ran out; so it is no failure of the store
 pub inside_from : {X Y : Type 0} (r : Result X AsmFault) (view : X → Y) (read : Result Y AsmFault) → IsInside read → Refines is_out_of_memory view r read → IsInside r
 inside_from {X} {Y} (Ok x) view read h k = tt
 inside_from {X} {Y} (Err e) view read h k = go (is_out_of_memory e) refl k
@@ -219,11 +219,11 @@ inside_after y names location s p = by (is_repeated names p)
     by true = tt
     by false = inside_made y location s p
 
--- what waits comes to its content, or to a fault that is no store's
+-- the result of a deferred piece is no failure of the store
 pub resolved_inside : {X : Type 0} (r : Result X AsmFault) (view : X → PieceResult) (y : Symbols) (names : List (List ℕ)) (location : SourceLocation) (s : Context) (p : Piece) → Refines is_out_of_memory view r (piece_result y names location s p) → IsInside r
 resolved_inside r view y names location s p h = inside_from r view (piece_result y names location s p) (inside_after y names location s p) h
 
--- ---- A line.
+-- ---- Errors at a line.
 
 abbrev AreInsideFaults : Option AsmFault → Type 0
 AreInsideFaults o = (e : AsmFault) → o ≡ Some e → is_failure e ≡ false
@@ -335,7 +335,7 @@ first_inside : (os : List (Option AsmFault)) → AllInside os → AreInsideFault
 first_inside [] h = no_fault
 first_inside (o ∷ os) h = inside_first o os h.0 (first_inside os h.1)
 
--- a line's fault is no store's
+-- the error of a statement at its line is no failure of the store
 pub line_inside : (y : Symbols) (w : Cursor) (x : Statement) → AreInsideFaults (faults.line_fault y w x)
 line_inside y w x =
     let s : Context = context_of w in
@@ -400,7 +400,7 @@ inside_unless_fault : {A : Type 0} (o : Option AsmFault) (x : A) → AreInsideFa
 inside_unless_fault None x h = tt
 inside_unless_fault (Some e) x h = h e refl
 
--- what a statement comes to at its line is found, or a fault that is no store's
+-- the result of laying out a statement is no failure of the store
 pub measured_inside : {X : Type 0} (r : Result X AsmFault) (view : X → StatementLayout) (y : Symbols) (w : Cursor) (x : Statement) → Refines is_out_of_memory view r (layout_result y w x) → IsInside r
 measured_inside r view y w x h = inside_from r view (layout_result y w x) (inside_unless_fault (faults.line_fault y w x) (layout_of_statement y w x) (line_inside y w x)) h
 
@@ -408,7 +408,7 @@ either_inside : (a b : Option AsmFault) → AreInsideFaults a → AreInsideFault
 either_inside (Some e) b h k = h
 either_inside None b h k = k
 
--- so is what it is refused for whatever a file has
+-- the same for errors that don't depend on the file
 pub unread_inside : (r : Result (Unit {0}) AsmFault) (y : Symbols) (w : Cursor) (start len : Option Tree) → Refines is_out_of_memory (λ u. u) r (unless_fault (unread_fault y w start len) tt) → IsInside r
 unread_inside r y w start len h =
     let part = statement.Incbin None start len in

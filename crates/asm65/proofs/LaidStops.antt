@@ -1,4 +1,4 @@
--- The store failed after statements that the machine has taken, so it failed after these statements as they are laid out.
+-- If the store fails after statements of the machine, it fails after the layout of these statements.
 use Rattle.std.proofs.Common.{◌≡◌, ◌∙◌, List, ℕ, Option, true, inl, inr, sym, ap, subst}
 use Rattle.std.specs.Prelude.{◌⊎◌, Result, Ok, Err, IfErr, IfSome}
 use Rattle.base65.specs.Store.{Files, LastFailure}

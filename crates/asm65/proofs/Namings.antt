@@ -1,4 +1,4 @@
--- What is held when names become known, and what each kind of statement adds.
+-- Updates of the symbol table, and the pieces and names that each kind of statement adds.
 use Rattle.std.proofs.Common.{◌≡◌, ◌∙◌, ℕ, ap, zero, suc, ◌+◌, ◌<◌, ◌≤◌, add-one, get_or, List, [], ◌∷◌, ◌++◌, length, map, take, refl, sym, subst, append-nil, arith}
 use Rattle.semantics65.specs.declared.contexts.Context.{Context}
 use Rattle.semantics65.specs.Layout.{context_of}
@@ -27,9 +27,9 @@ use Rattle.symbols65.specs.declared.measuring.StatementLayout.{StatementLayout}
 use Rattle.symbols65.proofs.Measures.{ok_then}
 use Rattle.semantics65.specs.Module.{forced_import, constant_definition, exported, imported, pieces_of, expression_value}
 
--- ---- What a name or an expression means at a context.
+-- ---- The environment at a statement.
 
--- what is known where the next statement stands is what is known behind the state that is held
+-- the environment by the assembler's symbol table is that of the state
 pub known_held : (count : ℕ) (t : State) (a : Assembler) (s : Context) → Represents count t a → s ≡ context_of a.cursor → environment_in (table_of a.symbols) s ≡ environment_at t.symbols t.cursor
 known_held count t a s h at =
     let here : s ≡ context_of t.cursor = at ∙ ap context_of h.cursor in
@@ -37,9 +37,9 @@ known_held count t a s h at =
     let then_ : environment_in t.symbols s ≡ environment_in t.symbols (context_of t.cursor) = ap (environment_in t.symbols) here in
     first ∙ then_
 
--- ---- More names.
+-- ---- Further names.
 
--- a state with more names is held, where its table is
+-- a state with further names is represented, if the assembler's symbol table contains them
 pub holds_grown : (count : ℕ) (t : State) (old new : Assembler) (y : Symbols) → Represents count t old → ChangesOnlySymbols old new → table_of new.symbols ≡ y → HaveBoundedParents count y.scopes → AreNumberedBelow t.cursor.unnamed y.definitions → Represents count (record t { symbols = y }) new
 holds_grown count t old new y h keeps symbols inside unnamed = record {
   symbols = symbols;
@@ -53,7 +53,7 @@ holds_grown count t old new y h keeps symbols inside unnamed = record {
   err = ap (λ x. x.err) keeps.texts ∙ h.err;
 }
 
--- ---- Pieces that wait one behind the other.
+-- ---- Deferred pieces in order.
 
 pub taken_more : {A B : Type 0} (f : A → B) (xs : List A) (i : ℕ) (x : A) → i < length xs → x ≡ get_or xs i x → take i (map f xs) ++ f x ∷ [] ≡ take (i + 1) (map f xs)
 taken_more {A = A} f xs i x lt is = rw add-one (go xs i lt is)
@@ -81,14 +81,12 @@ pub all_wait : (location : SourceLocation) (s : Context) (t : State) (ps : List 
 all_wait location s t [] = refl
 all_wait location s t (p ∷ ps) = (with_fixup t (record { place = location; context = s; piece = p }), deferred_piece_step, all_wait location s (with_fixup t (record { place = location; context = s; piece = p })) ps)
 
--- what waits stands apart from names
-
 pub mentions_enter : (location : SourceLocation) (s : Context) (ps : List piece.Piece) (old new : Assembler) → DefersMentions location s ps old new → EmitsPieces location s ps old new
 mentions_enter location s ps old new m count t h = (with_fixups location s t ps, all_wait location s t ps, m count t h)
 
 -- ---- Pieces, and then names.
 
--- pieces change neither names nor where the next statement stands, nor what is said
+-- the symbol table, the cursor and the output are unchanged
 pub record IsBeside (t u : State) : Type 0 where
   pub symbols : u.symbols ≡ t.symbols
   pub cursor : u.cursor ≡ t.cursor
@@ -119,7 +117,7 @@ turns_after location s ps becomes old mid new enters keeps table count t h insid
           (subst (λ (w : layout.Cursor). AreNumberedBelow w.unnamed (becomes t.symbols).definitions) (sym beside.cursor) unnamed),
     )
 
--- a statement without names
+-- a statement that defines no names
 pub turns_same : (location : SourceLocation) (s : Context) (ps : List piece.Piece) (old new : Assembler) → EmitsPieces location s ps old new → EmitsThenDefines location s ps (λ y. y) old new
 turns_same location s ps old new enters count t h inside unnamed =
     let x = enters count t h in
@@ -143,13 +141,13 @@ same_as ds cs is zs = record { definitions = ds; scopes = cs; imports = is; zero
 pub table_with : (ds es : List Definition) (cs bs : List Scope) (is zs : List (List ℕ)) → ds ≡ es → cs ≡ bs → same_as ds cs is zs ≡ same_as es bs is zs
 table_with ds es cs bs is zs p q = ap (λ (xs : List Definition). same_as xs cs is zs) p ∙ ap (λ (xs : List Scope). same_as es xs is zs) q
 
--- ---- What each kind of statement adds: its pieces, and then its names.
+-- ---- The pieces and names of each kind of statement.
 
--- nothing more is known
+-- the symbol table without an addition
 pub nothing_follows : (y : Symbols) → y ≡ same_as (y.definitions ++ []) (y.scopes ++ []) y.imports y.zero_page
 nothing_follows y = table_with y.definitions (y.definitions ++ []) y.scopes (y.scopes ++ []) y.imports y.zero_page (sym (append-nil y.definitions)) (sym (append-nil y.scopes))
 
--- a definition more
+-- the symbol table with a definition, a scope or imports added
 defined_after : (y : Symbols) (d : Definition) → with_definition y d ≡ same_as (y.definitions ++ d ∷ []) (y.scopes ++ []) y.imports y.zero_page
 defined_after y d = table_with (y.definitions ++ d ∷ []) (y.definitions ++ d ∷ []) y.scopes (y.scopes ++ []) y.imports y.zero_page refl (sym (append-nil y.scopes))
 
@@ -198,13 +196,13 @@ module _ (location : SourceLocation) (s : Context) (m : StatementLayout) (old ne
   pub adds_forced : (names : List (List ℕ)) → EmitsThenDefines location s (map imported names ++ map forced_import names) (λ y. with_names y false names) old new → Adds (ForceImport names)
   adds_forced names h = adds_names (ForceImport names) (λ y. with_names y false names) (λ y. named_after y (with_new_names y.imports names) y.zero_page) h
 
-  -- what a call adds, for the statement that it is
+  -- the effect of a successful call, for the statement itself
   pub taken_as : {P : Type 0} (r : Result (Unit {0}) AllocError) (x z : Statement) → x ≡ z → (P → Adds x) → OnOk r P → OnOk r (Adds z)
   taken_as r x z e f h = subst (λ (w : Statement). OnOk r (Adds w)) e (ok_then r f h)
 
--- ---- Statements by what they are not.
+-- ---- Statements of other kinds.
 
--- a statement of the other kinds puts nothing into a section
+-- a statement of any other kind has no content
 pub puts_nothing : (x : Statement) → ((m : Mnemonic) (o : Operand) → x ≡ Instruction m o → ⊥) → ((w : Width) (items : List Item) → x ≡ Values w items → ⊥) → ((n : Tree) (v : Option Tree) → x ≡ Reserve n v → ⊥) → ((n : Tree) (v : Option Tree) → x ≡ Align n v → ⊥) → ((bytes : Option (List ℕ)) (start len : Option Tree) → x ≡ Incbin bytes start len → ⊥) → ((e : Tree) (action : Action) (text : List ℕ) → x ≡ Assert e action text → ⊥) → has_content x ≡ false
 puts_nothing (Instruction m o) i v r a f s = absurd (i m o refl)
 puts_nothing (Values w items) i v r a f s = absurd (v w items refl)
@@ -214,7 +212,7 @@ puts_nothing (Incbin bytes start len) i v r a f s = absurd (f bytes start len re
 puts_nothing (Assert e action text) i v r a f s = absurd (s e action text refl)
 puts_nothing x i v r a f s = refl
 
--- one that names nothing either adds nothing
+-- a statement without content and names adds nothing
 pub adds_nothing : (location : SourceLocation) (s : Context) (m : StatementLayout) (a : Assembler) (x : Statement) → has_content x ≡ false → ((n : List ℕ) → x ≡ Label n → ⊥) → ((n : List ℕ) → x ≡ CheapLabel n → ⊥) → (x ≡ UnnamedLabel → ⊥) → ((n : List ℕ) (e : Tree) → x ≡ Constant n e → ⊥) → ((n : Option (List ℕ)) → x ≡ OpenScope n → ⊥) → ((n : List ℕ) → x ≡ OpenProc n → ⊥) → ((own : AddressSize) (names : List (List ℕ)) → x ≡ Import own names → ⊥) → ((own : AddressSize) (names : List (List ℕ)) → x ≡ Global own names → ⊥) → ((names : List (List ℕ)) → x ≡ ForceImport names → ⊥) → ((names : List (List ℕ)) → x ≡ Export names → ⊥) → Adds location s m a a x
 adds_nothing location s m a (Instruction n o) put l c u e b p i g f x = absurd cc
 adds_nothing location s m a (Values w items) put l c u e b p i g f x = absurd cc

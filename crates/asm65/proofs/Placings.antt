@@ -1,4 +1,4 @@
--- What is measured of a statement by what an assembler holds, by the state that it holds.
+-- The layout of a statement by an assembler is the layout by the state that the assembler represents.
 use Rattle.std.proofs.Common.{◌≡◌, ◌∙◌, ℕ, ◌+◌, sym, ap, subst}
 use Rattle.std.specs.Prelude.{Ok, Err, Result, Some}
 use Rattle.base65.specs.Outcome.{Unless}
@@ -43,7 +43,7 @@ module _ (count : ℕ) (t : State) (old : Assembler) (h : Represents count t old
       ∙ ap (λ (z : Symbols). cursor_after z old.cursor x) h.symbols
       ∙ ap (λ (v : Cursor). cursor_after t.symbols v x) h.cursor
 
-  -- no more is open behind it than so many statements open
+  -- after the statement, the counts are within the earlier bound plus the openings of the statement
   pub more_counted : (m : StatementLayout) → here ≡ Ok m → HasBoundedCounts (count + opening_count x) (cursor_after t.symbols t.cursor x)
   more_counted m at =
       subst (HasBoundedCounts (count + opening_count x)) (after_measured t.symbols t.cursor x m (there (Ok m) at))

@@ -1,4 +1,4 @@
--- What is put into sections at once.
+-- Parts that are appended to sections at once.
 use Rattle.std.proofs.Common.{◌≡◌, ℕ, List, refl, sym, ap, subst}
 use Rattle.std.specs.Prelude.{ℤ, Bool, true, Some, None, Result, Ok, Err, if◌then◌else◌}
 use Rattle.semantics65.specs.Norms.{literal_in}
@@ -16,12 +16,12 @@ use Rattle.semantics65.specs.declared.contexts.EncodingChoice as held
 use Rattle.semantics65.specs.declared.contexts.EncodingChoice.TheVariants as settled
 use Rattle.asm65.specs.Internal.AssemblerState.{AppendsPart}
 
--- ---- What is stored of a form.
+-- ---- The part of a form.
 
 abbrev in_range : (known : List ℕ) → Result Part AsmFault
 in_range known = Ok (Known known)
 
--- a literal that is in range is its bytes
+-- the part of a literal in range is its bytes
 pub stored_is : (width : Width) (location : SourceLocation) (v : ℤ) → fits_width width v ≡ true → value_part width location (lit v) ≡ in_range (value_bytes width v)
 stored_is width location v fits = ap (λ (b : Bool). if b then in_range (value_bytes width v) else Err OutOfRange) fits
 
@@ -37,7 +37,7 @@ literal_is (imp k) v e = absurd cc
 literal_is (prefix op f) v e = absurd cc
 literal_is (binary op f g) v e = absurd cc
 
--- what isn't a literal is the linker's, and written with its place
+-- the part of any other form is a deferred value with its location, or the error of its file name
 pub other_stored : (width : Width) (location : SourceLocation) (f : Form) → literal_in (Ok f) ≡ None → value_part width location f ≡ with_file_name_check location (LinkTimeValue width location f)
 other_stored width location (lit w) e = absurd cc
 other_stored width location (sec k a) e = refl
@@ -45,7 +45,7 @@ other_stored width location (imp k) e = refl
 other_stored width location (prefix op f) e = refl
 other_stored width location (binary op f g) e = refl
 
--- so it is put where an object can hold the name of the file
+-- this part is appended if an object can contain the name of the file
 pub other_put : (old new : Sections) (g : ℕ) (width : Width) (location : SourceLocation) (f : Form) → literal_in (Ok f) ≡ None → is_file_name location.file ≡ true → AppendsSlot old new (resolved (section_part g (LinkTimeValue width location f))) → AppendsPart old new g (value_part width location f) true
 other_put old new g width location f e fits feeds =
     subst (λ r. AppendsPart old new g r true) (sym (other_stored width location f e))

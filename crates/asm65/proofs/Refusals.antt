@@ -1,4 +1,4 @@
--- What holds of an answer by the fault that it is refused for.
+-- Properties of a result that follow from its error.
 use Rattle.std.proofs.Common.{◌≡◌, ◌∙◌, ℕ, Bool, true, false, refl, sym, ap}
 use Rattle.std.specs.Prelude.{Ok, Err, IfOk, IfErr, IsErrAnd, ◌||◌}
 use Rattle.base65.specs.Store.{FailsAtLastCount, PropagatesIoError, PropagatesIoErrors}
@@ -13,7 +13,7 @@ use Rattle.asm65.specs.Assembly.{is_store_failure, is_system_error_result, is_di
 use Rattle.asm65.specs.Failing.{no_location}
 use Rattle.asm65.proofs.Outcomes.{Found, only_error}
 
--- ---- It is refused for this fault.
+-- ---- The result has this error.
 
 pub outside_as : (e : AsmFault) (r : Found) → IfOk r (λ o. ⊥) → IfErr r (λ x. x.fault ≡ e) → is_system_error e ≡ true → is_system_error_result r ≡ true
 outside_as e (Ok o) none h outside = absurd none
@@ -27,7 +27,7 @@ pub first_as : (e : AsmFault) (r : Found) → IfErr r (λ x. x.fault ≡ e) → 
 first_as e (Ok o) h k = tt
 first_as e (Err x) h k = (h, k)
 
--- ---- It is refused for a fault that doesn't come from outside.
+-- ---- The error is no system error.
 
 no_failure : (b c : Bool) → (b || c) ≡ false → c ≡ false
 no_failure true c h = absurd cc
@@ -37,7 +37,7 @@ pub inside_as : (e : AsmFault) (r : Found) → is_system_error e ≡ false → I
 inside_as e (Ok o) inside h = tt
 inside_as e (Err x) inside h = h ∙ sym (no_failure (is_out_of_memory e) (is_failure e) inside)
 
--- ---- The source couldn't be opened.
+-- ---- The source can't be opened.
 
 expansion_outside : (e : ExpandFault) → is_expand_system_error e ≡ true → is_system_error (Expansion e) ≡ true
 expansion_outside OutOfMemory h = refl

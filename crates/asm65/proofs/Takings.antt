@@ -1,4 +1,4 @@
--- One statement behind the others.
+-- The step of an assembler for one statement.
 use Rattle.std.proofs.Common.{◌≡◌, ◌∙◌, ℕ, zero, suc, ◌+◌, ◌≤◌, List, [], ◌∷◌, ◌++◌, refl, sym, ap, subst, append-nil, arith, true, false, Option, Some, None}
 use Rattle.std.specs.Prelude.{Bool, ◌&&◌, ◌||◌, IfSome, length, Ok, Err, slice_get, if◌then◌else◌}
 use Rattle.std.proofs.lemmas.Bool.Decides.{nat_tests}
@@ -36,7 +36,7 @@ use Rattle.ast65.specs.declared.language.Statement.TheVariants.{Incbin, IncbinPa
 use Rattle.sources65.specs.Reading.{bytes_for, with_bytes}
 use Rattle.asm65.specs.Internal.RunState.{IsRejectedUnread}
 
--- what searches find in a symbol table changes no state that an assembler represents
+-- entries of searches in a symbol table don't change the state that an assembler represents
 pub represents_searched : (count : ℕ) (t : State) (old : Assembler) (symbols : SymbolTable) → table_of symbols ≡ table_of old.symbols → Represents count t old → Represents count t (record old { symbols = symbols })
 represents_searched count t old symbols same h = record {
   symbols = same ∙ h.symbols;
@@ -91,7 +91,7 @@ other_key n (unnamed_at j) h = grind (arith, nat_tests)
 next_free : (y : Symbols) (n : ℕ) → AreNumberedBelow n y.definitions → definition_index y (unnamed_at n) ≡ None
 next_free y n h = position_none (λ (d : Definition). same_key d.key (unnamed_at n)) y.definitions (λ i d e. other_key n d.key (before_at n y.definitions i d h e))
 
--- ---- What is new.
+-- ---- New names and scopes.
 
 or_none : (f g : Option AsmFault) → or_then f g ≡ None → (f ≡ None) × (g ≡ None)
 or_none None g h = (refl, h)
@@ -114,7 +114,7 @@ key_free y x s (named scope n) h e before = there_none (definition_index y (name
 key_free y x s (cheap_in region n) h e before = there_none (definition_index y (cheap_in region n)) (DefinedTwice n) h
 key_free y x s (unnamed_at j) h e before = subst (λ n. definition_index y (unnamed_at n) ≡ None) (unnamed_is x s j e) (next_free y s.unnamed before)
 
--- a statement without a fault at its line defines and opens what isn't there
+-- a statement without an error at its line defines a new name and opens a new scope, if any
 pub is_new : (y : Symbols) (w : Cursor) (x : Statement) → line_fault y w x ≡ None → AreNumberedBelow w.unnamed y.definitions → IsNew y (context_of w) x
 is_new y w x h before =
     let opened = opened_twice y.scopes w.scope (scope_name x) in
@@ -129,7 +129,7 @@ is_new y w x h before =
       defined = λ k e. key_free y x (context_of w) k (ap (defined_twice y) (sym e) ∙ both.1) e before;
     }
 
--- ---- Behind a statement.
+-- ---- After a statement.
 
 asked_beside : (segment : ℕ) (x : Statement) (t : State) → IsBeside t (with_requested_section segment x t)
 asked_beside segment x t = by (needs_section x)
@@ -157,7 +157,7 @@ holds_stepped count t location x a v said h cursor counted out err =
       err = err ∙ ap (λ (o : List ℕ). o ++ statement_warning location x) h.err;
     }
 
--- ---- A statement is taken.
+-- ---- Assembling a statement.
 
 pub unless_either : (P : Type 0) (a b : Bool) → Unless a P → Unless (a || b) P
 unless_either P true b h = tt
@@ -174,7 +174,7 @@ one_aside : (location : SourceLocation) (s : Context) (u v : State) (w : Cursor)
 one_aside location s u _ w o e p (emitted_now c encoding) = emitted_now c encoding
 one_aside location s u _ w o e p deferred_piece_step = deferred_piece_step
 
--- pieces are put whatever stands beside them
+-- the emission of pieces doesn't depend on the cursor and the output
 puts_aside : (location : SourceLocation) (s : Context) (u v : State) (w : Cursor) (o e : List ℕ) (ps : List Piece) → PieceSteps location s (aside u w o e) ps v → PieceSteps location s u ps (aside v u.cursor u.out u.err)
 puts_aside location s u v w o e [] h = ap (λ (x : State). aside x u.cursor u.out u.err) h
 puts_aside location s u v w o e (p ∷ ps) h =
@@ -214,7 +214,7 @@ takes_entered count t location x s m old mid new h placed held turns =
     along.out along.err in
     (with_symbols w r, subst (λ (f : Option AsmFault). UnlessFault f (StepsWithoutError t r) (Ok (with_symbols w r))) (sym placed.faultless) (w, puts, refl), subst (λ (z : State). Represents (count + opening_count x) z new) same done.2)
 
--- ---- The first fault.
+-- ---- The first error.
 
 first_two : (a b : Option AsmFault) (rest : List (Option AsmFault)) (e : AsmFault) → or_then a b ≡ Some e → first_fault (None ∷ a ∷ None ∷ None ∷ None ∷ b ∷ None ∷ rest) ≡ Some e
 first_two (Some f) b rest e h = h
@@ -233,7 +233,7 @@ module _ (y : Symbols) (w : Cursor) (start len : Option Tree) where
   abbrev bad : Option AsmFault
   bad = operand_fault y (context_of w) (Incbin None start len)
 
-  -- what is wrong whatever the file has is
+  -- an error that doesn't depend on the file is the error of the statement
   unread_refused : (bytes : Option (List ℕ)) (e : AsmFault) → unread_fault y w start len ≡ Some e → line_fault y w (Incbin bytes start len) ≡ Some e
   unread_refused bytes e h = first_two lost bad _ e h
 
@@ -265,14 +265,14 @@ module _ (t : State) (location : SourceLocation) (name : List ℕ) (start len : 
       (subst (λ b. StepsTo t location (Incbin b start len) (Err FileNotFound)) (sym none)
       (takes_refused t location (Incbin None start len) FileNotFound (unread_missing t.symbols t.cursor start len h)))
 
-  -- it is refused whatever the file has
+  -- the case of an error that doesn't depend on the file
   pub refused_unread : (f : Option Files) (last_failure : LastFailure) → is_failure e ≡ false → Unless (is_out_of_memory e) (unless_fault {A = Unit {0}} found tt ≡ Err e) → IsRejectedUnread f last_failure t location x e
   refused_unread f last_failure inside h = record {
     inside = unless_then (is_system_error e) (λ p. whatever (fault_there found e p)) (unless_either _ (is_out_of_memory e) (is_failure e) h);
     failed = λ so. absurd cc;
   }
 
-  -- its file can't be read
+  -- the case that the file can't be read
   pub failed_unread : (f : Option Files) (last_failure : LastFailure) (u : Unit {0}) → is_system_error e ≡ true → (is_failure e ≡ true → FailedOn last_failure (sibling_path location.file name)) → (is_failure e ≡ true → IfSome f (λ m. FailedWithin last_failure (sibling_path location.file name) 0 (length (bytes_in (get m (sibling_path location.file name)))))) → unless_fault {A = Unit {0}} found tt ≡ Ok u → IsRejectedUnread f last_failure t location x e
   failed_unread f last_failure u outside requested within h = record {
     inside = subst (λ b. Unless b ((m : Files) → StepsTo t location (with_bytes m location x) (Err e))) (sym outside) tt;

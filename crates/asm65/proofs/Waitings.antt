@@ -1,4 +1,4 @@
--- What an assembler holds when one more piece waits or is put at once.
+-- The state that an assembler represents after a further piece is deferred or emitted at once.
 use Rattle.std.proofs.Common.{◌≡◌, ◌∙◌, ℕ, List, [], ◌∷◌, ◌++◌, map, ap, refl}
 use Rattle.std.proofs.lemmas.Grind.{flat_map-append}
 use Rattle.std.proofs.lemmas.List.{map-append}
@@ -15,15 +15,15 @@ use Rattle.symbols65.specs.Views.{table_of}
 use Rattle.asm65.specs.declared.assembler.Assembler.{Assembler}
 use Rattle.asm65.specs.Internal.AssemblerState.{EmitsPieces, Represents, ChangesOnlySections, DefersPiece}
 
--- more slots
+-- a state with further slots
 abbrev pub with_slots : State → List Slot → State
 with_slots t xs = record t { slots = t.slots ++ xs }
 
--- contents, one behind the other
+-- a state with further contents, in order
 abbrev pub all_entered : State → List Content → State
 all_entered t cs = with_slots t (map resolved cs)
 
--- sections stand for these slots more
+-- the new sections represent these slots after those of the old ones
 abbrev pub FeedsAll : Sections → Sections → List Slot → Type 0
 FeedsAll old new xs = (ys : List Slot) → RepresentsSlots ys old → RepresentsSlots (ys ++ xs) new
 
@@ -31,7 +31,7 @@ said_more : (xs ys : List Slot) → all_declarations (contents_so_far (xs ++ ys)
 said_more xs ys = ap all_declarations (map-append content_so_far xs ys) ∙ flat_map-append (λ (c : Content). c.said) (contents_so_far xs) (contents_so_far ys)
 
 module _ (count : ℕ) (t : State) (old new : Assembler) (h : Represents count t old) (keeps : ChangesOnlySections old new) where
-  -- slots more, which say nothing yet
+  -- appending slots without declarations
   pub holds_slots : (xs : List Slot) → all_declarations (contents_so_far xs) ≡ [] → FeedsAll old.sections new.sections xs → Represents count (with_slots t xs) new
   holds_slots xs quiet feeds = record {
     symbols = ap table_of keeps.symbols ∙ h.symbols;
@@ -45,18 +45,18 @@ module _ (count : ℕ) (t : State) (old new : Assembler) (h : Represents count t
     err = ap (λ x. x.err) keeps.texts ∙ h.err;
   }
 
-  -- one more piece waits
+  -- deferring a piece
   pub holds_awaiting : (w : Fixup) → AppendsSlot old.sections new.sections (deferred w) → Represents count (with_fixup t w) new
   holds_awaiting w feeds = holds_slots (deferred w ∷ []) refl feeds
 
-  -- contents are put at once
+  -- appending contents at once
   pub holds_all : (cs : List Content) → all_declarations cs ≡ [] → FeedsAll old.sections new.sections (map resolved cs) → Represents count (all_entered t cs) new
   holds_all cs quiet feeds = holds_slots (map resolved cs) (ap all_declarations (held_contents cs) ∙ quiet) feeds
 
-  -- a content is put at once
+  -- appending one content at once
   pub holds_entered : (c : Content) → c.said ≡ [] → AppendsSlot old.sections new.sections (resolved c) → Represents count (with_content t c) new
   holds_entered c quiet feeds = holds_slots (resolved c ∷ []) (ap (λ ss. ss ++ []) quiet) feeds
 
--- what waits is entered
+-- deferring a piece is one way to emit the piece
 pub waits_enters : (old new : Assembler) (location : SourceLocation) (s : Context) (p : Piece) → DefersPiece location s p old new → EmitsPieces location s (p ∷ []) old new
 waits_enters old new location s p kept count t h = (with_fixup t (record { place = location; context = s; piece = p }), (with_fixup t (record { place = location; context = s; piece = p }), deferred_piece_step, refl), kept count t h)

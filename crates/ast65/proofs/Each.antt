@@ -1,4 +1,4 @@
--- Lists that are read part by part.
+-- Lists that are parsed part by part.
 use Rattle.std.proofs.Common.{◌≡◌, ◌≢◌, ℕ, suc, Bool, true, false, List, [], ◌∷◌, ◌++◌, length, Option, Some, None, Result, Ok, Err, refl, ap, sym, ◌∙◌, subst, append_assoc, append-nil, option_map, Bor}
 use Rattle.std.specs.Result.{IsErrAnd}
 use Rattle.base65.specs.Outcome.{◌>>=◌, Unless}
@@ -11,7 +11,7 @@ use Rattle.ast65.specs.Parsing.{elements_after_comma, list_elements, not_underst
 use Rattle.ast65.proofs.CommaLists.{some_part, too_many, too_many_words}
 use Rattle.ast65.specs.declared.fault.AsmFault.{AsmFault}
 
--- the results so far, followed by the rest
+-- the results so far, followed by those of the rest
 abbrev pub before : {B : Type 0} → List B → Result (List B) AsmFault → Result (List B) AsmFault
 before found r = r >>= (λ more. Ok (found ++ more))
 
@@ -22,7 +22,7 @@ abbrev pub count_left : Option (Bor (List Token)) → ℕ
 count_left None = 0
 count_left (Some ts) = suc (length ts.now)
 
--- the result of all is that of the rest, after the results so far
+-- the loop invariant: the result of all parts is the results so far, followed by the result of the remaining parts
 abbrev pub GoesOn : {B : Type 0} → (List Lexeme → Result B AsmFault → Type 0) → List (List Lexeme) → List B → List (List Lexeme) → Type 0
 GoesOn Is all found left = (r : Result (List _) AsmFault) → MapsEach Is left r → MapsEach Is all (before found r)
 
@@ -33,7 +33,7 @@ further found y (Err e) = refl
 pub one_more : {B : Type 0} (Is : List Lexeme → Result B AsmFault → Type 0) (all : List (List Lexeme)) (found : List B) (part : List Lexeme) (left : List (List Lexeme)) (y : B) → Is part (Ok y) → GoesOn Is all found (part ∷ left) → GoesOn Is all (found ++ y ∷ []) left
 one_more Is all found part left y h goes r more = rw (further found y r) (goes (r >>= (λ ys. Ok (y ∷ ys))) (Ok y, h, (r, more, refl)))
 
--- the next part is split off
+-- splitting off the next part preserves the invariant
 pub taken : {B : Type 0} (Is : List Lexeme → Result B AsmFault → Type 0) (all : List (List Lexeme)) (found : List B) (rest : Option (Bor (List Token))) (left : Bor (List Token)) (part : List Lexeme) (following : List (List Lexeme)) → rest ≡ Some left → list_elements (lexemes left.now) ≡ part ∷ following → GoesOn Is all found (parts_left rest) → GoesOn Is all found (part ∷ following)
 taken Is all found rest left part following e f goes =
     let P : List (List Lexeme) → Type 0 = λ ps. GoesOn Is all found ps in
@@ -65,7 +65,7 @@ three_parts ts n v rest more b c e f g h =
     let next = g ∙ ap (λ o. v ∷ parts_left o) h in
     subst P (sym all) (subst Q (sym next) (too_many n v (lexemes c.now)))
 
--- the tokens after a comma have a part, so there is a start
+-- the tokens after a comma have at least one part, so the range has a start
 pub some_range : (rest : Option (Bor (List Token))) (b : Bor (List Token)) (result : Result (Option Tree × Option Tree) AsmFault) → rest ≡ Some b → RefinesParse result (AndThenReturn (IsOneOrTwo (list_elements (lexemes b.now))) (λ x. Ok (Some x.0, x.1))) → RefinesParse result (IsRange (parts_left rest))
 some_range rest b result e h =
     let P : Option (Bor (List Token)) → Type 0 = λ o. RefinesParse result (IsRange (parts_left o)) in

@@ -1,4 +1,4 @@
--- Contents that differ for no object.
+-- Equivalent contents make the same object.
 use Rattle.std.proofs.Common.{◌≡◌, ◌∙◌, ℕ, suc, ◌+◌, Bool, List, [], ◌∷◌, ◌++◌, map, refl, sym, ap, append_assoc, append-nil, arith}
 use Rattle.std.specs.Prelude.{filter_map, slice_get}
 use Rattle.std.specs.List.{flat_map}
@@ -13,7 +13,7 @@ use Rattle.semantics65.specs.declared.contents.Segment.{Segment}
 use Rattle.semantics65.specs.Numbering.{merged_neighbours, all_declarations, assert_files, assert_of, content_imports, export_files, export_of, fragments_of, import_keys, origin_in_files, merged_fragments, name_of, distinct_names, distinct_keys, part_files, part_imports, parts_in, section_of, segment_name, segment_power}
 use Rattle.emit65.specs.SectionContents.{AreEquivalentContents}
 
--- ---- An equivalence.
+-- ---- Equivalence of contents is an equivalence relation.
 
 pub alike_same : (cs : List Content) → AreEquivalentContents cs cs
 alike_same cs = record { imports = λ names. refl; parts = λ at s i g before following. refl; files = λ g. refl; said = refl }
@@ -34,13 +34,13 @@ alike_sym cs ds h = record {
   said = sym h.said;
 }
 
--- ---- More contents.
+-- ---- Concatenation.
 
--- what contents put into a segment
+-- the parts in a segment, of two lists of contents
 parts_more : (cs ds : List Content) (g : ℕ) → parts_in (cs ++ ds) g ≡ parts_in cs g ++ parts_in ds g
 parts_more cs ds g = grind (arith, common_steps)
 
--- the files of its values
+-- the files of the values in a segment
 abbrev files_in : List Content → ℕ → List (List ℕ)
 files_in cs g = flat_map part_files (parts_in cs g)
 
@@ -48,7 +48,7 @@ files_more : (cs ds : List Content) (g : ℕ) → files_in (cs ++ ds) g ≡ file
 files_more cs ds g = ap (flat_map part_files) (parts_more cs ds g) ∙ flat_map-append part_files (parts_in cs g) (parts_in ds g)
 
 module _ (at : SourceLocation → Origin) (s i : List ℕ) where
-  -- what contents put into a segment
+  -- the fragments of contents in a segment
   abbrev pub placed : List Content → ℕ → List Fragment
   placed cs g = fragments_of at s i (parts_in cs g)
 
@@ -97,11 +97,11 @@ alike_back es cs ds h = record {
         ∙ ap (λ fs. merged_neighbours (before ++ fs)) (append_assoc (placed at s i es g) (placed at s i xs g) following)
         ∙ ap merged_neighbours (sym (append_assoc before (placed at s i es g) (placed at s i xs g ++ following)))
 
--- contents that are fed behind those of which others make no difference
+-- appending contents that are equivalent to none changes nothing
 pub alike_nothing : (cs es : List Content) → AreEquivalentContents es [] → AreEquivalentContents (cs ++ es) cs
 alike_nothing cs es h = alike_trans (cs ++ es) (cs ++ []) cs (alike_back cs es [] h) (rw (append-nil cs) (alike_same cs))
 
--- ---- Neighbours that are joined.
+-- ---- Merged neighbours.
 
 literals_join : (f : Fragment) (before following : List Fragment) (a b : List ℕ) → merged_fragments f (before ++ (Literal a ∷ Literal b ∷ following)) ≡ merged_fragments f (before ++ (Literal (a ++ b) ∷ following))
 literals_join x [] following a b = grind (arith, common_steps, append_assoc)
@@ -123,7 +123,7 @@ all_fills_join : (before following : List Fragment) (a b : ℕ) → merged_neigh
 all_fills_join [] following a b = refl
 all_fills_join (f ∷ before) following a b = fills_join f before following a b
 
--- contents of bytes alone, or of room alone, which come to the same fragments in their segment
+-- two parts without imports and files are equivalent to one, if their merged fragments are the same
 unnamed_alike : (g : ℕ) (p q r : Part) → part_imports p ≡ [] → part_imports q ≡ [] → part_imports r ≡ [] → part_files p ≡ [] → part_files q ≡ [] → part_files r ≡ [] → ((at : SourceLocation → Origin) (s i : List ℕ) (before following : List Fragment) → merged_neighbours (before ++ (fragments_of at s i (p ∷ q ∷ []) ++ following)) ≡ merged_neighbours (before ++ (fragments_of at s i (r ∷ []) ++ following))) → AreEquivalentContents (section_part g p ∷ section_part g q ∷ []) (section_part g r ∷ [])
 unnamed_alike g p q r no_p no_q no_r none_p none_q none_r same = grind (arith, common_steps)
 
@@ -136,13 +136,13 @@ room_is at s i before following k j e = rw e refl
 pub room_alike : (g m n : ℕ) → AreEquivalentContents (section_part g (ReservedBytes m) ∷ section_part g (ReservedBytes n) ∷ []) (section_part g (ReservedBytes (m + n)) ∷ [])
 room_alike g m n = grind (arith, common_steps, unnamed_alike, all_fills_join, room_is)
 
--- ---- What makes no difference.
+-- ---- Contents that are equivalent to none.
 
--- a content that holds nothing
+-- a content without parts and declarations
 pub empty_alike : (g : ℕ) (asks : Bool) → AreEquivalentContents (record { segment = g; requests_section = asks; parts = []; said = [] } ∷ []) []
 empty_alike g asks = grind (arith, common_steps)
 
--- a part of no byte
+-- a part without bytes
 empty_part : (g : ℕ) (p : Part) → part_imports p ≡ [] → part_files p ≡ [] → ((at : SourceLocation → Origin) (s i : List ℕ) → fragments_of at s i (p ∷ []) ≡ []) → AreEquivalentContents (section_part g p ∷ []) []
 empty_part g p no_imports no_files nothing = grind (arith, common_steps)
 
@@ -152,9 +152,9 @@ no_bytes_alike g = empty_part g (Known []) refl refl (λ at s i. refl)
 pub no_room_alike : (g : ℕ) → AreEquivalentContents (section_part g (ReservedBytes 0) ∷ []) []
 no_room_alike g = empty_part g (ReservedBytes 0) refl refl (λ at s i. refl)
 
--- ---- One object.
+-- ---- The same object.
 
--- the files that contents name, with sections of these segments
+-- the files that contents use, with sections of these segments
 abbrev pub files_named_by : List ℕ → List Content → List (List ℕ)
 files_named_by sections cs = flat_map (λ g. flat_map part_files (parts_in cs g)) sections
     ++ flat_map export_files (all_declarations cs) ++ flat_map assert_files (all_declarations cs)

@@ -1,4 +1,4 @@
--- Entries by section.
+-- The draft of each section contains the entries of its segment.
 use Rattle.std.proofs.lemmas.Grind.{common_steps}
 use Rattle.std.proofs.Common.{◌≡◌, ◌∙◌, ℕ, zero, suc, ◌+◌, Bool, true, false, not, nat_eq, cond, List, [], ◌∷◌, ◌++◌, map, get_or, slice_set, Some, None, refl, sym, ap, append-nil, arith}
 use Rattle.std.specs.Prelude.{if◌then◌else◌}
@@ -10,7 +10,7 @@ use Rattle.emit65.specs.declared.entries.SectionEntry.{SectionEntry}
 use Rattle.emit65.specs.declared.numbering.drafts.SectionDraft.{SectionDraft}
 use Rattle.emit65.specs.Internal.Drafts.{draft_of, is_segment, entries_in, segment_of, with_entry}
 
--- ---- One item of a list in which each has a key of its own.
+-- ---- Changing the item of a list that has a given key, if keys are distinct.
 
 position_is : {A : Type 0} (p : A → Bool) (xs : List A) (i : ℕ) → position p xs ≡ Some i → i ≡ position_or_len p xs
 position_is p xs i h = grind (arith, common_steps)
@@ -44,16 +44,16 @@ at_length key g h (x ∷ ds) (suc i) d e at distinct is new = by (nat_eq g (key 
 pub one_changed : {A : Type 0} (key : A → ℕ) (g : ℕ) (h : A → A) (keys : List ℕ) (ds : List A) (i : ℕ) (d e : A) → map key ds ≡ keys → IsDistinct nat_eq keys → Some i ≡ position (nat_eq g) keys → d ≡ get_or ds i d → e ≡ h d → slice_set ds i e ≡ map (changed key g h) ds
 one_changed key g h keys ds i d e same distinct at is new = grind (arith, common_steps, at_length, position_is)
 
--- ---- Drafts behind an entry.
+-- ---- Drafts after an entry.
 
 abbrev pub pushed : SectionEntry → SectionDraft → SectionDraft
 pushed e d = record d { entries = d.entries ++ e ∷ [] }
 
--- what an entry puts changes the draft of its segment alone
+-- an entry of a segment changes the draft of this segment only
 pub put_there : (e : SectionEntry) (g : ℕ) (ds : List SectionDraft) → segment_of e ≡ Some g → map (λ (d : SectionDraft). if nat_eq g d.segment then pushed e d else d) ds ≡ map (with_entry e) ds
 put_there e g ds is = ap (λ o. map (λ (d : SectionDraft). if is_segment d.segment o then pushed e d else d) ds) (sym is)
 
--- what is said and what waits put nothing into a section
+-- declarations and fixups change no draft
 pub nothing_put : (e : SectionEntry) (ds : List SectionDraft) → segment_of e ≡ None → ds ≡ map (with_entry e) ds
 nothing_put e ds none = sym (map-id ds) ∙ ap (λ o. map (λ (d : SectionDraft). if is_segment d.segment o then pushed e d else d) ds) (sym none)
 
@@ -68,7 +68,7 @@ pub segments_begin : (keys : List ℕ) → map (λ d. d.segment) (map (draft_of 
 segments_begin [] = refl
 segments_begin (k ∷ keys) = ap (λ ks. k ∷ ks) (segments_begin keys)
 
--- ---- Drafts behind all entries.
+-- ---- Drafts after all entries.
 
 abbrev pub following : List SectionEntry → SectionDraft → SectionDraft
 following es d = record d { entries = d.entries ++ entries_in d.segment es }

@@ -1,4 +1,4 @@
--- What holds of the items of two lists holds of those of both.
+-- A property of all items of two lists is one of all items of their concatenation.
 use Rattle.std.proofs.Common.{List, [], ◌∷◌, ◌++◌}
 use Rattle.std.specs.List.{AllByRecursion}
 

@@ -1,4 +1,4 @@
--- Files of an object: names that it can hold, none twice, and each that is written among them.
+-- The files of an object have valid, distinct names, and contain the file of each origin.
 use Rattle.std.proofs.lemmas.Grind.{common_steps}
 use Rattle.std.proofs.Common.{◌≡◌, ◌∙◌, ℕ, zero, suc, Bool, true, false, ◌&&◌, ◌||◌, List, [], ◌∷◌, ◌++◌, length, map, refl, ap, arith}
 use Rattle.std.specs.Prelude.{filter_map, if◌then◌else◌}
@@ -29,7 +29,7 @@ all_second : {A : Type 0} (P : A → Type 0) (xs ys : List A) → AllByRecursion
 all_second P [] ys h = h
 all_second P (x ∷ xs) ys h = all_second P xs ys h.1
 
--- ---- Names that are taken once.
+-- ---- Distinct names.
 
 abbrev with_name : List (List ℕ) → List ℕ → List (List ℕ)
 with_name found n = if list_any (bytes_eq n) found then found else found ++ n ∷ []
@@ -42,7 +42,7 @@ once_good found (n ∷ ns) h good = once_good (with_name found n) ns (by (list_a
     by true e = h
     by false e = names_push is_file_name found n h good.0 e
 
--- a name is among these
+-- the list contains the name
 abbrev pub IsAmong : List (List ℕ) → List ℕ → Type 0
 IsAmong files n = list_any (bytes_eq n) files ≡ true
 
@@ -69,7 +69,7 @@ once_has found (n ∷ ns) = (once_keeps (with_name found n) ns n (by (list_any (
     by true e = e
     by false e = list_any-append (bytes_eq n) found (n ∷ []) ∙ last (list_any (bytes_eq n) found)
 
--- ---- The files of sound contents.
+-- ---- The files of well-formed contents.
 
 abbrev AreFileNames : List (List ℕ) → Type 0
 AreFileNames ns = AllByRecursion (λ n. is_file_name n ≡ true) ns

@@ -1,4 +1,4 @@
--- The object of sound contents is one of the grammar.
+-- The object of well-formed contents is well-formed.
 use borrow.Author.Rules.{rules}
 use Rattle.std.proofs.Common.{◌≡◌, ◌∙◌, ℕ, ◌<◌, Bool, true, not, ◌&&◌, nat_eq, nat_lt, cond, List, [], ◌∷◌, ◌++◌, length, map, Some, None, refl, sym, ap, subst, arith}
 use Rattle.std.specs.Prelude.{filter_map}
@@ -57,7 +57,7 @@ asked_below : (n : ℕ) (cs : List Content) → AllByRecursion (λ c. c.segment 
 asked_below n [] h = tt
 asked_below n (c ∷ cs) h = grind (arith, common_steps, (asked_below n cs h.1))
 
--- ---- What is said.
+-- ---- Declarations.
 
 all_both : {A : Type 0} (P : A → Type 0) (xs ys : List A) → AllByRecursion P xs → AllByRecursion P ys → AllByRecursion P (xs ++ ys)
 all_both P [] ys h g = g

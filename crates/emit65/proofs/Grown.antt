@@ -1,4 +1,4 @@
--- Entries as slots, one more of them, and with more files.
+-- The slots that entries represent, if files or entries are added.
 use Rattle.std.proofs.lemmas.Grind.{common_steps}
 use Rattle.std.proofs.Common.{◌≡◌, ◌∙◌, ℕ, zero, suc, ◌<◌, ◌≤◌, true, List, [], ◌∷◌, ◌++◌, length, map, refl, ap, arith}
 use Rattle.std.specs.Prelude.{nat_lt}
@@ -12,12 +12,12 @@ use Rattle.emit65.specs.declared.entries.SourcePos.{SourcePos}
 use Rattle.emit65.specs.SectionContents.{IsPrefix, HaveFilesBelow, content_of, location_of_pos, slot_of, content_so_far, has_file_below}
 use Rattle.emit65.proofs.Renumbering.{and, left, right}
 
--- what entries have so far, by their slots
+-- the contents so far of the slots of entries are the contents of the entries
 pub contents_of_slots : (files : List (List ℕ)) (es : List SectionEntry) → map content_so_far (map (slot_of files) es) ≡ map (content_of files) es
 contents_of_slots files [] = refl
 contents_of_slots files (x ∷ es) = grind (arith, common_steps, (contents_of_slots files es))
 
--- ---- More files.
+-- ---- Further files.
 
 name_grown : (files later : List (List ℕ)) (k : ℕ) → nat_lt k (length files) ≡ true → name_of (files ++ later) k ≡ name_of files k
 name_grown [] later k h = let lt : k < 0 = grind (arith, nat_tests) in absurd (omega (arith, lt))
@@ -37,7 +37,7 @@ slots_grown files later (e ∷ es) h =
     let rest = slots_grown files later es (right (has_file_below (length files) e) (list_all (has_file_below (length files)) es) h) in
     λ n. one n ∷ rest n
 
--- ---- Entries that stand in files.
+-- ---- Entries whose file index is below a bound.
 
 stands_grown : (m n : ℕ) (e : SectionEntry) → m ≤ n → has_file_below m e ≡ true → has_file_below n e ≡ true
 stands_grown m n x le h = grind (arith, common_steps)
@@ -49,6 +49,6 @@ standing_grown m n (e ∷ es) le h = grind (arith, common_steps, (standing_grown
 pub standing_more : (n : ℕ) (es : List SectionEntry) (e : SectionEntry) → has_file_below n e ≡ true → HaveFilesBelow n es → HaveFilesBelow n (es ++ e ∷ [])
 standing_more n es e h all = list_all-append (has_file_below n) es (e ∷ []) ∙ and (list_all (has_file_below n) es) (list_all (has_file_below n) (e ∷ [])) all (and (has_file_below n e) true h refl)
 
--- names with others behind them are as many or more
+-- a prefix is at most as long as the whole list
 pub begins_long : (names more : List (List ℕ)) → IsPrefix names more → length names ≤ length more
 begins_long names more h = grind (arith, common_steps)

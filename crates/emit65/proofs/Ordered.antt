@@ -1,4 +1,4 @@
--- The object of all that was fed is that of its contents.
+-- The object that is built from numbered entries is the object of the appended contents.
 use Rattle.std.proofs.lemmas.Grind.{common_steps}
 use Rattle.std.proofs.Common.{◌≡◌, ◌∙◌, ℕ, ◌<◌, true, nat_lt, List, [], ◌∷◌, ◌++◌, length, map, not, refl, sym, ap, arith, subst}
 use Rattle.std.specs.Prelude.{filter_map, slice_get}
@@ -39,7 +39,7 @@ module _ (files : List (List ℕ)) (apart : IsDistinct bytes_eq files) where
   abbrev contents : List SectionEntry → List Content
   contents es = map (content_of files) es
 
-  -- ---- What entries put and say.
+  -- ---- The parts and declarations of entries.
 
   abbrev part_of : SectionEntry → Part
   part_of (Bytes g bytes) = Known bytes
@@ -58,7 +58,7 @@ module _ (files : List (List ℕ)) (apart : IsDistinct bytes_eq files) where
   said_are [] = refl
   said_are (x ∷ es) = grind (arith, common_steps, (said_are es))
 
-  -- ---- Where they stand.
+  -- ---- Entries and declarations with valid file indices.
 
   abbrev Stand : List SectionEntry → Type 0
   Stand es = HaveFilesBelow (length files) es
@@ -83,7 +83,7 @@ module _ (files : List (List ℕ)) (apart : IsDistinct bytes_eq files) where
   told_stand [] h = tt
   told_stand (x ∷ es) h = grind (arith, common_steps, (told_stand es (others x es h)), first, below_files)
 
-  -- ---- The files that they name.
+  -- ---- The files that entries use.
 
   abbrev Names : List ℕ → List (List ℕ) → Type 0
   Names ks ns = IsNaming files apart ks ns
@@ -104,7 +104,7 @@ module _ (files : List (List ℕ)) (apart : IsDistinct bytes_eq files) where
       (subst (λ (ps : List Part). Names (flat_map value_keys (entries_in g es)) (flat_map part_files ps)) (sym (parts_are g es)) (values_named (entries_in g es) (put_stand g es h)))
       (drafts_named es keys h)
 
-  -- where each is named by its key, all are
+  -- the keys of all declarations refer to their files, if those of each declaration do
   each_named :
       (keys : LocatedDeclaration → List ℕ) (names : Declaration → List (List ℕ)) →
       ((t : LocatedDeclaration) → t.pos.file < length files → Names (keys t) (names (saying_of t))) →
@@ -138,7 +138,7 @@ module _ (files : List (List ℕ)) (apart : IsDistinct bytes_eq files) where
       (naming_more files apart (flat_map draft_keys (map (draft_of es) keys)) (flat_map export_keys ts) values (flat_map export_files (map saying_of ts)) (drafts_named es keys h) (exports_named ts (told_stand es h)))
       (asserts_named ts (told_stand es h)))
 
-  -- ---- What these numbers make of them.
+  -- ---- Sections, exports and assertions by these numbers.
 
   module _ (n : Numbers) (below : AreBelow files apart n.files.keys) where
     abbrev to : SourceLocation → Origin
@@ -232,9 +232,9 @@ module _ (files : List (List ℕ)) (apart : IsDistinct bytes_eq files) where
         asserts = filter_map (assert_of (origin_in_files fs) keys j) (all_declarations (contents es));
       }
 
--- ---- The object of all that was fed.
+-- ---- The object of the appended contents.
 
--- contents that were fed are alike those of the entries
+-- the appended contents are equivalent to those of the entries
 contents_fed : (cs : List Content) (t : ClosedSections) → HasSlots (map resolved cs) t → AreEquivalentContents cs (map (content_of (names_in t.files)) t.entries.items)
 contents_fed cs t h =
     let files = names_in t.files in
@@ -242,7 +242,7 @@ contents_fed cs t h =
     subst (λ (ds : List Content). AreEquivalentContents ds (map (content_of files) es)) (held_contents cs)
     (subst (λ (ds : List Content). AreEquivalentContents (contents_so_far (map resolved cs)) ds) (contents_of_slots files es) h.equivalent.held)
 
--- the object of all entries is that of what was fed
+-- the object of all entries is that of the appended contents
 pub finished : (segments : List Segment) (names : List (List ℕ)) (c : ClosedSections) (t : Numbered) (cs : List Content) → IsDistinct bytes_eq (names_in c.files) → IsNumbered names c.requested.keys c.entries.items t → HasSlots (map resolved cs) c → object_of segments names (names_in c.files) t ≡ object_with segments names cs
 finished segments names c t cs apart is h =
     let files = names_in c.files in

@@ -1,4 +1,4 @@
--- From a state one thing at most comes next.
+-- Each state has at most one next statement, end or error.
 use Rattle.std.proofs.lemmas.Grind.{common_steps}
 use Rattle.std.proofs.Common.{arith, ◌≡◌, ℕ, zero, suc, Bool, List, [], ◌∷◌, refl, sym, ap, ◌∙◌, subst, None, Some, Result, Ok, Err}
 use Rattle.base65.specs.Store.{Files}
@@ -15,7 +15,7 @@ use Rattle.syntax65.specs.declared.source_location.SourceLocation.{SourceLocatio
 use Rattle.syntax65.proofs.UniqueLexing.{one_reading}
 use Rattle.syntax65.proofs.UniqueParse.{one_parse}
 
--- what two things are, they are both
+-- two values that are equal to a third are equal
 both : {A : Type 0} {x y z : A} → x ≡ z → y ≡ z → x ≡ y
 both e f = e ∙ sym f
 
@@ -86,7 +86,7 @@ pub one_step : (m : Files) (k : EnvironmentView) (s : State) (a b : StepResult) 
 unfolding IsStep
 one_step m k s a b h j = one_led m (step_from k s s.left.items) a b h j
 
--- ---- What comes next.
+-- ---- The next statement, end or error.
 
 pub one_next : (m : Files) (k : EnvironmentView) (s : State) (a b : Next) → ReachesNext m k s a → ReachesNext m k s b → a ≡ b
 one_next m k s a b (further _ t _ e r) q = by b q (λ c. one_next m k t a c r)

@@ -1,4 +1,4 @@
--- What slots come to, one behind the other.
+-- The resolution of slots in order.
 use Rattle.std.proofs.Common.{◌≡◌, false, ◌∙◌, ℕ, List, [], ◌∷◌, ◌++◌, map, refl, sym, ap, subst, append_assoc, arith}
 use Rattle.std.specs.Prelude.{⊤, IfOk, filter_map, Result, Ok, Err}
 use Rattle.std.specs.List.{AllByRecursion}
@@ -15,9 +15,9 @@ use Rattle.semantics65.specs.Numbering.{all_declarations, export_of}
 use Rattle.semantics65.specs.Symbols.{Symbols}
 use Rattle.semantics65.specs.declared.contexts.Context.{Context}
 
--- ---- What was found behind what was found.
+-- ---- Concatenation of resolutions.
 
--- these contents, and what was said
+-- a resolution without an error: its contents and its warnings
 abbrev pub found_all : List Content → List ℕ → Resolution
 found_all cs said = record { found = Ok cs; printed_warnings = said }
 
@@ -25,7 +25,7 @@ abbrev pub after_found : Result (List Content) LocatedFault → List ℕ → Res
 after_found (Ok cs) said b = record { found = b.found >>= (λ ds. Ok (cs ++ ds)); printed_warnings = said ++ b.printed_warnings }
 after_found (Err e) said b = record { found = Err e; printed_warnings = said }
 
--- the one and then the other
+-- a resolution, followed by another one
 abbrev pub after : Resolution → Resolution → Resolution
 after a b = after_found a.found a.printed_warnings b
 
@@ -36,12 +36,12 @@ prepended (Err e) = refl
 pub nothing_after : (b : Resolution) → after (found_all [] []) b ≡ b
 nothing_after b = ap (λ r. record { found = r; printed_warnings = b.printed_warnings }) (prepended b.found)
 
--- a slot more comes to a content
+-- the case that the next slot has a result
 pub resolved_more : (y : Symbols) (names : List (List ℕ)) (cs : List Content) (said : List ℕ) (x : Slot) (xs : List Slot) (m : PieceResult) → slot_result y names x ≡ Ok m →
     after (found_all cs said) (resolution_of y names (x ∷ xs)) ≡ after (found_all (cs ++ m.content ∷ []) (said ++ m.warning)) (resolution_of y (names ++ exported_names m.content.said) xs)
 resolved_more y names cs said x xs m made = grind (arith, common_steps, append_assoc)
 
--- the first that has a fault ends it
+-- the case that the next slot has an error, which ends the resolution
 pub resolved_stops : (y : Symbols) (names : List (List ℕ)) (cs : List Content) (said : List ℕ) (x : Slot) (xs : List Slot) (e : LocatedFault) → slot_result y names x ≡ Err e →
     after (found_all cs said) (resolution_of y names (x ∷ xs)) ≡ record { found = Err e; printed_warnings = said }
 resolved_stops y names cs said x xs e made = grind (arith, common_steps, append-nil)
@@ -51,16 +51,16 @@ resolved_stops y names cs said x xs e made = grind (arith, common_steps, append-
 pub names_append : (ss ts : List Declaration) → exported_names (ss ++ ts) ≡ exported_names ss ++ exported_names ts
 names_append ss ts = filter_map-append exported_name ss ts
 
--- the names of an object's exports are those that were said
+-- the names of the exports are the names that the declarations export
 pub exports_named : (at : SourceLocation → Origin) (s i : List ℕ) (ss : List Declaration) → map (λ (e : Export). e.name) (filter_map (export_of at s i) ss) ≡ exported_names ss
 exports_named at s i [] = refl
 exports_named at s i (ExportedSymbol n location f ∷ ss) = ap (λ ns. n ∷ ns) (exports_named at s i ss)
 exports_named at s i (ForcedImport n ∷ ss) = exports_named at s i ss
 exports_named at s i (LinkAssertion act location words f ∷ ss) = exports_named at s i ss
 
--- ---- Contents, each with its slot.
+-- ---- The content of each slot.
 
--- slots come to these contents, behind exports of these names
+-- the slots have these contents, after exports of these names
 abbrev pub AreFound : Symbols → List (List ℕ) → List Slot → List Content → Type 0
 AreFound y names [] [] = ⊤
 AreFound y names (x ∷ xs) (c ∷ cs) =
@@ -68,7 +68,7 @@ AreFound y names (x ∷ xs) (c ∷ cs) =
     × AreFound y (names ++ exported_names c.said) xs cs
 AreFound y names _ _ = ⊥
 
--- contents behind the first
+-- the content of the first slot, followed by those of the rest
 after_first : (y : Symbols) (names : List (List ℕ)) (x : Slot) (xs : List Slot) (m : PieceResult) → slot_result y names x ≡ Ok m → (r : Result (List Content) LocatedFault) →
     ((ds : List Content) → r ≡ Ok ds → AreFound y (names ++ exported_names m.content.said) xs ds) → (cs : List Content) → (r >>= (λ ds. Ok (m.content ∷ ds))) ≡ Ok cs → AreFound y names (x ∷ xs) cs
 after_first y names x xs m made (Err e) rest cs h = absurd cc
@@ -85,7 +85,7 @@ found_each y names [] [] h = tt
 found_each y names [] (c ∷ cs) h = absurd cc
 found_each y names (x ∷ xs) cs h = with_first y names x xs cs (slot_result y names x) refl (λ m ds k. found_each y (names ++ exported_names m.content.said) xs ds k) h
 
--- contents of slots one behind the other
+-- the contents of a concatenation of slots, in two parts
 pub record Split (y : Symbols) (names : List (List ℕ)) (xs ys : List Slot) (cs : List Content) : Type 0 where
   pub first : List Content
   pub last : List Content
@@ -106,7 +106,7 @@ found_split y names (x ∷ xs) ys (c ∷ cs) (w, made, h) =
       following = subst (λ ns. AreFound y ns ys rest.last) (append_assoc names (exported_names c.said) (exported_names (all_declarations rest.first)) ∙ ap (λ ns. names ++ ns) (sym (names_append c.said (all_declarations rest.first)))) rest.following;
     }
 
--- what is so of whatever such slots come to
+-- if the content of each slot with the property `P` has the property `Q`, then so do the contents of all such slots
 pub found_all_so : (y : Symbols) (P : Slot → Type 0) (Q : Content → Type 0) →
     ((names : List (List ℕ)) (x : Slot) (m : PieceResult) → P x → slot_result y names x ≡ Ok m → Q m.content) →
     (names : List (List ℕ)) (xs : List Slot) (cs : List Content) → AllByRecursion P xs → AreFound y names xs cs → AllByRecursion Q cs
@@ -115,7 +115,7 @@ found_all_so y P Q so names [] (c ∷ cs) all h = absurd h
 found_all_so y P Q so names (x ∷ xs) [] all h = absurd h
 found_all_so y P Q so names (x ∷ xs) (c ∷ cs) (p, all) (w, made, h) = (so names x (record { content = c; warning = w }) p made, found_all_so y P Q so (names ++ exported_names c.said) xs cs all h)
 
--- ---- A piece asks for no section.
+-- ---- The result of a piece requests no section.
 
 abbrev pub asks_none : PieceResult → Type 0
 asks_none m = m.content.requests_section ≡ false

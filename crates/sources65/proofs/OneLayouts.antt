@@ -1,4 +1,4 @@
--- A source is laid in one way, and one kind of states stands for another.
+-- A source has at most one layout and one outcome, and simulation of single statements implies simulation of sources.
 use Rattle.std.proofs.lemmas.Grind.{common_steps}
 use Rattle.expand65.specs.State as expand
 use Rattle.std.proofs.Common.{arith, ◌≡◌, List, [], ◌∷◌, Option, Some, None, refl, sym, subst, ◌∙◌, ap}
@@ -23,9 +23,9 @@ use Rattle.ast65.proofs.UniqueStatement.{One, followed_one, made_one, same_one, 
 use Rattle.sources65.specs.Machine.{OutcomeIsUnique, LayoutIsUnique}
 use Rattle.semantics65.specs.Module.{outcome_of}
 
--- ---- Statements that are taken over one kind of states are taken over another that stands for it.
+-- ---- Simulation.
 
--- what stands behind the one stands for what stands behind the other, and faults are the same
+-- a success of the second relation has a related result of the first; an error is the same
 abbrev pub Matches : {A B : Type 0} → (A → B → Type 0) → (Result A AsmFault → Type 0) → Result B AsmFault → Type 0
 Matches R P (Ok u) = (z : _) × P (Ok z) × R z u
 Matches R P (Err e) = P (Err e)
@@ -33,11 +33,11 @@ Matches R P (Err e) = P (Err e)
 abbrev pub MatchesAll : {A B : Type 0} → (A → B → Type 0) → (ReachedState A → Type 0) → ReachedState B → Type 0
 MatchesAll R P r = (z : _) × P (record { state = z; fault = r.fault }) × R z r.state
 
--- whatever one kind takes, the other takes
+-- each step of the second relation is matched by a step of the first
 abbrev pub Simulates : {A B : Type 0} → (A → B → Type 0) → StepRelation A → StepRelation B → Type 0
 Simulates R TakesA TakesB = (y : _) (t : _) (location : SourceLocation) (x : Statement) (r : Result _ AsmFault) → R y t → TakesB t location x r → Matches R (TakesA y location x) r
 
--- and names, expressions and scopes are the same to both
+-- a simulation with the same environment and the same open scope
 pub record StandIn {A B : Type 0} (R : A → B → Type 0) (a : StatementSemantics A) (b : StatementSemantics B) : Type 0 where
   pub step_relation : Simulates R a.step_relation b.step_relation
   pub environment : (y : A) (t : B) → R y t → a.environment y ≡ b.environment t
@@ -76,7 +76,7 @@ given_matches m R TakesA TakesB sim y t location (expand.plain ts) r stands is =
 
 -- ---- All statements.
 
--- what comes next is the same
+-- in related states, expansion reaches the same next result
 pub next_same : {A B : Type 0} (R : A → B → Type 0) (a : StatementSemantics A) (b : StatementSemantics B) → StandIn R a b → (m : Files) (s : expand.State) (y : A) (t : B) (n : Next) → R y t → ReachesNext m (b.environment t) s n → ReachesNext m (a.environment y) s n
 next_same R a b for m s y t n stands h = subst (λ k. ReachesNext m k s n) (sym (for.environment y t stands)) h
 
@@ -117,7 +117,7 @@ begun_matches R a b for m job y t (Ok s) r stands is =
 pub source_matches : {A B : Type 0} (R : A → B → Type 0) (a : StatementSemantics A) (b : StatementSemantics B) → StandIn R a b → (m : Files) (job : Job) (y : A) (t : B) (r : ReachedState B) → R y t → AssemblesSource m b job t r → MatchesAll R (AssemblesSource m a job y) r
 source_matches R a b for m job y t r stands is = begun_matches R a b for m job y t (first_state_in m job.source job.include) r stands is
 
--- ---- A source is laid in one way at most, and comes to one answer.
+-- ---- A source has at most one layout.
 
 -- ---- A statement.
 
@@ -137,7 +137,7 @@ given_one m y location (expand.plain ts) = rest_one m y location ts
 
 -- ---- All statements.
 
--- the same statement comes next, and the same stands behind it
+-- the expansion states after the next statement are equal, and so are the results of the statement
 same_given : (m : Files) (s t u : expand.State) (x w : expand.ExpandedStatement) (y : Layout) (a b : Result Layout AsmFault) → ReachesNext m (layout_semantics.environment y) s (statement x t) → AssemblesExpanded m IsLaidOut y t.left.place x a → ReachesNext m (layout_semantics.environment y) s (statement w u) → AssemblesExpanded m IsLaidOut y u.left.place w b → (t ≡ u) × (a ≡ b)
 same_given m s t u x w y a b h g j k = grind (arith, common_steps, one_next, given_one)
 

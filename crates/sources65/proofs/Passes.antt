@@ -1,4 +1,4 @@
--- One pass over the statements, and then over what waits, comes to the contents of all.
+-- One pass over the statements and then one over the deferred pieces results in the contents of the layout.
 use Rattle.std.proofs.lemmas.Grind.{common_steps}
 use Rattle.std.proofs.Common.{◌≡◌, ◌∙◌, ℕ, List, [], ◌∷◌, ◌++◌, map, Option, Some, None, refl, sym, ap, subst, append_assoc, arith}
 use Rattle.std.specs.Prelude.{⊤, Bool, true, false, Result, Ok, Err, if◌then◌else◌}
@@ -20,13 +20,13 @@ use Rattle.semantics65.specs.Norms.{Extends}
 use Rattle.sources65.proofs.Resolving.{extends_after, extends_same, extends_then, flat_push, symbols_push}
 use Rattle.sources65.proofs.OneLayouts.{Matches, Simulates, StandIn, source_matches}
 
--- ---- Slots that come to the same.
+-- ---- Slots with equal results.
 
--- whatever statements follow, and whatever was exported before
+-- the slots have equal results, with any further statements and any earlier exports
 abbrev pub IsSame : Symbols → Slot → Slot → Type 0
 IsSame y a b = (z : Symbols) (names : List (List ℕ)) → Extends y z → slot_result z names a ≡ slot_result z names b
 
--- one by one
+-- the lists have equal results element by element
 abbrev pub AreSame : Symbols → List Slot → List Slot → Type 0
 AreSame y [] [] = ⊤
 AreSame y (a ∷ xs) (b ∷ ys) = IsSame y a b × AreSame y xs ys
@@ -56,17 +56,17 @@ resolved_same y z more names (a ∷ xs) (b ∷ ys) (one, h) =
     ap (λ r. result_then r (λ m. resolution_of z (names ++ exported_names m.content.said) xs)) (one z names more)
     ∙ same_after (slot_result z names b) (λ m. resolution_of z (names ++ exported_names m.content.said) xs) (λ m. resolution_of z (names ++ exported_names m.content.said) ys) (λ m. resolved_same y z more (names ++ exported_names m.content.said) xs ys h)
 
--- ---- Pieces that are put.
+-- ---- Emitted and deferred pieces.
 
--- a state in which statements' table, cursor and texts are these
+-- the state with other slots
 abbrev holding : State → List Slot → State
 holding t slots = record t { slots = slots }
 
--- a piece that waits
+-- the slot of a deferred piece
 abbrev waiting : SourceLocation → Context → Piece → Slot
 waiting location s p = deferred (record { place = location; context = s; piece = p })
 
--- what a step adds to a state: slots, which come to the same as these
+-- a step appends only slots, and these have the same results as `xs`
 record Adds (t u : State) (xs : List Slot) : Type 0 where
   slots : List Slot
   same : u ≡ holding t (t.slots ++ slots)
@@ -90,7 +90,7 @@ put_all location s t u (p ∷ ps) h =
 
 -- ---- Statements.
 
--- a state with the table, the cursor and the texts of laid statements
+-- a state with the symbol table, cursor and texts of a layout
 abbrev state_for : Layout → List Slot → State
 state_for y slots = record { symbols = symbols_of y.laid; cursor = y.cursor; slots = slots; out = stdout_text y.laid; err = warning_text y.laid }
 
@@ -99,11 +99,11 @@ pub record Follows (y : Layout) (t : State) : Type 0 where
   pub same : t ≡ state_for y slots
   pub comes : AreSame (symbols_of y.laid) slots (flat_map slots_of y.laid)
 
--- what is known behind a statement is what is known of it and those before it
+-- the state after a statement has the symbol table, cursor and texts of the layout after the statement
 known_for : (y : Layout) (location : SourceLocation) (x : Statement) (slots : List Slot) → with_symbols (state_for y slots) (laid_out_statement (symbols_of y.laid) y.cursor location x) ≡ state_for (layout_after y location x) slots
 known_for y location x slots = grind (arith, common_steps, symbols_push, flat_push)
 
--- a statement asks for its section, or doesn't
+-- the slot of a section request, if the statement needs its section
 abbrev asking_slots : LaidOutStatement → List Slot
 asking_slots l = if needs_section l.stated then resolved (section_request l.context.segment) ∷ [] else []
 
@@ -173,9 +173,9 @@ runs_laid m job r runs =
     let follows : Follows all.0 r.state = all.2 in
     (all.0, all.1, subst (SimulatesLayout all.0) (sym follows.same) (stands_for all.0 follows.slots follows.comes))
 
--- ---- What is answered.
+-- ---- The outcome.
 
--- what is answered, by what stands behind the last line
+-- the outcome by the state after the last line
 abbrev answered : Symbols → Cursor → Resolution → (out err : List ℕ) → Outcome
 answered z w f out err = record { result = f.found >>= (λ cs. Ok (object_with w.segments z.imports cs)); out = out; err = err ++ f.printed_warnings }
 
@@ -191,9 +191,9 @@ concluded_for y t (Some e) for = grind (arith, common_steps)
 pub one_pass : OnePassSuffices
 one_pass m job r runs = grind (arith, common_steps, runs_laid, concluded_for)
 
--- ---- Whatever is laid can be reached.
+-- ---- The machine reaches each layout.
 
--- every piece may wait
+-- each piece may be deferred
 all_wait : (location : SourceLocation) (s : Context) (t : State) (ps : List Piece) → (u : State) × PieceSteps location s t ps u
 all_wait location s t [] = (t, refl)
 all_wait location s t (p ∷ ps) =

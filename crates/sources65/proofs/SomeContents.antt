@@ -1,4 +1,4 @@
--- Each slot comes to something, or to a fault that comes from no outside; so laid statements have an object.
+-- Each slot has a result or an error that is no system error, and so has the object of laid-out statements.
 use Rattle.std.proofs.Common.{arith, ◌≡◌, pos, ℕ, zero, ◌+◌, Bool, false, List, [], ◌∷◌, ◌++◌, Option, Some, None, refl}
 use Rattle.std.specs.Prelude.{Result, Ok, Err, IfSome}
 use Rattle.std.specs.List.{flat_map}
@@ -37,7 +37,7 @@ form_own : (width : Width) (s : Context) (f : Form) → Own is_system_error (ope
 form_own Branch s f = folded_own _ (record { own = some_fold.1 Subtract f (sec s.segment (pos (s.offset + 2))) })
 form_own width s f = good f
 
--- ---- What is said.
+-- ---- Declarations.
 
 import_own : (y : Symbols) (n : List ℕ) → Own is_system_error (import_fault y n)
 import_own y n = record { own = grind (arith) }

@@ -1,4 +1,4 @@
--- Each expression has a form, or a fault that comes from no outside.
+-- Each expression has a form or an error that is no system error.
 use Rattle.std.proofs.Common.{◌≡◌, ℕ, zero, suc, ◌+◌, Bool, true, false, List, [], ◌∷◌, length, Option, Some, None, refl}
 use Rattle.std.specs.Prelude.{Result, Ok, Err, nat_le, ◌-◌, slice_get, take}
 use Rattle.base65.specs.Outcome.{◌>>=◌}
@@ -16,7 +16,7 @@ use Rattle.semantics65.specs.Symbols.{Definition, Binding, defined_at, imported_
 use Rattle.semantics65.specs.Types.{AsmFault, NoSuchLabel, NoSuchScope, Undefined}
 use Rattle.semantics65.specs.declared.contexts.Context.{Context}
 
--- ---- What names mean.
+-- ---- Bindings of names.
 
 fault_own : (e : AsmFault) → is_system_error e ≡ false → (a b : Option ℕ) → Own is_system_error (binding_or_fault e a b)
 fault_own e h (Some i) b = good _

@@ -1,4 +1,5 @@
--- A source is laid up to its last line or to a first fault, and comes to an answer: each statement leaves less to expand.
+-- Each source has a layout, up to its last line or its first error, and an outcome: each statement shrinks the input that
+-- remains to be expanded.
 use Rattle.std.proofs.Common.{arith, ◌≡◌, ℕ, zero, suc, ◌<◌, true, false, List, [], ◌∷◌, Option, Some, None, refl}
 use Rattle.std.specs.Prelude.{Result, Ok, Err, IfSome}
 use Rattle.base65.specs.Outcome.{◌>>=◌}
@@ -30,9 +31,9 @@ expansion_own expansion.OutOfMemory h = absurd (let e : true ≡ false = h in cc
 expansion_own expansion.FileError h = absurd (let e : true ≡ false = h in cc)
 expansion_own _ h = refl
 
--- ---- Over any states between statements, where each statement comes to something.
+-- ---- Over any states, if each statement has a result.
 
--- no fault from outside
+-- there is no error, or it is no system error
 abbrev IsOwnAt : {S : Type 0} → ReachedState S → Type 0
 IsOwnAt r = IfSome r.fault (λ e. is_located_system_error e ≡ false)
 
@@ -107,7 +108,7 @@ module _ {S : Type 0} (m : Files) (b : StatementSemantics S) (some : (y : S) (lo
     pub source_there : (r : ReachedState S) × AssemblesSource m b job y r × IsOwnAt r
     source_there = begun_there (bytes_in (file_named m job.source)) (some_next.opened m job.source job.include)
 
--- ---- Laid statements.
+-- ---- Layouts.
 
 pub some_layout : LayoutExists
 some_layout m job = source_there m layout_semantics (λ y location x. (with_statement y location x, refl, statement_own y location x)) job empty_layout

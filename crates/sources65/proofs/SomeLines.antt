@@ -1,4 +1,4 @@
--- The fault of a line comes from no outside.
+-- The error of a line is no system error.
 use Rattle.std.proofs.Common.{◌≡◌, ℤ, pos, negsuc, ℕ, Bool, true, false, not, List, [], ◌∷◌, Option, Some, None, refl}
 use Rattle.std.specs.Prelude.{⊤, IfSome, ◌==◌, ◌&&◌}
 use Rattle.std.specs.List.{list_any}
@@ -15,7 +15,7 @@ use Rattle.semantics65.specs.Types.{AsmFault, BadAlignment, BadOperand, BadPart,
 use Rattle.semantics65.specs.declared.contexts.Context.{Context}
 use Rattle.semantics65.specs.declared.contents.Segment.{Segment}
 
--- a fault, if there is one, that comes from no outside
+-- if there is an error, it is no system error
 pub record MayFail (o : Option AsmFault) : Type 0 where
   pub own : IfSome o (λ e. is_system_error e ≡ false)
 

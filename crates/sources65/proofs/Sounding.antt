@@ -1,4 +1,4 @@
--- What lines say is sound: names of identifiers, and texts that are short enough.
+-- The statements of lines are well-formed: identifiers are valid names, and texts are short enough.
 use Rattle.std.proofs.lemmas.Grind.{common_steps}
 use Rattle.std.proofs.Common.{◌≡◌, ℕ, ◌≤◌, true, List, [], ◌∷◌, refl, ap, subst, arith, ◌<◌}
 use Rattle.std.specs.Prelude.{Ok, nat_le, length, ◌==◌, if◌then◌else◌, Option, Result, Err, Some}
@@ -27,9 +27,8 @@ use Rattle.ast65.specs.declared.language.Statement.{Statement}
 use Rattle.ast65.specs.declared.language.Statement.TheVariants as statement
 use Rattle.ast65.specs.Parsing as p
 
--- ---- Identifiers are names that objects can hold.
+-- ---- Bytes of identifiers are printable.
 
--- a test that is false in a chain leads to the rest
 alphabetic_printed : (b : ℕ) → is_ascii_alphabetic b ≡ true → is_printed b ≡ true
 alphabetic_printed b h = Prim.grind (arith, nat_tests)
 
@@ -51,7 +50,7 @@ words_printed : (bs : List ℕ) → list_all is_identifier_byte bs ≡ true → 
 words_printed [] h = refl
 words_printed (b ∷ bs) h = grind (arith, common_steps, (word_printed b), (words_printed bs))
 
--- an identifier of at most 200 bytes
+-- an identifier of at most 200 bytes is a valid name
 pub short_name : (t : List ℕ) → IsForm Identifier t → length t ≤ 200 → is_name t ≡ true
 short_name [] form short = elim form [ ]
 short_name (b ∷ bs) form short = let first = word_printed b (letter_is_word b form.0) in let rest = words_printed bs form.1 in grind (arith, common_steps, nat_tests)
@@ -65,7 +64,7 @@ pub identifier_named : (n : List ℕ) → is_identifier n ≡ true → is_name n
 identifier_named [] h = cc
 identifier_named (b ∷ bs) h = grind (arith, common_steps, nat_tests, (letter_printed b), (words_printed bs))
 
--- ---- What lines say is sound: names of identifiers, and texts that are short enough.
+-- ---- Statements.
 
 abbrev Answer : Type 0
 Answer = Result Statement AsmFault
@@ -73,21 +72,21 @@ Answer = Result Statement AsmFault
 abbrev good : Statement → Answer
 good x = Ok x
 
--- what was found first leads to what follows
+-- a success of `AndThen` is a success of the second step after a success of the first
 pub after_first : {A B : Type 0} (P : B → Type 0) (q : Result A AsmFault) (Next : A → Result B AsmFault → Type 0) (x : B) → ((a : A) → Next a (Ok x) → P x) → AndThen q Next (Ok x) → P x
 after_first P (Ok a) Next x each h = each a h
 after_first P (Err e) Next x each h = absurd cc
 
 -- ---- Names.
 
--- the name that one token is
+-- the name of a single token
 words_named : (ts : List Lexeme) → AreSymbolNames ts → (n : List ℕ) → p.identifier_of ts ≡ Some n → is_name n ≡ true
 words_named x1 named n h = grind (arith, common_steps)
 
 name_named : (ts : List Lexeme) (n : List ℕ) (w : Option (List ℕ)) → AreSymbolNames ts → p.identifier_of ts ≡ w → Ok n ≡ (p.ok_or_not_understood w >>= p.plain_name) → is_name n ≡ true
 name_named ts n x1 named word h = grind (arith, common_steps, (words_named ts named))
 
--- ---- Parts of lists.
+-- ---- List elements.
 
 before_named : (t : Lexeme) (parts : List (List Lexeme)) → IsSymbolName t.0 t.1 → AllByRecursion AreSymbolNames parts → AllByRecursion AreSymbolNames (onto_first t parts)
 before_named t x1 named all = grind (arith, common_steps)

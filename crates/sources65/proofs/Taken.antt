@@ -1,4 +1,4 @@
--- What taking the statements of a source comes to, one after the other.
+-- Assembling the statements of a source in order: the first state, one further statement, and each kind of end.
 use Rattle.std.proofs.lemmas.Grind.{common_steps}
 use Rattle.expand65.specs.State as expand
 use Rattle.syntax65.specs.Faults as expansion
@@ -23,29 +23,29 @@ use Rattle.ast65.specs.declared.language.Statement.{Statement}
 use Rattle.ast65.specs.Parsing.{label_of}
 use Rattle.semantics65.specs.Module.{statement_stdout, statement_warning}
 
--- ---- The statements of a source one behind the other: how they begin, one step further, and each end.
+-- ---- The statements of a source in order.
 
 -- ---- Statements.
 
--- a statement that is taken
+-- a statement is assembled
 pub goes_on : {S : Type 0} (m : Files) (b : StatementSemantics S) (IsAll : ReachedState S → Type 0) (s t : expand.State) (x : expand.ExpandedStatement) (y z : S) → StateImpliesResult m b IsAll s y → ReachesNext m (b.environment y) s (statement x t) → AssemblesExpanded m b.step_relation y t.left.place x (Ok z) → StateImpliesResult m b IsAll t z
 goes_on m b IsAll s t x y z inv reaches given = λ r h. inv r (statement_assembled s t x y z r reaches given h)
 
--- one with a fault
+-- a statement has an error
 pub stops : {S : Type 0} (m : Files) (b : StatementSemantics S) (IsAll : ReachedState S → Type 0) (s t : expand.State) (x : expand.ExpandedStatement) (y : S) (e : AsmFault) → StateImpliesResult m b IsAll s y → ReachesNext m (b.environment y) s (statement x t) → AssemblesExpanded m b.step_relation y t.left.place x (Err e) → IsAll (stopped_at y t.left.place e)
 stops m b IsAll s t x y e inv reaches given = inv (stopped_at y t.left.place e) (statement_rejected s t x y e reaches given)
 
--- a fault of expansion
+-- expansion has an error
 pub is_refused : {S : Type 0} (m : Files) (b : StatementSemantics S) (IsAll : ReachedState S → Type 0) (s : expand.State) (y : S) (e : ExpandFault) (location : SourceLocation) → StateImpliesResult m b IsAll s y → ReachesNext m (b.environment y) s (fault (e, location)) → IsAll (stopped_at y location (Expansion e))
 is_refused m b IsAll s y e location inv reaches = inv (stopped_at y location (Expansion e)) (expansion_rejected s y e location reaches)
 
--- the end
+-- the source ends
 pub ends : {S : Type 0} (m : Files) (b : StatementSemantics S) (IsAll : ReachedState S → Type 0) (s t : expand.State) (y : S) → StateImpliesResult m b IsAll s y → ReachesNext m (b.environment y) s (nothing t) → IsAll (record { state = y; fault = open_scope_fault t.left.place (b.scope y) })
 ends m b IsAll s t y inv reaches = inv (record { state = y; fault = open_scope_fault t.left.place (b.scope y) }) (source_ended s t y reaches)
 
--- ---- Constants of the command line.
+-- ---- `-D` constants.
 
--- what the constants that are left come to behind what stands there, all come to
+-- all results of the remaining constants from state `y` satisfy `IsAll`
 abbrev pub DefinesOn :
     {S : Type 0} → StepRelation S → SourceLocation → (Result S AsmFault → Type 0) → List Define → S → Type 0
 DefinesOn Steps location IsAll ds y = (r : Result _ AsmFault) → DefinesConstants Steps y location ds r → IsAll r
@@ -61,21 +61,21 @@ faulty_constant Steps location IsAll d ds y e inv takes = inv (Err e) (Err e, ta
 
 -- ---- A source.
 
--- one that can't be opened
+-- the source can't be opened
 pub not_opened : {S : Type 0} (m : Files) (b : StatementSemantics S) (job : Job) (y : S) (e : ExpandFault) → first_state_in m job.source job.include ≡ Err e → AssemblesSource m b job y (stopped_at y (no_line job.source) (Expansion e))
 not_opened m b job y e is = subst (λ q. AssemblesOpeningResult m b job y q (stopped_at y (no_line job.source) (Expansion e))) (sym is) refl
 
--- one with a fault in a constant
+-- a constant has an error
 pub not_defined : {S : Type 0} (m : Files) (b : StatementSemantics S) (job : Job) (s : expand.State) (y : S) (e : AsmFault) → first_state_in m job.source job.include ≡ Ok s → DefinesConstants b.step_relation y (no_line job.source) job.defines (Err e) → AssemblesSource m b job y (stopped_at y (no_line job.source) e)
 not_defined m b job s y e is defined = subst (λ q. AssemblesOpeningResult m b job y q (stopped_at y (no_line job.source) e)) (sym is) (Err e, defined, refl)
 
--- one whose statements begin behind its constants
+-- the constants are defined, and the statements begin
 pub begins : {S : Type 0} (m : Files) (b : StatementSemantics S) (job : Job) (s : expand.State) (y z : S) → first_state_in m job.source job.include ≡ Ok s → DefinesConstants b.step_relation y (no_line job.source) job.defines (Ok z) → StateImpliesResult m b (AssemblesSource m b job y) s z
 begins m b job s y z is defined = λ r h. subst (λ q. AssemblesOpeningResult m b job y q r) (sym is) (Ok z, defined, h)
 
--- ---- The statements of a source as an expander gives them: how they begin, one further, and each end.
+-- ---- The statements of a source as an expander returns them.
 
--- a fault of expansion comes from outside where it does in assembling
+-- an error of expansion is a system error if and only if its error of assembling is one
 pub same_outside : (e : ExpandFault) → expansion.is_system_error e ≡ is_system_error (Expansion e)
 same_outside x1 = grind (arith, common_steps)
 
@@ -89,17 +89,15 @@ same_place m e t stands = ap (λ (s : expand.State). s.left.place) (sym stands.1
 
 -- ---- A source.
 
--- one that can't be opened
+-- the source can't be opened
 pub open_refused : {S : Type 0} (m : Files) (b : StatementSemantics S) (job : Job) (y : S) (e : ExpandFault) → RepresentsFirstState m (Err e) (first_state_in m job.source job.include) → Unless (is_system_error (Expansion e)) (AssemblesSource m b job y (stopped_at y (no_line job.source) (Expansion e)))
 open_refused m b job y e opens = unless_same (expansion.is_system_error e) (is_system_error (Expansion e)) (same_outside e) (not_opened m b job y e) opens
 
--- one with a fault in a constant
+-- a constant has an error
 pub constants_refused : {S : Type 0} (m : Files) (b : StatementSemantics S) (job : Job) (opened : Expander) (y : S) (e : AsmFault) → RepresentsFirstState m (Ok opened) (first_state_in m job.source job.include) → DefinesConstants b.step_relation y (no_line job.source) job.defines (Err e) → AssemblesSource m b job y (stopped_at y (no_line job.source) e)
 constants_refused m b job opened y e opens defined = not_defined m b job opens.0 y e opens.1 defined
 
 -- ---- Statements.
-
--- ---- What taking a statement that expansion gives answers.
 
 -- ---- A label prints nothing.
 
@@ -109,9 +107,7 @@ IsQuiet o = (location : SourceLocation) (x : Statement) → o ≡ Some x → (st
 pub label_quiet : (ts : List Lexeme) → IsQuiet (label_of ts).0
 label_quiet x1 = grind (arith, common_steps)
 
--- ---- What stands behind it.
+-- ---- The tokens after a label.
 
 pub some_tokens : (tokens : List Token) → (length tokens ≡ 0 → ⊥) → lexemes tokens ≡ [] → ⊥
 some_tokens x1 some e = grind (arith, common_steps)
-
--- ---- A label.

@@ -14,24 +14,23 @@ use Rattle.symbols65.specs.declared.measuring.StatementLayout.{StatementLayout}
 use Rattle.symbols65.proofs.Measures.{no_fault}
 use Rattle.semantics65.proofs.Segments.{all_more, all_same, grown_length}
 
--- ---- What is open.
+-- ---- Enclosing scopes.
 
 within_below : (count i : ℕ) (cs : List Scope) → HaveBoundedParents count cs → parent_scope (slice_get cs i) ≤ count
 within_below count i [] h = omega arith
 within_below count zero (c ∷ cs) h = h.0
 within_below count (suc i) (c ∷ cs) h = within_below count i cs h.1
 
--- the scope around one is among those that were opened
+-- the number of an enclosing scope is at most the count of openings
 pub enclosing_below : (count scope : ℕ) (cs : List Scope) → HaveBoundedParents count cs → enclosing cs scope ≤ count
 enclosing_below count zero cs h = omega arith
 enclosing_below count (suc i) cs h = within_below count i cs h
 
--- after a statement, each scope is opened within one whose number is at most the count of
--- openings
+-- after a statement, the number of each scope's parent is at most the count of openings
 pub inside_after : (count scope : ℕ) (cs : List Scope) (x : Statement) → scope ≤ count → HaveBoundedParents count cs → HaveBoundedParents (count + opening_count x) (cs ++ scope_opened scope x)
 inside_after count scope cs x le h = grind (arith, common_steps, all_same, all_more)
 
--- ---- What is counted.
+-- ---- Counts.
 
 scopes_after : (x : Statement) (n count : ℕ) → n ≤ count → (if opens_scope x then n + 1 else n) ≤ count + opening_count x
 scopes_after x n count le = grind (arith, common_steps)
@@ -52,7 +51,7 @@ open_after statement.CloseScope y w count le less h = let around = enclosing_bel
 open_after statement.CloseProc y w count le less h = let around = enclosing_below count w.scope y.scopes h in omega (arith, around)
 open_after _ y w count le less h = omega (arith, le)
 
--- a statement increases the counts by at most its openings
+-- after a statement, the counts are within the earlier bound plus the openings of the statement
 pub counted_after : (y : Symbols) (w : Cursor) (x : Statement) (len alignment count : ℕ) → HasBoundedCounts count w → HaveBoundedParents count y.scopes → HasBoundedCounts (count + opening_count x) (cursor_with_bytes y w x len alignment)
 counted_after y w x len alignment count counted inside = record {
   scope = open_after x y w count counted.scope counted.scopes inside;
@@ -62,11 +61,11 @@ counted_after y w x len alignment count counted inside = record {
   segments = segments_counted x w.segments w.current len alignment count counted.segments;
 }
 
--- below the limit, there are numbers for one more
+-- below the limit, the counts don't overflow if a further statement opens something
 pub has_numbers : (count : ℕ) (y : Symbols) (w : Cursor) → HasBoundedCounts count w → HaveBoundedParents count y.scopes → count < opening_limit → HasSpareCounts y w
 has_numbers count y w counted inside less = grind (arith, common_steps, enclosing_below)
 
--- ---- What is measured.
+-- ---- The layout of a statement.
 
 module _ (y : Symbols) (w : Cursor) (x : Statement) where
   pub without_fault : (m : StatementLayout) → layout_result y w x ≡ Ok m → line_fault y w x ≡ None
@@ -78,6 +77,6 @@ module _ (y : Symbols) (w : Cursor) (x : Statement) where
   pub with_fault : (e : AsmFault) → layout_result y w x ≡ Err e → line_fault y w x ≡ Some e
   with_fault e p = grind (arith, common_steps)
 
-  -- the cursor after a statement
+  -- the cursor after a statement is that of the layout rules
   pub after_measured : (m : StatementLayout) → layout_result y w x ≡ Ok m → cursor_with_bytes y w x m.length m.alignment ≡ cursor_after y w x
   after_measured m e = ap (λ (k : StatementLayout). cursor_with_bytes y w x k.length k.alignment) (sym (is_measured m e))

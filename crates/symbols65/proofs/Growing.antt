@@ -1,4 +1,4 @@
--- Tables with one word, one definition or one scope more.
+-- Symbol tables with a further interned name, definition or scope.
 use Rattle.std.proofs.lemmas.Grind.{common_steps}
 use Rattle.std.proofs.Common.{◌≡◌, ℕ, zero, suc, ◌+◌, ◌<◌, Bool, true, false, cond, List, [], ◌∷◌, ◌++◌, length, map, get_or, position, Option, Some, None, option_map, refl, sym, ap, ◌∙◌, subst, arith}
 use Rattle.std.specs.Prelude.{OnOk, OnErr, Result, slice_get, if◌then◌else◌}
@@ -26,7 +26,7 @@ use Rattle.ast65.proofs.Lists.{same_bytes}
 
 -- ---- Maps.
 
--- a new key goes last
+-- a new key is inserted at the end
 pub inserted_last : {K V : Type 0} (eq : K → K → Bool) (es : List (K × V)) (k : K) (v : V) → position (eq k) (keys_of es) ≡ None → insert_entry eq es k v ≡ es ++ (k, v) ∷ []
 inserted_last {K} {V} eq es k v h = go 0 es (sym (position_from-zero (eq k) (keys_of es)) ∙ h)
   where
@@ -49,7 +49,7 @@ pub keys_length : {K V : Type 0} (es : List (K × V)) → length (keys_of es) �
 keys_length [] = refl
 keys_length (e ∷ es) = ap suc (keys_length es)
 
--- ---- One word more.
+-- ---- Further interned names.
 
 get_or_stays : (ws more : List (List ℕ)) (w : ℕ) → w < length ws → get_or (ws ++ more) w [] ≡ get_or ws w []
 get_or_stays [] more w lt = absurd (omega arith)
@@ -92,20 +92,20 @@ module _ (ws more : List (List ℕ)) where
       subst Holds (ap (λ cs. record { definitions = map (definition_in (ws ++ more)) es; scopes = cs; imports = imports; zero_page = zero_page }) (sym (scopes_stay ss scoped)))
       (subst Holds (ap (λ ds. record { definitions = ds; scopes = map (scope_opened ws) ss; imports = imports; zero_page = zero_page }) (sym (definitions_stay es entered))) h)
 
--- what a new table of words gives
+-- a property of each list of the form `ws ++ more` is one of each list that begins with `ws`
 pub begun : (P : List (List ℕ) → Type 0) (ws new : List (List ℕ)) → IsPrefixOf ws new → ((more : List (List ℕ)) → P (ws ++ more)) → P new
 begun P ws new h k = subst P (sym h.1) (k h.0)
 
--- ---- What searches have found.
+-- ---- Entries of searches.
 
--- where there is no entry, all that is kept holds
+-- a table without entries satisfies `KeepsSearches`
 pub none_searched : (y : l.Symbols) (searched : ℕ → Option SearchEntry) → ((j : ℕ) → searched j ≡ None) → KeepsSearches y searched
 none_searched y searched none = (
   λ j o at. (let never : None ≡ Some o = sym (ap (entry_at (length y.definitions)) (none j)) ∙ at in absurd cc),
   λ j n at. (let never : None ≡ Some (NoForm n) = sym (none j) ∙ at in absurd cc),
 )
 
--- ---- One definition or scope more.
+-- ---- A further definition or scope.
 
 pub numbered_pushed : {K V : Type 0} (name_id : K → Option ℕ) (ws : List (List ℕ)) (es : List (K × V)) (k : K) (v : V) → AreNumbered name_id ws (keys_of es) → first_number ws (name_id k) ≡ name_id k → AreNumbered name_id ws (keys_of (es ++ (k, v) ∷ []))
 numbered_pushed {K} name_id ws es k v h own = grind (arith, common_steps, get_more, keys_pushed)
@@ -116,7 +116,7 @@ counted_pushed es k v h own = grind (arith, common_steps, get_more, keys_pushed)
 pub inner_pushed : {V : Type 0} (es : List (InternedKey × V)) (k : InternedKey) (v : V) (inner : List Bool) → AreInnerKnown (keys_of es) inner → IsInnerKnown inner k → AreInnerKnown (keys_of (es ++ (k, v) ∷ [])) inner
 inner_pushed es k v inner h own = grind (arith, common_steps, get_more, keys_pushed)
 
--- what is noted stays noted
+-- `AreInnerKnown` is preserved if each recorded name is still recorded
 pub inner_kept : (ks : List InternedKey) (old new : List Bool) → ((w : ℕ) → slice_get old w ≡ Some true → slice_get new w ≡ Some true) → AreInnerKnown ks old → AreInnerKnown ks new
 inner_kept ks old new kept h = λ i k at scope w is. kept w (h i k at scope w is)
 
@@ -124,7 +124,7 @@ pub distinct_pushed : (ss : List (ScopeKey × Bool)) (k : ScopeKey) (v : Bool) �
 distinct_pushed ss k v h own = grind (arith, common_steps, get_more, keys_pushed, keys_length)
 
 module _ (ws : List (List ℕ)) (es : List (InternedKey × Definition)) (ss : List (ScopeKey × Bool)) where
-  -- what extends a table with one definition more extends the table
+  -- an extension of the table with a further definition or scope is an extension of the table
   less_definition : (e : InternedKey × Definition) (z : l.Symbols) → Extends (table_without_imports ws (es ++ e ∷ []) ss) z → Extends (table_without_imports ws es ss) z
   less_definition e z h = grind (arith, common_steps)
 
@@ -137,9 +137,9 @@ module _ (ws : List (List ℕ)) (es : List (InternedKey × Definition)) (ss : Li
   pub final_scoped : (s : ScopeKey × Bool) → AreFinal ws es ss → AreFinal ws es (ss ++ s ∷ [])
   final_scoped s h = λ j d at. (λ f is z extends. (h j d at).0 f is z (less_scope s z extends), λ r is z extends none. (h j d at).1 r is z (less_scope s z extends) none)
 
--- ---- The entry of a key.
+-- ---- The interned key of a key.
 
--- it has the first number of its name, and stands for the key
+-- the interned key has the first number of its name, and represents the key
 pub entry_is : (ws : List (List ℕ)) (q : Key) (k : InternedKey) → interned_key_of ws q ≡ Some k → (first_number ws (key_name_id k) ≡ key_name_id k) × (key_in ws k ≡ q)
 entry_is ws (named s n) k e = by (position (bytes_eq n) ws) refl e
   where
@@ -161,7 +161,8 @@ entry_is ws (cheap_in s n) k e = by (position (bytes_eq n) ws) refl e
         subst (λ x. (first_number ws (key_name_id x) ≡ key_name_id x) × (key_in ws x ≡ cheap_in s n)) same (ap (λ m. position (bytes_eq m) ws) name_id ∙ is, ap (cheap_in s) name_id)
 entry_is ws (unnamed_at c) k e = (let same : entry.Unnamed c ≡ k = cc in subst (λ x. (first_number ws (key_name_id x) ≡ key_name_id x) × (key_in ws x ≡ unnamed_at c)) same (refl, refl))
 
--- the same of the opening of a scope of a name
+-- The key of a scope with a name has the first number of the name, and represents the scope. `HasNumber` is trivial, since
+-- it restricts only keys without a name.
 pub opening_is : (ws : List (List ℕ)) (s : ℕ) (n : List ℕ) (k : ScopeKey) (is_proc : Bool) → option_map (opening.Named s) (position (bytes_eq n) ws) ≡ Some k →
     (first_number ws (scope_name_id k) ≡ scope_name_id k) × (scope_by ws k is_proc ≡ record { within = s; name = Some n; is_proc = is_proc }) × ((i : ℕ) → HasNumber i k)
 opening_is ws s n k is_proc e = by (position (bytes_eq n) ws) refl e
@@ -176,7 +177,7 @@ opening_is ws s n k is_proc e = by (position (bytes_eq n) ws) refl e
         subst (λ x. (first_number ws (scope_name_id x) ≡ scope_name_id x) × (scope_by ws x is_proc ≡ record { within = s; name = Some n; is_proc = is_proc }) × ((i : ℕ) → HasNumber i x)) same
         (ap (λ m. position (bytes_eq m) ws) name_id ∙ is, ap (λ m. record { within = s; name = Some m; is_proc = is_proc }) name_id, λ i within number no. absurd cc)
 
--- ---- The opening of a scope.
+-- ---- The key of a scope.
 
 module _ (ws : List (List ℕ)) (s : ℕ) (k : ScopeKey) where
   pub opening_numbered : (count : ℕ) (name : Option (List ℕ)) → IsScopeKey ws count s name k → first_number ws (scope_name_id k) ≡ scope_name_id k
@@ -190,11 +191,11 @@ module _ (ws : List (List ℕ)) (s : ℕ) (k : ScopeKey) where
   opening_scope count None is_proc h = ap (λ x. scope_by ws x is_proc) h
   opening_scope count (Some n) is_proc h = (opening_is ws s n k is_proc h).1
 
-  -- a scope is opened once by its opening
+  -- if the parent scope contains no scope of this name, the key of the scope is new
   pub opened_once : (ss : List (ScopeKey × Bool)) (name : Option (List ℕ)) → AreNumbered scope_name_id ws (keys_of ss) → AreDistinct (keys_of ss) → IsScopeKey ws (length ss) s name k →
       opened_twice (map (scope_opened ws) ss) s name ≡ None → position (same_scope_key k) (keys_of ss) ≡ None
   opened_once ss x numbers distinct h e = grind (arith, common_steps, position_none, slice_get_within, keys_length, nat_tests, finds_opened)
 
--- what follows after a call, whether it succeeded or not
+-- a fact that both the success and the failure of a call imply
 pub after : {A E P Q R : Type 0} (r : Result A E) → (P → R) → (Q → R) → OnOk r P → OnErr r Q → R
 after x f g p q = grind (arith, common_steps)

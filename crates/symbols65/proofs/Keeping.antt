@@ -1,4 +1,4 @@
--- What means the same where a symbol table has one definition more whose name is new.
+-- A further definition preserves all bindings if its name is new; then it preserves forms and entries of searches, too.
 use Rattle.std.proofs.Common.{◌≡◌, ℕ, zero, suc, ◌+◌, ◌-◌, refl, sym, ap, ◌∙◌, arith, List, [], ◌∷◌, ◌++◌, length, take, position, cond, Bool, true, false, Option, Some, None, slice_get, Result, Ok, Err, nat_eq, length-append}
 use Rattle.std.specs.Prelude.{◌&&◌, ◌==◌, if◌then◌else◌, nat_le}
 use Rattle.std.specs.List.{position_from}
@@ -39,7 +39,7 @@ first_none : (f : ℕ → Option ℕ) → ((s : ℕ) → f s ≡ None) → (ss :
 first_none f none [] = refl
 first_none f none (s ∷ ss) = ap (λ o. or_else o (first_found f ss)) (none s) ∙ first_none f none ss
 
--- what is defined or imported stays so
+-- a binding is preserved if the definition is unchanged and the import is preserved
 fault_stays : (x : AsmFault) (o other more : Option ℕ) → ((k : ℕ) → other ≡ Some k → more ≡ Some k) → (m : Binding) → binding_or_fault x o other ≡ Ok m → binding_or_fault x o more ≡ Ok m
 fault_stays x (Some i) other more h m e = e
 fault_stays x None (Some k) more h m e = ap (binding_or_fault x None) (h k refl) ∙ e
@@ -48,13 +48,13 @@ fault_stays x None None more h m e = absurd cc
 no_meaning : (x : AsmFault) (o other : Option ℕ) (m : Binding) → o ≡ None → other ≡ None → binding_or_fault x o other ≡ Ok m → ⊥
 no_meaning x o other m a b e = grind (arith, common_steps)
 
--- the name for which a name, with scopes or without, is looked up
+-- the name that is looked up: a plain name, or the last part of a name with `::`
 abbrev looked_up : List (List ℕ) → Option (List ℕ) → List ℕ
 looked_up parts (Some n) = n
 looked_up parts None = last_of parts
 
 module _ (y : Symbols) where
-  -- a name that is neither defined nor imported means nothing
+  -- a name that is neither defined nor imported has no binding
   unknown_means : (s : Context) (global : Bool) (parts : List (List ℕ)) (o : Option (List ℕ)) (m : Binding) → ((q : ℕ) → definition_index y (named q (looked_up parts o)) ≡ None) → import_index y (looked_up parts o) ≡ None → name_meaning y s global parts o ≡ Ok m → ⊥
   unknown_means s global parts (Some n) m none absent e = no_meaning (Undefined n) (first_found (λ q. definition_index y (named q n)) (scopes_from y.scopes s.scope)) (import_index y n) m (first_none (λ q. definition_index y (named q n)) none (scopes_from y.scopes s.scope)) absent e
   unknown_means s global parts None m none absent e = by (scope_from (take s.opened y.scopes) s.scope global (scope_path parts)) e
@@ -65,11 +65,11 @@ module _ (y : Symbols) where
       by (Some (suc i)) q = no_meaning (Undefined (display_name global parts)) (definition_index y (named (suc i) (last_of parts))) None m (none (suc i)) refl q
 
 module _ (y z : Symbols) where
-  -- a name is defined where it was, and imported where it was
+  -- the definitions of a name are unchanged in all scopes, and its import is preserved
   abbrev Agree : List ℕ → Type 0
   Agree n = ((s : ℕ) → definition_index z (named s n) ≡ definition_index y (named s n)) × ((k : ℕ) → import_index y n ≡ Some k → import_index z n ≡ Some k)
 
-  -- the scopes of a context are what they were
+  -- the scopes around a context and the scopes opened before it are unchanged
   record IsSameWithin (s : Context) : Type 0 where
     outward : scopes_from z.scopes s.scope ≡ scopes_from y.scopes s.scope
     opened : take s.opened z.scopes ≡ take s.opened y.scopes
@@ -96,7 +96,7 @@ module _ (y z : Symbols) where
         by (Some j) is q = ap (λ o. binding_or_fault x o None) (labels k j is) ∙ q
         by None is q = absurd cc
 
-    -- an operand keeps its meaning, where its name agrees if it means something
+    -- the binding of an operand is preserved, if the tables agree on its name whenever the name has a binding
     operand_keeps : (s : Context) → IsSameWithin s → (t : Tree) → ((global : Bool) (parts : List (List ℕ)) (m : Binding) → t ≡ name global parts → name_meaning y s global parts (plain_part global parts) ≡ Ok m → Agree (looked_up parts (plain_part global parts))) → KeepsBinding y z s t
     operand_keeps s parent_scope (name global parts) agree m e =
         let is : name_meaning y s global parts (plain_part global parts) ≡ Ok m = sym (name_is y s global parts) ∙ e in
@@ -116,9 +116,9 @@ module _ (y z : Symbols) where
 same_scopes : (y z : Symbols) (s : Context) → z.scopes ≡ y.scopes → IsSameWithin y z s
 same_scopes y z s is = record { outward = ap (λ cs. scopes_from cs s.scope) is; opened = ap (take s.opened) is }
 
--- ---- One definition more.
+-- ---- A further definition.
 
--- one that isn't looked for isn't found
+-- appending an item that fails a test doesn't change the position of the test
 passed_over : {A : Type 0} (p : A → Bool) (xs : List A) (x : A) → p x ≡ false → position p (xs ++ x ∷ []) ≡ position p xs
 passed_over {A = A} p xs x other = position_from-zero p (xs ++ x ∷ []) ∙ go 0 xs ∙ sym (position_from-zero p xs)
   where
@@ -126,7 +126,7 @@ passed_over {A = A} p xs x other = position_from-zero p (xs ++ x ∷ []) ∙ go 
     go k [] = ap (λ b. cond b (Some k) None) other
     go k (z ∷ zs) = ap (cond (p z) (Some k)) (go (k + 1) zs)
 
--- a name is as it was where the definition is of another name
+-- a definition with this key doesn't define the name `n` in any scope
 abbrev IsOther : Key → List ℕ → Type 0
 IsOther k n = (q : ℕ) (m : List ℕ) → k ≡ named q m → bytes_eq n m ≡ false
 
@@ -144,7 +144,7 @@ module _ (y : Symbols) (d : Definition) where
       operand_keeps y more (λ k j e. position_stays (λ c. same_key c.key k) y.definitions (d ∷ []) j e) s (same_scopes y more s refl) t
       (λ global parts m is e. (λ q. passed_over (λ c. same_key c.key (named q (looked_up parts (plain_part global parts)))) y.definitions d (other_name d.key (looked_up parts (plain_part global parts)) (other global parts m is e) q), λ k at. at))
 
-  -- a label's definition keeps all meanings
+  -- the definition of a cheap local label or an unnamed label preserves all bindings
   pub keeps_label : ((q : ℕ) (n : List ℕ) → d.key ≡ named q n → ⊥) → KeepsBindings y more
   keeps_label none s t = operand_defined s t (λ global parts m is e q n at. absurd (none q n at))
 
@@ -152,7 +152,7 @@ module _ (y : Symbols) (d : Definition) where
     its_name : (q : ℕ) (m : List ℕ) → d.key ≡ named q m → m ≡ n
     its_name q m at = (let both : named q m ≡ named scope n = sym at ∙ key in cc)
 
-    -- so does that of a name that means nothing yet
+    -- the definition of a name that is neither defined nor imported preserves all bindings
     pub keeps_unknown : IsUnknownName y n → KeepsBindings y more
     keeps_unknown new s t = operand_defined s t (λ global parts m is e q k at. differs (looked_up parts (plain_part global parts)) (λ none absent. unknown_means y s global parts (plain_part global parts) m none absent e) k (its_name q k at))
       where
@@ -167,7 +167,7 @@ module _ (y : Symbols) (d : Definition) where
 
 -- ---- Forms.
 
--- the second result has the form of the first
+-- if the first result is a form, the second is the same form
 abbrev Stays : Result Form AsmFault → Result Form AsmFault → Type 0
 Stays r s = (f : Form) → r ≡ Ok f → s ≡ Ok f
 
@@ -212,14 +212,14 @@ module _ (y : Symbols) (d : Definition) (keeps : KeepsBindings y (with_definitio
       stays_by (λ t. binding_of y s t >>= form_of_binding (norm n y) y) (λ t. binding_of z s t >>= form_of_binding (norm n z) z) s
       (λ t. stays_then (binding_of y s t) (binding_of z s t) (form_of_binding (norm n y) y) (form_of_binding (norm n z) z) (keeps s t) (λ m. meaning_stays (norm n y) (norm n z) (norm_stays n) m)) e
 
-  -- so a definition has the form that it had
+  -- the form of each definition is preserved
   form_stays : (j : ℕ) (f : Form) → result_ok (defined_form y j) ≡ Some f → result_ok (defined_form z j) ≡ Some f
   form_stays j f h =
       let longer : length z.definitions ≡ length y.definitions + 1 = length-append y.definitions (d ∷ []) in
       let own : constant_course z j (suc (length y.definitions)) ≡ Ok f = definition_stays (norm (suc (length y.definitions)) y) (norm (suc (length y.definitions)) z) (norm_stays (suc (length y.definitions))) j f (has_form (constant_course y j (suc (length y.definitions))) f h) in
       ap result_ok (ok_later (constant_course z j) (constant_is z j) (suc (length y.definitions)) (suc (length z.definitions)) f (omega (arith, longer)) own)
 
--- ---- What searches have found.
+-- ---- Entries of searches.
 
 entry_stays : (c e : ℕ) (f : Form) (o : Option SearchEntry) → entry_at e o ≡ Some (Some f) → entry_at c o ≡ Some (Some f)
 entry_stays c e f None q = absurd cc
@@ -230,7 +230,7 @@ entry_stays c e f (Some (NoForm n)) q = by (nat_eq n e) q
     by true q = absurd cc
     by false q = absurd cc
 
--- it is as it was, or nothing
+-- `KeepsSearches` is preserved if the entries are unchanged or removed
 pub searches_kept : (y : Symbols) (old new : ℕ → Option SearchEntry) (keeps : Bool) → (keeps ≡ true → (j : ℕ) → new j ≡ old j) → (keeps ≡ false → (j : ℕ) → new j ≡ None) → KeepsSearches y old → KeepsSearches y new
 searches_kept y old new false same none h = none_searched y new (none refl)
 searches_kept y old new true same none (found, past) = (
@@ -238,7 +238,8 @@ searches_kept y old new true same none (found, past) = (
   λ j n at. past j n (sym (same refl j) ∙ at),
 )
 
--- it holds with one definition more, if operands keep their meanings: a mark says nothing then
+-- A definition that preserves bindings preserves `KeepsSearches`. Entries without a form have no effect then, since they
+-- count only for the old number of definitions.
 searches_stay : (y : Symbols) (d : Definition) → KeepsBindings y (with_definition y d) → (searched : ℕ → Option SearchEntry) → KeepsSearches y searched → KeepsSearches (with_definition y d) searched
 searches_stay y d keeps searched (found, past) = (
   holds,

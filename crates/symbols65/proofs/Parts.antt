@@ -1,4 +1,4 @@
--- What a part of a file places, or its first fault.
+-- The layout of a part of a file, or its first error.
 use Rattle.std.proofs.lemmas.Grind.{common_steps}
 use Rattle.std.proofs.Common.{arith, ◌≡◌, ◌∙◌, ℕ, Bool, true, not, List, length, Option, Some, None, ap, subst}
 use Rattle.std.specs.Prelude.{◌&&◌, ◌++◌, ℤ, pos, Result, Ok, Err}
@@ -16,9 +16,7 @@ use Rattle.semantics65.specs.Symbols.{Symbols}
 use Rattle.symbols65.specs.Measuring.{IsOptionalValue, layout_or_error, range_in_file, unread_fault}
 use Rattle.symbols65.proofs.Measures.{left_after, unless_then}
 
--- ---- Ranges.
-
--- ---- A part.
+-- ---- The part of a file.
 
 module _ (y : Symbols) (w : Cursor) (start len : Option Tree) where
   abbrev there : Bool
@@ -28,11 +26,11 @@ module _ (y : Symbols) (w : Cursor) (start len : Option Tree) (s : Context) (at 
   found_here : (value : Option Tree) (r : Result (Option ℤ) AsmFault) → IsOptionalValue (optional_value y s value) r → IsOptionalValue (optional_value y (context_of w) value) r
   found_here value r h = subst (λ (here : Context). IsOptionalValue (optional_value y here value) r) at h
 
-  -- a start that isn't constant
+  -- the case of a start that isn't constant
   pub bad_start : (bytes : Option (List ℕ)) (e : AsmFault) → IsOptionalValue (optional_value y s start) (Err e) → Unless (is_out_of_memory e) (layout_or_error y w (Incbin bytes start len) ≡ Err e)
   bad_start bytes e h = grind (arith, common_steps)
 
-  -- a length that isn't
+  -- the case of a length that isn't constant
   pub bad_len : (bytes : Option (List ℕ)) (e : AsmFault) → IsOptionalValue (optional_value y s len) (Err e) → Unless (is_out_of_memory e) (layout_or_error y w (Incbin bytes start len) ≡ Err e)
   bad_len bytes e h = grind (arith, common_steps)
 
@@ -46,14 +44,14 @@ module _ (y : Symbols) (w : Cursor) (start len : Option Tree) (s : Context) (at 
     both : there y w start len ≡ true
     both = ap (λ k. has_value k && has_value (optional_value y (context_of w) len (pos 0))) (from (pos 0)) ∙ ap has_value (more (pos 0))
 
-    -- a part that the file hasn't
+    -- the case of a file that is too large or doesn't contain the part
     refused_so : (bytes : List ℕ) (e : AsmFault) → range_in_file (length bytes) v n ≡ Err e → layout_or_error y w (Incbin (Some bytes) start len) ≡ Err e
     refused_so bytes e h = grind (arith, common_steps)
 
     pub refused : (bytes : List ℕ) (e : AsmFault) → Unless (is_out_of_memory e) (range_in_file (length bytes) v n ≡ Err e) → Unless (is_out_of_memory e) (layout_or_error y w (Incbin (Some bytes) start len) ≡ Err e)
     refused bytes e h = unless_then (is_out_of_memory e) (λ p. refused_so bytes e p) h
 
-  -- ---- Whatever the file has.
+  -- ---- Errors that don't depend on the file.
 
   abbrev lost : ℕ → Option AsmFault
   lost scope = missing_scopes_fault y.scopes scope (optional_tree start ++ optional_tree len)
@@ -61,7 +59,7 @@ module _ (y : Symbols) (w : Cursor) (start len : Option Tree) (s : Context) (at 
   abbrev checks : Option AsmFault → Result (Unit {0}) AsmFault
   checks f = unless_fault f tt
 
-  -- a name whose scope isn't there
+  -- the case of a name whose scope doesn't exist
   pub unread_lost : (scope : ℕ) (e : AsmFault) → scope ≡ w.scope → Unless (is_out_of_memory e) (checks (lost scope) ≡ Err e) → Unless (is_out_of_memory e) (checks (unread_fault y w start len) ≡ Err e)
   unread_lost scope e here h = grind (arith, common_steps)
 
@@ -69,14 +67,14 @@ module _ (y : Symbols) (w : Cursor) (start len : Option Tree) (s : Context) (at 
     after_lost : checks (unread_fault y w start len) ≡ checks (fault_if (not (there y w start len)) BadOperand)
     after_lost = ap checks (left_after (lost w.scope) (operand_fault y (context_of w) (Incbin None start len)) tt tt (subst (λ k. checks (lost k) ≡ Ok tt) here none))
 
-    -- a start that isn't constant
+    -- the case of a start that isn't constant
     pub unread_start : (e : AsmFault) → IsOptionalValue (optional_value y s start) (Err e) → Unless (is_out_of_memory e) (checks (unread_fault y w start len) ≡ Err e)
     unread_start e h = grind (arith, common_steps)
 
-    -- a length that isn't
+    -- the case of a length that isn't constant
     pub unread_len : (e : AsmFault) → IsOptionalValue (optional_value y s len) (Err e) → Unless (is_out_of_memory e) (checks (unread_fault y w start len) ≡ Err e)
     unread_len e h = grind (arith, common_steps)
 
-    -- nothing is wrong
+    -- the case without an error
     pub unread_well : (v n : Option ℤ) → IsOptionalValue (optional_value y s start) (Ok v) → IsOptionalValue (optional_value y s len) (Ok n) → checks (unread_fault y w start len) ≡ Ok tt
     unread_well v n first second = after_lost ∙ ap (λ b. checks (fault_if (not b) BadOperand)) (both v n first second)

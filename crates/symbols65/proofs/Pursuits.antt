@@ -1,4 +1,4 @@
--- A search for the form of an expression: constants that wait for one another.
+-- The search for the form of an expression, with a list of pending constants, each of which needs the next.
 use Rattle.std.proofs.Common.{◌≡◌, ◌≢◌, ℕ, zero, suc, ◌+◌, ◌-◌, ◌<◌, ◌≤◌, refl, sym, ap, ◌∙◌, subst, arith, List, [], ◌∷◌, ◌++◌, length, Option, Some, None, is_some, slice_get, Bool, true, false, nat_eq, Result, Ok, Err, ◌⊎◌, inl, inr}
 use Rattle.std.specs.Prelude.{⊤, if◌then◌else◌}
 use Rattle.std.specs.Option.{option_and_then}
@@ -29,7 +29,8 @@ use Rattle.symbols65.proofs.Tries.{Near, Agrees, IsAttempt, at_turn, attempt_at}
 
 -- ---- One constant needs another.
 
--- the errors of a constant are those of what needs it, and *circular* passes on
+-- The course `v` inherits the errors of constant `j`: an error that `j` has at all large depths is one of `v`. If `j` is
+-- circular at depth k, then `v` is circular at depth k + 1.
 pub record InheritsErrors (table : Symbols) (v : Course) (j : ℕ) : Type 0 where
   pub faults : (e : AsmFault) → EventuallyEquals (constant_course table j) (Err e) → EventuallyEquals v (Err e)
   pub circular : (n : ℕ) → constant_course table j n ≡ Err Circular → v (suc n) ≡ Err Circular
@@ -71,8 +72,8 @@ module _ (t : code.Symbols) where
   abbrev count : ℕ
   count = length (table_of t).definitions
 
-  -- The constants that are pending, of which each needs the next, and the forms that are found. A constant with an entry
-  -- and no form is pending, or had such an entry before the search.
+  -- The invariant of a search. Each pending constant needs the next, and the depth of the forms that were found is bounded.
+  -- A constant with an entry without a form is pending, or had such an entry before the search.
   pub record IsPursuit (before met : ℕ → Option (Option Form)) (v : Course) (ws : List ℕ) : Type 0 where
     pub turns : ℕ
     pub found : HaveBoundedDepth turns y (found_in met)
@@ -105,7 +106,7 @@ module _ (t : code.Symbols) where
       by None is = absurd (some is)
       by (Some d) is = slice_get_within y.definitions j d is
 
-  -- what a constant comes to at last
+  -- a constant that has an error at all large depths has no form
   pub defined_ends : (j : ℕ) (z : AsmFault) → EventuallyEquals (constant_course y j) (Err z) → result_ok (defined_form y j) ≡ None
   defined_ends j z (n, h) = ap result_ok (constant_is_last y n j ∙ h (suc (n + count)) (omega arith))
 
@@ -116,11 +117,12 @@ module _ (t : code.Symbols) where
     pub pursuit_known : HaveBoundedDepth (p.turns + count) y (known_of met)
     pursuit_known = known_found t p.turns (found_in met) p.found
 
-    -- the last that is pending needs a constant
+    -- If the attempt at the last pending constant needs constant `j`, the last constant inherits the errors of `j`, and `j`
+    -- is defined. If no constant is pending, the attempt is at the expression.
     pub pursuit_leads : (a : Result Form AttemptError) (j : ℕ) → AtLast a → a ≡ Err (Needs j) → InheritsErrors y (last_course y v ws) j × (j < count)
     pursuit_leads a j h e = (leads_from (p.turns + count) y (known_of met) (last_course y v ws) a j h e, within j (h.lacks j e).inside)
 
-    -- one that the search hasn't met becomes the last that is pending
+    -- the invariant is preserved if a needed constant is marked and becomes the last pending constant
     pub pursuit_needs : (new : ℕ → Option (Option Form)) (more : List ℕ) (j : ℕ) → InheritsErrors y (last_course y v ws) j → Meets met new j None → more ≡ ws ++ j ∷ [] → IsPursuit before new v more
     pursuit_needs new more j l meets pushed = subst (IsPursuit before new v) (sym pushed) record {
       turns = p.turns;
@@ -141,7 +143,7 @@ module _ (t : code.Symbols) where
             still (inl m) = inl (among_more i j ws m)
             still (inr was) = inr was
 
-    -- one that it has met is pending, or had no form before
+    -- a needed constant with an entry is pending, or had an entry without a form before the search
     pub pursuit_meets : (a : Result Form AttemptError) (j : ℕ) → AtLast a → a ≡ Err (Needs j) → is_some (met j) ≡ true → Among j ws ⊎ (before j ≡ Some None)
     pursuit_meets a j h e there = by (met j) refl there
       where
@@ -154,7 +156,7 @@ module _ (t : code.Symbols) where
         by (Some None) is q = p.marked j is
         by (Some (Some f)) is q = absurd (unfound f (final_form t j) (λ g k. (h.lacks j e).unfound g (ap (λ o. or_else (final_form t j) (option_and_then (λ x. x) o)) is ∙ k)))
 
-    -- ---- What the last that is pending comes to.
+    -- ---- The result of the last pending constant.
 
     pub last_faults : (a : Result Form AttemptError) (z : AsmFault) → AtLast a → a ≡ Err (Fault z) → EventuallyEquals (last_course y v ws) (Err z)
     last_faults a z h e = (suc (p.turns + count), λ k le. later k le)
@@ -178,12 +180,12 @@ module _ (t : code.Symbols) where
         by (Ok f) is q = absurd cc
         by (Err z) is q = (z, l.faults z (suc count, λ k le. (let far : k ≡ suc (k - suc count + count) = omega (arith, le) in ap (constant_course y j) far ∙ sym (constant_is_last y (k - suc count) j) ∙ is)))
 
-    -- ---- What is searched for.
+    -- ---- The result of the search.
 
     found_recorded : (j : ℕ) (f : Form) → met j ≡ Some (Some f) → result_ok (defined_form y j) ≡ Some f
     found_recorded j f at = ap result_ok (constant_is_last y p.turns j ∙ ok_later (constant_course y j) (constant_is y j) p.turns (suc (p.turns + count)) f (omega arith) (p.found j f (ap (option_and_then (λ o. o)) at)))
 
-    -- the error of the last that is pending is that of what is searched for, and of all that are pending
+    -- an error of the last pending constant is an error of the expression and of all pending constants
     module _ (z : AsmFault) (ends : EventuallyEquals (last_course y v ws) (Err z)) where
       pub search_ends : EventuallyEquals v (Err z)
       search_ends = chain_passes y (InheritsErrors y) (λ v k. EventuallyEquals v (Err z)) (λ v j k l q. l.faults z q) v ws 0 p.chain ends
@@ -198,7 +200,7 @@ module _ (t : code.Symbols) where
               defined_ends j z (after 0 ends)
           pending (inr was) = h j None was
 
-    -- none is pending
+    -- the case that no constant is pending
     module _ (empty : ws ≡ []) where
       no_mark : (j : ℕ) → Among j ws ⊎ (before j ≡ Some None) → before j ≡ Some None
       no_mark j (inl m) = absurd (subst (Among j) empty m)
@@ -218,7 +220,7 @@ module _ (t : code.Symbols) where
           later zero le = absurd (omega (arith, le))
           later (suc k) le = subst (λ (z : List ℕ). last_course y v z (suc k) ≡ Ok f) empty (form_from (p.turns + count) y (known_of met) (last_course y v ws) a f h e k (omega (arith, le)))
 
-  -- the form of the last that is pending is found
+  -- the invariant is preserved if the form of the last pending constant is recorded and the constant is popped
   pub pursuit_up : (before met new : ℕ → Option (Option Form)) (v : Course) (ws others : List ℕ) (j : ℕ) (f : Form) (a : Result Form AttemptError) (p : IsPursuit before met v ws) → IsAttempt (p.turns + count) y (known_of met) (constant_course y j) a → a ≡ Ok f →
       Meets met new j (Some f) → ws ≡ others ++ j ∷ [] → IsPursuit before new v others
   pursuit_up before met new v ws others j f a p h e meets popped = record {
@@ -247,7 +249,7 @@ module _ (t : code.Symbols) where
           rest (inl m) = still (among_cases i j others (subst (Among i) popped m))
           rest (inr was) = inr was
 
-  -- what an attempt at a constant says of it, by what searches have found
+  -- an attempt at a constant, by the forms that searches have found
   module _ (met : ℕ → Option (Option Form)) (h : AreSearched y met) (r : ℕ) where
     tried : IsAttempt (suc count + count) y (known_of met) (constant_course y r) (constant_attempt (known_of met) y r)
     unfolding pursuit_starts
@@ -263,7 +265,7 @@ pub unless_not : {P : Type 0} (b : Bool) → b ≡ false → Unless b P → P
 unless_not true is h = absurd cc
 unless_not false is h = h
 
--- the number or address of a form, if there is one
+-- the number or address of a result, if it has one
 pub plain_known : (r : Result Form AsmFault) (o : Option Form) → result_ok r ≡ o → option_and_then plain_form o ≡ plain_result r
 plain_known (Ok f) o h = ap (option_and_then plain_form) (sym h)
 plain_known (Err z) o h = ap (option_and_then plain_form) (sym h)
@@ -272,7 +274,7 @@ pub unless_more : {P Q : Type 0} (b : Bool) → (P → Q) → Unless b P → Unl
 unless_more true f h = tt
 unless_more false f h = f h
 
--- ---- The entry of one constant more.
+-- ---- The entry of a further constant.
 
 pub entry_kept : {K : Type 0} (n : ℕ) (r : Result Form AsmFault) (e : SearchEntry) → IsEntryOf n r e → RefinesProp is_out_of_memory (λ q. K) r → K
 entry_kept n (Ok f) e is h = h

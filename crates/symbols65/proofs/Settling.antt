@@ -1,4 +1,4 @@
--- Forms by those that are final.
+-- The forms that are known as final or by a search, and the depth at which they are found.
 use Rattle.std.proofs.lemmas.Grind.{common_steps}
 use Rattle.std.proofs.Common.{◌≡◌, ℕ, suc, ◌+◌, ◌<◌, ◌≤◌, length, Option, Some, None, option_map, slice_get, Result, Ok, refl, ap, ◌∙◌, arith}
 use Rattle.std.proofs.lemmas.Option.{slice_get_within}
@@ -22,7 +22,7 @@ pub has_form : (r : Result Form AsmFault) (f : Form) → result_ok r ≡ Some f 
 has_form x f e = grind (arith, common_steps)
 
 module _ (t : Symbols) where
-  -- a final form is found with one expression more than stand before it, in each table that extends this one
+  -- in each extension of the table, the final form of definition `j` is its form at depth j + 1
   pub final_in : (z : l.Symbols) → Extends (table_of t) z → (j : ℕ) (f : Form) → final_form t j ≡ Some f → form_of_definition (norm (suc j) z) (slice_get z.definitions j) ≡ Ok f
   final_in z more j f h = by (slice_get t.definitions.entries j) refl h
     where
@@ -36,7 +36,7 @@ module _ (t : Symbols) where
           ∙ ap (form_of_definition (norm (suc j) z)) (get_stays (table_of t).definitions more.later_definitions j lt ∙ at)
           ∙ own
 
-  -- and so with as many as there are
+  -- likewise at each depth above j
   pub final_among : (z : l.Symbols) → Extends (table_of t) z → (n : ℕ) (j : ℕ) (f : Form) → j < n → final_form t j ≡ Some f → form_of_definition (norm n z) (slice_get z.definitions j) ≡ Ok f
   final_among z more n j f lt h = ok_later (constant_course z j) (constant_is z j) (suc j) n f (omega (arith, lt)) (final_in z more j f h)
 
@@ -46,7 +46,7 @@ module _ (t : Symbols) where
   pub finals_found : HaveBoundedDepth (length (table_of t).definitions) (table_of t) (final_form t)
   finals_found = λ j f h. final_among (table_of t) (extends_itself (table_of t)) (length (table_of t).definitions) j f (known_inside j f h) h
 
-  -- so is what is known by these and by a search
+  -- forms that are final or found by a search have a bounded depth
   pub known_found : (c : ℕ) (found : ℕ → Option Form) → HaveBoundedDepth c (table_of t) found → HaveBoundedDepth (c + length (table_of t).definitions) (table_of t) (known_by t found)
   known_found c found h = λ j f e. by j f (final_form t j) refl e
     where

@@ -20,7 +20,7 @@ use Rattle.object65.specs.declared.folding.FormFault.{FormFault}
 use Rattle.object65.specs.declared.folding.FormFault.TheVariants as fault
 use Rattle.ast65.specs.declared.fault.AsmFault.{AsmFault}
 
--- ---- Folding forms that are numbers or addresses, where others are missing, gives those of normal forms.
+-- ---- The number or address of an operation depends only on those of its operands.
 
 pub folded_plain : (x : Result Form FormFault) → option_and_then plain_form (result_ok x) ≡ plain_result (fold_result x)
 folded_plain (Ok f) = refl
@@ -28,7 +28,7 @@ folded_plain (Err fault.OutOfMemory) = refl
 folded_plain (Err fault.NoValue) = refl
 folded_plain (Err fault.TooLarge) = refl
 
--- an operation that stays is no number and no address
+-- if a form is no number and no address, neither is the result of the check of its size
 limited_plain : (f : Form) → plain_form f ≡ None → plain_result (fold_result (within_node_limit f)) ≡ None
 limited_plain f none = by (nat_le (nodes f) node_limit)
   where
@@ -126,7 +126,7 @@ pub plain_known : (r : Result Form AsmFault) → option_and_then (λ f. literal_
 plain_known (Ok f) = literal_plain f
 plain_known (Err e) = refl
 
--- the value of a form is that of what is kept of it
+-- the constant value of a form depends only on its number or address
 pub plain_value : (o : Option Form) → option_and_then (λ f. literal_in (Ok f)) o ≡ option_and_then (λ f. literal_in (Ok f)) (option_and_then plain_form o)
 plain_value None = refl
 plain_value (Some f) = sym (literal_plain f)
@@ -144,7 +144,7 @@ plain_again (Err e) = refl
 
 -- ---- Operands.
 
--- an operand that means something has the form of that
+-- the normal form of an operand with a binding is the form of the binding
 pub operand_norm : (n : ℕ) (y : Symbols) (s : Context) (e : Tree) (m : Binding) → binding_of y s e ≡ Ok m → norm (suc n) y s e ≡ form_of_binding (norm n y) y m
 operand_norm n y s (number v) m h = absurd cc
 operand_norm n y s here m h = absurd cc

@@ -1,4 +1,4 @@
--- What an attempt at a form says of the form at each number of turns.
+-- Attempts at forms, compared with the normal forms at each depth of expansion.
 use Rattle.std.proofs.lemmas.Grind.{common_steps}
 use Rattle.std.proofs.Common.{arith, ◌≡◌, ℕ, suc, ◌≤◌, refl, List, [], ◌∷◌, Option, Some, None, slice_get, Result, Ok, Err, ◌⊎◌, inl, inr}
 use Rattle.std.specs.Prelude.{⊤}
@@ -17,11 +17,11 @@ use Rattle.symbols65.specs.Resolving.{IsReference, attempt_result, attempt_defin
 use Rattle.symbols65.proofs.Chains.{last_course}
 use Rattle.symbols65.proofs.Turns.{NormCache, Course, expression_course, constant_course, constant_is, ok_later, ok_before}
 
--- the first is the second, or, where that may be, circular
+-- the results are equal, or the first is circular and `C` is true
 abbrev pub Near : Type 0 → Result Form AsmFault → Result Form AsmFault → Type 0
 Near C r s = (C × (r ≡ Err Circular)) ⊎ (r ≡ s)
 
--- what an attempt says of an outcome, where v is what the constants come to
+-- an attempt agrees with a result, given the results `v` of the constants
 abbrev pub Agrees : Type 0 → (ℕ → Result Form AsmFault) → Result Form AttemptError → Result Form AsmFault → Type 0
 Agrees C v (Ok f) r = Near C r (Ok f)
 Agrees C v (Err (Fault z)) r = Near C r (Err z)
@@ -47,7 +47,7 @@ agrees_by C v a b s h (binary op e g) =
 
 -- ---- Constants.
 
--- each form of the table is what its constant comes to
+-- each known form is the result of its constant, unless that is circular and `C` is true
 abbrev pub Fits : Type 0 → (ℕ → Result Form AsmFault) → (ℕ → Option Form) → Type 0
 Fits C v known = (j : ℕ) (f : Form) → known j ≡ Some f → Near C (v j) (Ok f)
 
@@ -68,7 +68,7 @@ agrees_definition x v a b h y = grind (arith, common_steps)
 agrees_at : (C : Type 0) (table : Symbols) (known : ℕ → Option Form) (k : ℕ) → Fits C (at_turn table k) known → (j : ℕ) → Agrees C (at_turn table k) (constant_attempt known table j) (constant_course table j (suc k))
 agrees_at C table known k t j = agrees_definition C (at_turn table k) (form_attempt known table) (norm (suc k) table) (λ s e. agrees_tried C table known k t s e) (slice_get table.definitions j)
 
--- ---- Which constants are needed.
+-- ---- The constants that an attempt needs.
 
 abbrev pub OnlyNeeds : (ℕ → Type 0) → Result Form AttemptError → Type 0
 OnlyNeeds P a = (j : ℕ) → a ≡ Err (Needs j) → P j
@@ -91,7 +91,7 @@ only_by P a s h (binary op e g) =
     only_then P (attempt_by a s e) (λ f. attempt_by a s g >>= (λ k. attempt_result (fold_result (fold2 op f k)))) (only_by P a s h e)
     (λ f. only_then P (attempt_by a s g) (λ k. attempt_result (fold_result (fold2 op f k))) (only_by P a s h g) (λ k. only_stopped P (fold_result (fold2 op f k))))
 
--- a constant whose form isn't found
+-- a defined constant without a known form, which is circular at depth 0
 pub record Lacks (table : Symbols) (known : ℕ → Option Form) (j : ℕ) : Type 0 where
   pub starts : constant_course table j 0 ≡ Err Circular
   pub inside : (slice_get table.definitions j ≡ None) → ⊥
@@ -109,9 +109,9 @@ lacks_by_definition x a h y = grind (arith, common_steps)
 lacks_at : (table : Symbols) (known : ℕ → Option Form) (j : ℕ) → OnlyNeeds (Lacks table known) (constant_attempt known table j)
 lacks_at table known j = lacks_by_definition (Lacks table known) (form_attempt known table) (λ s e. lacks_tried table known s e) (slice_get table.definitions j)
 
--- ---- Attempts with a table.
+-- ---- Attempts with a table of known forms.
 
--- what an attempt says of a course
+-- an attempt agrees with a course: at each depth above `c`, and at all others unless the course is circular there
 pub record IsAttempt (c : ℕ) (table : Symbols) (known : ℕ → Option Form) (v : Course) (a : Result Form AttemptError) : Type 0 where
   pub later : (k : ℕ) → c ≤ k → Agrees ⊥ (at_turn table k) a (v (suc k))
   pub ever : (k : ℕ) → Agrees ⊤ (at_turn table k) a (v (suc k))
@@ -147,6 +147,6 @@ attempt_last c table known h v a t (w ∷ ws) = attempt_last c table known h (co
 
 -- ---- Operands.
 
--- the attempt at an expression that is an operand
+-- the attempt at a reference is the attempt at an operand
 pub operand_tried : (a : Tree → Result Form AttemptError) (s : Context) (e : Tree) → IsReference e → a e ≡ attempt_by a s e
 operand_tried a s x r = grind (arith, common_steps)

@@ -1,4 +1,4 @@
--- Normal forms at different numbers of turns.
+-- Normal forms at different depths of expansion.
 use Rattle.std.proofs.lemmas.Grind.{common_steps}
 use Rattle.std.proofs.Common.{◌≡◌, ℕ, zero, suc, ◌+◌, ◌-◌, ◌≤◌, refl, sym, ap, ◌∙◌, arith, Option, Some, None, slice_get, Result, Ok, Err, ◌⊎◌, inl, inr, ◌≢◌, List, [], ◌∷◌, length, Bool, true, false, nat_eq, append-nil}
 use Rattle.base65.specs.Outcome.{◌>>=◌}
@@ -16,13 +16,12 @@ use Rattle.std.proofs.lemmas.Bool.Decides.{nat_tests}
 use Rattle.std.proofs.lemmas.List.Sums.{sum_by-cons}
 use Rattle.semantics65.specs.Norms.{Extends}
 
--- a table extends itself
 pub extends_itself : (y : Symbols) → Extends y y
 extends_itself y = record { later_definitions = []; definitions = sym (append-nil y.definitions); later_scopes = []; scopes = sym (append-nil y.scopes) }
 
--- ---- Normal forms at different numbers of turns.
+-- ---- Normal forms at different depths of expansion.
 
--- the second is the first, unless the first is circular
+-- the results are equal, unless the first is circular
 abbrev pub NormCache : Result Form AsmFault → Result Form AsmFault → Type 0
 NormCache r s = (r ≡ Err Circular) ⊎ (r ≡ s)
 
@@ -54,9 +53,9 @@ norm_known (suc n) table s e =
     known_form (λ t. binding_of table s t >>= form_of_binding (norm n table) table) (λ t. binding_of table s t >>= form_of_binding (norm (suc n) table) table) s
     (λ t. known_result (norm n table) (norm (suc n) table) table (norm_known n table) (binding_of table s t)) e
 
--- ---- What is said so at more and more turns.
+-- ---- Courses: results at increasing depths.
 
--- what an expression, or a constant, comes to at each number of turns
+-- the results of an expression or a constant at each depth of expansion
 abbrev pub Course : Type 0
 Course = ℕ → Result Form AsmFault
 
@@ -66,11 +65,11 @@ IsCourse v = (n : ℕ) → NormCache (v n) (v (suc n))
 abbrev pub expression_course : Symbols → Context → Tree → Course
 expression_course table s e n = norm n table s e
 
--- the course of what the statement at a place defines
+-- the course of the definition at an index
 abbrev pub constant_course : Symbols → ℕ → Course
 constant_course table j n = form_of_definition (norm n table) (slice_get table.definitions j)
 
--- the result with more and more nested expressions
+-- the result at all sufficiently large depths
 abbrev pub EventuallyEquals : Course → Result Form AsmFault → Type 0
 EventuallyEquals v r = (n : ℕ) × ((k : ℕ) → n ≤ k → v k ≡ r)
 
@@ -84,7 +83,7 @@ pub further : (v : Course) → IsCourse v → (d k : ℕ) → NormCache (v k) (v
 further v h zero k = let same : zero + k ≡ k = omega arith in rw same (inr refl)
 further v h (suc d) k = grind (arith, common_steps, (further v h d k))
 
--- a form stays
+-- a form is preserved at larger depths
 pub ok_later : (v : Course) → IsCourse v → (k n : ℕ) (f : Form) → k ≤ n → v k ≡ Ok f → v n ≡ Ok f
 ok_later v h k n f le e = go (further v h (n - k) k)
   where
@@ -92,7 +91,7 @@ ok_later v h k n f le e = go (further v h (n - k) k)
     go (inl c) = cc
     go (inr same) = let here' : n - k + k ≡ n = omega arith in sym (ap v here') ∙ sym same ∙ e
 
--- before it there is none
+-- a course with a form at some depth is circular or has the same form at each depth
 pub ok_before : (v : Course) → IsCourse v → (k n : ℕ) (f : Form) → v n ≡ Ok f → NormCache (v k) (Ok f)
 ok_before v h k n f e = go (further v h n k)
   where
@@ -104,7 +103,7 @@ ok_before v h k n f e = go (further v h n k)
         stays (inl c) = cc
         stays (inr s) = sym s ∙ e
 
--- with fewer turns what is circular stays so
+-- a circular course is circular at smaller depths
 pub circular_before : (v : Course) → IsCourse v → (k n : ℕ) → k ≤ n → v n ≡ Err Circular → v k ≡ Err Circular
 circular_before v h k n le e = go (further v h (n - k) k)
   where
@@ -112,7 +111,7 @@ circular_before v h k n le e = go (further v h (n - k) k)
     go (inl c) = c
     go (inr same) = let here' : n - k + k ≡ n = omega arith in same ∙ ap v here' ∙ e
 
--- ---- Which definitions are circular.
+-- ---- The number of circular definitions.
 
 abbrev is_circular : Result Form AsmFault → ℕ
 is_circular (Err Circular) = 1
@@ -134,7 +133,7 @@ module _ (y : Symbols) where
   abbrev circular_at : ℕ → Definition → ℕ
   circular_at n d = is_circular (course_of n d)
 
-  -- how many of them are circular
+  -- the number of circular definitions at a depth
   abbrev count : ℕ → List Definition → ℕ
   count n ds = sum_by (circular_at n) ds
 
@@ -158,7 +157,7 @@ module _ (y : Symbols) where
       let sum : count n (d ∷ ds) ≡ circular_at n d + count n ds = sum_by-cons (circular_at n) d ds in
       omega (arith, one, rest, sum)
 
-  -- where as many are, each comes to the same
+  -- a definition has the same result at the next depth, unless it is circular only at this one
   same_at : (n : ℕ) (d : Definition) → circular_at n d ≤ circular_at (suc n) d → course_of n d ≡ course_of (suc n) d
   same_at n d le = grind (arith, common_steps, course_known, circular_is)
 
@@ -176,7 +175,7 @@ module _ (y : Symbols) where
       let one = fewer_at n d in
       same_all n ds (omega (arith, e, sum, later, rest, one)) j
 
-  -- each constant comes to the same with one expression more
+  -- each definition has the same result at the next depth
   abbrev IsStill : ℕ → Type 0
   IsStill n = (j : ℕ) → constant_course y j n ≡ constant_course y j (suc n)
 
@@ -223,7 +222,7 @@ module _ (y : Symbols) where
       let same : suc d + n ≡ d + suc n = omega arith in
       form_still n h s e ∙ still_further d (suc n) (still_later n h) s e ∙ ap (λ (k : ℕ). norm (suc k) y s e) (sym same)
 
-  -- more turns than there are definitions make no difference
+  -- the normal form is the result at each depth above the number of definitions
   pub norm_is_last : (d : ℕ) (s : Context) (e : Tree) → norm_of y s e ≡ norm (suc (d + length y.definitions)) y s e
   norm_is_last d s e =
       let whole : ℕ = length y.definitions in
@@ -244,6 +243,6 @@ module _ (y : Symbols) where
           value None = refl
           value (Some e) = norm_is_last d q.context e
 
-  -- what an expression comes to is its normal form
+  -- the result at all large depths is the normal form
   pub comes_to_norm : (s : Context) (e : Tree) (r : Result Form AsmFault) → EventuallyEquals (expression_course y s e) r → norm_of y s e ≡ r
   comes_to_norm s e r (n, h) = norm_is_last n s e ∙ h (suc (n + length y.definitions)) (omega arith)

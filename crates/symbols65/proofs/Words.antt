@@ -1,4 +1,4 @@
--- Names by their numbers, and what is found by them.
+-- Interned names, and the lookup of definitions and scopes by their numbers.
 use Rattle.std.proofs.lemmas.Grind.{common_steps}
 use Rattle.std.proofs.Common.{◌≡◌, ℕ, zero, suc, ◌+◌, ◌-◌, ◌<◌, ◌≤◌, Bool, true, false, cond, List, [], ◌∷◌, ◌++◌, length, map, position, Some, None, ◌⊎◌, inl, inr, refl, sym, ap, ◌∙◌, arith, ◌^◌, Option, option_map, append-nil}
 use Rattle.std.specs.Prelude.{slice_get, ◌==◌, ◌&&◌, ◌||◌, not, if◌then◌else◌}
@@ -23,7 +23,7 @@ use Rattle.symbols65.specs.Views.{table_of, interned_names_of}
 use Rattle.symbols65.specs.declared.table.symbols.Symbols.{Symbols}
 use Rattle.indexmap.specs.IndexSet.{insert_key}
 
--- what extends a table extends it without its imports
+-- an extension of a table extends the table without its imports
 pub without_imports : (t : Symbols) (z : l.Symbols) → Extends (table_of t) z → Extends (table_without_imports (interned_names_of t) t.definitions.entries t.scopes.entries) z
 without_imports t z h = record { later_definitions = h.later_definitions; definitions = h.definitions; later_scopes = h.later_scopes; scopes = h.scopes }
 
@@ -38,9 +38,9 @@ same_test false true f g = g refl
 pub swapped : (m n : ℕ) → (m == n) ≡ (n == m)
 swapped m n = same_test (m == n) (n == m) (λ e. grind (arith, nat_tests)) (λ e. grind (arith, nat_tests))
 
--- ---- Places.
+-- ---- Positions.
 
--- the item at the first place passes the test
+-- the item at the position of a test passes the test
 pub first_passes : {A : Type 0} (p : A → Bool) (xs : List A) (j : ℕ) → position p xs ≡ Some j → (x : A) × (slice_get xs j ≡ Some x) × (p x ≡ true)
 first_passes {A = A} p xs j e = (let (x, at, passes, le) = go 0 xs j (sym (position_from-zero p xs) ∙ e) in (x, ap (slice_get xs) (let whole : j ≡ j - 0 = omega arith in whole) ∙ at, passes))
   where
@@ -55,7 +55,7 @@ first_passes {A = A} p xs j e = (let (x, at, passes, le) = go 0 xs j (sym (posit
 pub first_within : {A : Type 0} (p : A → Bool) (xs : List A) (j : ℕ) → position p xs ≡ Some j → j < length xs
 first_within p xs j e = (let (x, at, passes) = first_passes p xs j e in slice_get_within xs j x at)
 
--- tests that agree on the items
+-- tests that agree on all items have the same position
 pub position_same : {A : Type 0} (p q : A → Bool) (xs : List A) → ((i : ℕ) (x : A) → slice_get xs i ≡ Some x → p x ≡ q x) → position p xs ≡ position q xs
 position_same {A = A} p q xs h = position_from-zero p xs ∙ go 0 xs h ∙ sym (position_from-zero q xs)
   where
@@ -63,7 +63,7 @@ position_same {A = A} p q xs h = position_from-zero p xs ∙ go 0 xs h ∙ sym (
     go k [] h = refl
     go k (y ∷ ys) h = ap (λ b. cond b (Some k) (position_from p (k + 1) ys)) (h zero y refl) ∙ ap (cond (q y) (Some k)) (go (k + 1) ys (λ i x e. h (suc i) x e))
 
--- no item passes
+-- the case that no item passes
 pub position_none : {A : Type 0} (p : A → Bool) (xs : List A) → ((i : ℕ) (x : A) → slice_get xs i ≡ Some x → p x ≡ false) → position p xs ≡ None
 position_none {A = A} p xs h = position_same p (λ x. false) xs h ∙ position_from-zero (λ (x : A). false) xs ∙ go 0 xs
   where
@@ -71,7 +71,7 @@ position_none {A = A} p xs h = position_same p (λ x. false) xs h ∙ position_f
     go k [] = refl
     go k (y ∷ ys) = go (k + 1) ys
 
--- the first place stays with more behind
+-- a position is preserved if items are appended
 pub position_stays : {A : Type 0} (p : A → Bool) (xs ys : List A) (j : ℕ) → position p xs ≡ Some j → position p (xs ++ ys) ≡ Some j
 position_stays {A = A} p xs ys j e = position_from-zero p (xs ++ ys) ∙ go 0 xs (sym (position_from-zero p xs) ∙ e)
   where
@@ -90,14 +90,14 @@ get_stays [] ys i lt = absurd (omega arith)
 get_stays (x ∷ xs) ys zero lt = refl
 get_stays (x ∷ xs) ys (suc i) lt = get_stays xs ys i (omega arith)
 
--- an item of a list with one more is one of the list, or the last
+-- an item of a list with one item appended is in the list, or is that item
 pub get_more : {A : Type 0} (xs : List A) (x y : A) (i : ℕ) → slice_get (xs ++ x ∷ []) i ≡ Some y → (slice_get xs i ≡ Some y) ⊎ ((i ≡ length xs) × (x ≡ y))
 get_more [] x y zero e = inr (refl, (let same : x ≡ y = cc in same))
 get_more [] x y (suc i) e = absurd cc
 get_more (z ∷ xs) x y zero e = inl e
 get_more (z ∷ xs) x y (suc i) e = grind (arith, common_steps, (get_more xs x y i e))
 
--- functions that agree on the items
+-- functions that agree on all items have the same results
 pub map_same : {A B : Type 0} (f g : A → B) (xs : List A) → ((i : ℕ) (x : A) → slice_get xs i ≡ Some x → f x ≡ g x) → map f xs ≡ map g xs
 map_same f g [] h = refl
 map_same f g (x ∷ xs) h = ap (λ y. y ∷ map f xs) (h zero x refl) ∙ ap (λ l. g x ∷ l) (map_same f g xs (λ i y e. h (suc i) y e))
@@ -112,7 +112,7 @@ get_mapped_none f [] i e = refl
 get_mapped_none f (y ∷ xs) zero e = absurd cc
 get_mapped_none f (y ∷ xs) (suc i) e = get_mapped_none f xs i e
 
--- ---- Names by their numbers, and what is found by them.
+-- ---- Numbers of names.
 
 pub itself : (n : List ℕ) → bytes_eq n n ≡ true
 itself n = grind (arith, bytes_eq-Decides n n)
@@ -122,12 +122,12 @@ get_word [] w n e = absurd cc
 get_word (m ∷ ws) zero n e = cc
 get_word (m ∷ ws) (suc w) n e = get_word ws w n e
 
--- whether a number is the one that was found
+-- whether an optional index is this number
 abbrev pub is_number : Option ℕ → ℕ → Bool
 is_number None v = false
 is_number (Some w) v = w == v
 
--- a word that has its first number is found by its name, and by no other
+-- the first number of a name is found by that name, and by no other
 pub word_test : (ws : List (List ℕ)) (n : List ℕ) (v : ℕ) → position (bytes_eq (interned_name ws v)) ws ≡ Some v → is_number (position (bytes_eq n) ws) v ≡ bytes_eq (interned_name ws v) n
 word_test ws n v h = same_test (is_number (position (bytes_eq n) ws) v) (bytes_eq (interned_name ws v) n) (λ t. found (position (bytes_eq n) ws) refl t) (λ t. (let same : interned_name ws v ≡ n = same_bytes (interned_name ws v) n t in ap (λ m. is_number (position (bytes_eq m) ws) v) (sym same) ∙ ap (λ o. is_number o v) h ∙ (let own : (v == v) ≡ true = grind (arith, nat_tests) in own)))
   where
@@ -199,7 +199,7 @@ module _ (ws : List (List ℕ)) where
   keys_position : {K V : Type 0} (p : K → Bool) (es : List (K × V)) → position p (keys_of es) ≡ position (λ e. p e.0) es
   keys_position p es = position_mapped p (λ e. e.0) es
 
-  -- what is found by the number of its name is what the table defines
+  -- the position of an interned key is the index of the definition of the key
   pub finds : (es : List (InternedKey × Definition)) (q : Key) → AreNumbered key_name_id ws (keys_of es) → place_of_entry es (interned_key_of ws q) ≡ position (λ d. same_key d.key q) (map (definition_in ws) es)
   finds es q h = by (interned_key_of ws q) refl ∙ sym (position_mapped (λ d. same_key d.key q) (definition_in ws) es)
     where
@@ -207,7 +207,7 @@ module _ (ws : List (List ℕ)) where
       by None is = sym (position_none (λ e. same_key (key_in ws e.0) q) es (λ i e at. sym (entry_test q e.0 (h i e.0 (keys_get es i e at))) ∙ ap (λ o. tests o e.0) is))
       by (Some k) is = keys_position (same_interned_key k) es ∙ position_same (λ e. same_interned_key k e.0) (λ e. same_key (key_in ws e.0) q) es (λ i e at. sym (ap (λ o. tests o e.0) is) ∙ entry_test q e.0 (h i e.0 (keys_get es i e at)))
 
-  -- no unnamed label has a count that is no machine's number
+  -- no unnamed label has a count of 2 ^ 64 or more
   pub never_counted : (es : List (InternedKey × Definition)) (count : ℕ) → AreNumbered key_name_id ws (keys_of es) → AreCounted (keys_of es) → 2 ^ 64 ≤ count → position (λ d. same_key d.key (unnamed_at count)) (map (definition_in ws) es) ≡ None
   never_counted es count h counted le = sym (finds es (unnamed_at count) h) ∙ position_none (same_interned_key (entry.Unnamed count)) (keys_of es) (λ i k at. differs k (counted i k at))
     where
@@ -216,7 +216,7 @@ module _ (ws : List (List ℕ)) where
       differs (entry.Cheap t v) own = refl
       differs (entry.Unnamed d) own = (let lt = own d refl in grind (arith, nat_tests, lt, le))
 
-  -- no scope but the global one defines a word of which none is noted
+  -- if a name isn't recorded as an inner name, no scope but the global one defines it
   pub never_inner : (es : List (InternedKey × Definition)) (inner : List Bool) (w : ℕ) → AreNumbered key_name_id ws (keys_of es) → AreInnerKnown (keys_of es) inner → (slice_get inner w ≡ Some true → ⊥) → (scope : ℕ) (n : List ℕ) → position (bytes_eq n) ws ≡ Some w → position (λ d. same_key d.key (named (suc scope) n)) (map (definition_in ws) es) ≡ None
   never_inner es inner w h known none scope n at =
       sym (finds es (named (suc scope) n) h)
@@ -240,7 +240,7 @@ module _ (ws : List (List ℕ)) where
   opening_test : (s : ℕ) (n : List ℕ) (k : ScopeKey) (is_proc : Bool) → first_number ws (scope_name_id k) ≡ scope_name_id k → opens (option_map (opening.Named s) (position (bytes_eq n) ws)) k ≡ ((scope_by ws k is_proc).within == s && is_named n (scope_by ws k is_proc).name)
   opening_test s n x is_proc h = grind (arith, common_steps, opened_test, swapped, word_test, other_opened, and_false)
 
-  -- what is found by the number of its name is what the table opened
+  -- the position of the key of a scope is the index of the scope
   pub finds_opened : (ss : List (ScopeKey × Bool)) (s : ℕ) (n : List ℕ) → AreNumbered scope_name_id ws (keys_of ss) →
       place_of_opening ss (option_map (opening.Named s) (position (bytes_eq n) ws)) ≡ position (λ c. c.within == s && is_named n c.name) (map (scope_opened ws) ss)
   finds_opened ss s n h = by (option_map (opening.Named s) (position (bytes_eq n) ws)) refl ∙ sym (position_mapped is_it (scope_opened ws) ss)
@@ -252,14 +252,14 @@ module _ (ws : List (List ℕ)) where
       by None is = sym (position_none (λ e. is_it (scope_opened ws e)) ss (λ i e at. sym (opening_test s n e.0 e.1 (h i e.0 (keys_get ss i e at))) ∙ ap (λ o. opens o e.0) is))
       by (Some k) is = keys_position (same_scope_key k) ss ∙ position_same (λ e. same_scope_key k e.0) (λ e. is_it (scope_opened ws e)) ss (λ i e at. sym (ap (λ o. opens o e.0) is) ∙ opening_test s n e.0 e.1 (h i e.0 (keys_get ss i e at)))
 
--- a name among others, whichever of the two is asked for
+-- membership in a list of names, with the operands of the comparison swapped
 pub any_swapped : {K : Type 0} (f : K → List ℕ) (n : List ℕ) (ks : List K) → list_any (λ k. bytes_eq n (f k)) ks ≡ list_any (λ m. bytes_eq m n) (map f ks)
 any_swapped f n [] = refl
 any_swapped f n (k ∷ ks) = ap (λ b. b || list_any (λ k. bytes_eq n (f k)) ks) (bytes_swap n (f k)) ∙ ap (λ b. bytes_eq (f k) n || b) (any_swapped f n ks)
 
--- ---- Names that stand once each.
+-- ---- Sets of names.
 
--- the names that are known after one more
+-- the list with a name appended, unless it contains the name
 abbrev pub with_one : List (List ℕ) → List ℕ → List (List ℕ)
 with_one known n = if list_any (λ k. bytes_eq n k) known then known else known ++ n ∷ []
 
@@ -272,7 +272,7 @@ module _ {K : Type 0} (f : K → List ℕ) where
   append_mapped n [] = refl
   append_mapped n (k ∷ known) = ap (λ l. f k ∷ l) (append_mapped n known)
 
-  -- the keys of a set of names after one is put in
+  -- the keys of a set of names after an insertion
   pub insert_name : (known : List K) (n : K) → map f (insert_key (λ a b. bytes_eq (f a) (f b)) known n) ≡ with_one (map f known) (f n)
   insert_name known n = by (list_any (λ k. bytes_eq (f n) (f k)) known) ∙ ap (λ b. if b then map f known else map f known ++ f n ∷ []) (any_mapped (f n) known)
     where
@@ -291,7 +291,7 @@ one_begins ks n = by (list_any (λ k. bytes_eq n k) ks)
     by true = ([], sym (append-nil ks))
     by false = (n ∷ [], refl)
 
--- it is found at its number
+-- the name is at its number
 pub one_found : (ks : List (List ℕ)) (n : List ℕ) → position (bytes_eq n) (with_one ks n) ≡ Some (position_or_len (bytes_eq n) ks)
 one_found ks n = position_from-zero (bytes_eq n) (with_one ks n) ∙ by (list_any (λ k. bytes_eq n k) ks) refl
   where

@@ -1,5 +1,4 @@
--- Reading from left to right: one relation for a tree and for an error, which has one
--- result.
+-- Reading from left to right as one relation for trees and errors; each state has at most one result.
 use Rattle.std.proofs.lemmas.Grind.{common_steps}
 use Rattle.std.proofs.Common.{◌≡◌, ◌≢◌, ℕ, zero, suc, ◌+◌, ◌<◌, Bool, true, false, List, [], ◌∷◌, Option, Some, None, refl, sym, ap, subst, ◌∙◌, arith}
 use Rattle.std.specs.Prelude.{Result, Ok, Err, ⊤, ◌==◌, if◌then◌else◌}
@@ -57,7 +56,7 @@ abbrev ByParenthesis : List Lexeme → ℕ → ℕ → Answer → Type 0
 ByParenthesis ts zero i r = r ≡ Err TooDeep
 ByParenthesis ts (suc depth_left) i r = (q : Answer) × Run ts (whole_at depth_left (i + 1)) q × (r ≡ (q >>= closed ts))
 
--- the result of reading an operand, by how it begins
+-- the result of reading an operand, by its first token
 abbrev ByOpening : List Lexeme → ℕ → ℕ → OperandStart → Answer → Type 0
 ByOpening ts depth_left i Name r = (q : Result (List (List ℕ) × ℕ) ExprFault) × AreNames ts i q × (r ≡ (q >>= named false))
 ByOpening ts depth_left i Scope r = (q : Result (List (List ℕ) × ℕ) ExprFault) × AreNames ts (i + 1) q × (r ≡ (q >>= named true))
@@ -133,7 +132,7 @@ invert ts _ _ (r_plain depth_left i r h p) = plain_by ts depth_left i (operand_s
 invert ts _ _ (r_negated depth_left i q r h p e) = subst (λ (o : OperandStart). ByNegation ts (suc depth_left) i o r) (sym h) (q, p, e)
 invert ts _ _ (r_negation_deep i h) = subst (λ (o : OperandStart). ByNegation ts 0 i o (Err TooDeep)) (sym h) refl
 
--- Names
+-- ---- Names.
 
 parts_one : (ts : List Lexeme) (i j i' j' : ℕ) (p p' : List (List ℕ)) → HasParts ts i j p → HasParts ts i' j' p' → i ≡ i' → (p ≡ p') × (j ≡ j')
 parts_one ts _ _ _ _ _ _ (last_part i h stop) (last_part i' h' stop') e = (ap (λ x. text_at ts x ∷ []) e, ap (λ x. x + 1) e)
@@ -156,7 +155,7 @@ same_names x y p = λ i. (p.0 i, p.1 i)
 names_one : (ts : List Lexeme) (i : ℕ) (q p : Result (List (List ℕ) × ℕ) ExprFault) → AreNames ts i q → AreNames ts i p → q ≡ p
 names_one ts i x y h g = grind (arith, common_steps, same_names, parts_one, parts_lack)
 
--- Uniqueness
+-- ---- Uniqueness.
 
 leaf_one : (ts : List Lexeme) (depth_left i : ℕ) (o : OperandStart) (t : Tree) (s : Answer) → leaf_of o (text_at ts i) ≡ Some t → ByOpening ts depth_left i o s → Ok (t, i + 1) ≡ s
 leaf_one ts depth_left i x t s h b = grind (arith, common_steps)
@@ -176,7 +175,7 @@ next_of ts depth_left n j op t s at level h = grind (arith, common_steps)
 plain_of : (ts : List Lexeme) (depth_left i : ℕ) (o : OperandStart) (s : Answer) → o ≢ Negation → ByNegation ts depth_left i o s → Run ts (level_at depth_left 5 i) s
 plain_of ts depth_left i x s h p = grind (arith, common_steps)
 
--- from one state there is one result
+-- each state has at most one result
 pub one_answer : (ts : List Lexeme) (m : Mode) (r s : Answer) → Run ts m r → Run ts m s → r ≡ s
 one_answer ts _ _ s (r_leaf depth_left i t h) d = leaf_one ts depth_left i (operand_start_at ts i) t s h (invert ts (level_at depth_left 0 i) s d)
 one_answer ts _ _ s (r_name depth_left i q r h n e) d =

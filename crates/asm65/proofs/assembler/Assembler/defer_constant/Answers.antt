@@ -20,7 +20,7 @@ use Rattle.asm65.proofs.Enterings.{fed_enters, says_nothing}
 use Rattle.asm65.proofs.Waitings.{waits_enters}
 use Rattle.asm65.proofs.assembler.Assembler.defer_constant.Goals as goal
 
--- a form that is held is final
+-- if a form was found, it is final
 final_there : (y : Symbols) (s : Context) (e : Tree) (o : Option Form) → is_some o ≡ true → HasFinal y s (Some e) o → (f : Form) × IsFinal y s e f
 final_there y s e None q h = absurd cc
 final_there y s e (Some f) q h = (f, within_final y s e f h)

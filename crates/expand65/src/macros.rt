@@ -29,7 +29,7 @@ use syntax65::{ExpandFault, Token, TokenKind};
 /// Returns the name at an index, if the token is one.
 pub fn name_at<'a>(tokens: &[Token<'a>], at: usize) -> Option<&'a [u8]>
     ensures name { option_map (λ s. s.now) result ≡ name_at (lexemes tokens.now) at }
-    ensures no_failure { IsSome result → at < length tokens.now }
+    ensures in_bounds { IsSome result → at < length tokens.now }
 {
     name_in(tokens.get(at)?)
 }
@@ -37,7 +37,7 @@ pub fn name_at<'a>(tokens: &[Token<'a>], at: usize) -> Option<&'a [u8]>
 /// Returns whether the token at an index is a comma.
 pub fn is_comma_at(tokens: &[Token<'_>], at: usize) -> bool
     ensures comma { result ≡ is_comma_at (lexemes tokens.now) at }
-    ensures no_failure { IsTrue result → at < length tokens.now }
+    ensures in_bounds { IsTrue result → at < length tokens.now }
 {
     matches!(tokens.get(at), Some(token) if is_comma(token))
 }

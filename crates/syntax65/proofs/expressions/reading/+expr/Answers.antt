@@ -93,7 +93,7 @@ read_level-operators-preserved t c = record {
       rw c.new-left.ensures (joined_part (lexemes c.args.tokens.now) c.args.depth_left c.args.level c.in-Some.own c.args.at c.operators.end _ c.in-Some.op c.operators.left c.in_ok-right.right _ _ c.operators.invariant.part c.in-Some.ensures.value.0 c.in-Some.ensures.value.1.0 c.in-Some.ensures.value.1.1 c.in_ok-right.ensures.phrase
       (ap (λ o. o.left) c.in_ok-new.ensures.ok) (ap (λ o. o.right) c.in_ok-new.ensures.ok));
   further = omega (arith, c.operators.invariant.further, c.in_ok-right.ensures.further);
-  within = c.in_ok-right.ensures.inside;
+  within = c.in_ok-right.ensures.in_bounds;
 }
 
 pub read_level-returns-clause-phrase : goal.read_level-returns-clause-phrase

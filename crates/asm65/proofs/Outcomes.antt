@@ -22,8 +22,8 @@ use Rattle.semantics65.specs.Symbols.{Symbols, symbols_of}
 use Rattle.sources65.specs.Machine.{SimulatesLayout, RunsStatements, State, StepsTo, initial_state, outcome_of_state, resolution_of_state, machine_semantics}
 use Rattle.semantics65.specs.Module.{Resolution, Outcome, module_resolution, LocatedFault}
 use Rattle.sources65.specs.Reading.{IsOutcome, DefinesConstants, Job, no_line, stopped_at}
-use Rattle.sources65.proofs.Taken.{constants_refused, open_refused}
-use Rattle.sources65.proofs.Passes.{Follows, begun_follows, one_pass, stands_for, takes_follows}
+use Rattle.sources65.proofs.AssembledStatements.{constants_refused, open_refused}
+use Rattle.sources65.proofs.TwoPasses.{Follows, begun_follows, one_pass, stands_for, takes_follows}
 use Rattle.sources65.proofs.SoundContents.{sound_contents}
 use Rattle.sources65.proofs.SoundLayouts as layouts
 use Rattle.sources65.proofs.SoundLayouts.{IsGood, good_statement, nothing_good}

@@ -22,16 +22,16 @@ use Rattle.ast65.specs.declared.language.Statement.TheVariants as statement
 use Rattle.semantics65.specs.Layout.{laid_out_statement, line_fault}
 use Rattle.semantics65.specs.Numbering.{AreSymbolNames, IsWellFormedStatement}
 use Rattle.ast65.specs.Parsing.{IsStatement, label_of}
-use Rattle.sources65.proofs.Sounding.{statement_sound}
+use Rattle.sources65.proofs.WellFormedLines.{statement_sound}
 use Rattle.sources65.specs.Machine.{PieceStep, emitted_now, deferred_piece_step, PieceSteps, State, StepsWithoutError, StepsTo, UnlessFault, with_section_request, with_content, with_symbols}
 use Rattle.semantics65.specs.Module.{statement_stdout, statement_warning, Piece, pieces_of}
 use Rattle.sources65.specs.Reading.{RepresentsOrFails, AssemblesExpanded, AssemblesLabelTokens, AssemblesLabel, AssemblesTokens, with_bytes}
 use Rattle.semantics65.specs.Contents.{section_request}
-use Rattle.sources65.proofs.Taken.{label_quiet}
+use Rattle.sources65.proofs.AssembledStatements.{label_quiet}
 use Rattle.sources65.proofs.SoundSources.{label_sound}
 use Rattle.asm65.specs.declared.assembler.Assembler.{Assembler}
 use Rattle.asm65.specs.declared.texts.ConsoleOutput.{ConsoleOutput}
-use Rattle.symbols65.proofs.Measures.{unless_then}
+use Rattle.symbols65.proofs.StatementLayouts.{unless_then}
 use Rattle.symbols65.specs.Measuring.{opening_count, opening_limit}
 use Rattle.asm65.specs.Internal.AssemblerState.{Represents}
 use Rattle.asm65.specs.Internal.RunState.{IsRejectedUnread, read_bytes, following, HasHeadroom, RefinesTransition, HasSameOutput, KeepsOutputAtFailure, RefinesAllTransitions, ForKnownFiles, tokens_of}

@@ -23,7 +23,7 @@ use Rattle.semantics65.specs.Layout.{is_not_global, Cursor}
 use Rattle.semantics65.specs.Numbering.{AreSymbolNames}
 use Rattle.sources65.specs.Reading.{StateImpliesResult, environment_at, DefinesConstants, AssemblesExpanded, AssemblesSource, Job, no_line, open_scope_fault, stopped_at}
 use Rattle.sources65.specs.Machine.{RunsStatements, State, StepsTo, initial_state, machine_semantics}
-use Rattle.sources65.proofs.Taken.{same_outside, same_place, begins, ends, goes_on, is_refused, stops}
+use Rattle.sources65.proofs.AssembledStatements.{same_outside, same_place, begins, ends, goes_on, is_refused, stops}
 use Rattle.sources65.proofs.FitSteps as fitting
 use Rattle.sources65.proofs.FitSteps.{fewer_given, IsStateFit, next_fit, opened_fit}
 use Rattle.sources65.proofs.FitTokens.{AreFit, are_named}

@@ -16,7 +16,7 @@ use Rattle.object65.specs.Objects.{are_distinct, has_well_formed_origin, has_wel
 use Rattle.semantics65.specs.Contents.{Content, Part, Known, ReservedBytes, LinkTimeValue, Declaration, ExportedSymbol, ForcedImport, LinkAssertion}
 use Rattle.semantics65.specs.declared.contents.Segment.{Segment}
 use Rattle.semantics65.specs.Numbering.{merged_neighbours, all_declarations, assert_files, assert_of, export_files, export_of, referenced_files, files_of, fragments_of, import_keys, origin_in_files, merged_fragments, distinct_names, object_with, part_files, parts_in, section_keys, section_of, IsWellFormedContent, IsWellFormedPart, IsWellFormedDeclaration}
-use Rattle.emit65.proofs.Fitting.{all_more}
+use Rattle.emit65.proofs.ConcatenatedItems.{all_more}
 use Rattle.emit65.proofs.GoodNames.{names_push}
 use Rattle.emit65.proofs.Naming.{any_below, itself, position_at}
 use Rattle.emit65.proofs.Renumbering.{and, left, right}

@@ -13,7 +13,7 @@ use Rattle.std.proofs.lemmas.List.{map-append}
 use Rattle.std.proofs.lemmas.Map.Keys.{IsDistinct-cons, IsDistinct-head, IsDistinct-tail, apart_from_distinct}
 use Rattle.std.proofs.lemmas.Slice.Eq.{bytes_eq-Decides}
 use Rattle.semantics65.specs.Numbering.{name_of, distinct_names, distinct_keys}
-use Rattle.emit65.proofs.Fitting.{all_more}
+use Rattle.emit65.proofs.ConcatenatedItems.{all_more}
 
 -- ---- A table of distinct names of files.
 

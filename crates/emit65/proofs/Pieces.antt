@@ -7,7 +7,7 @@ use Rattle.semantics65.specs.Module.{Slot, resolved}
 use Rattle.semantics65.specs.Numbering.{distinct_keys, section_keys, segment_requests}
 use Rattle.emit65.specs.declared.sections.Sections.{Sections}
 use Rattle.emit65.specs.SectionContents.{AreEquivalentContents, AreEquivalentSlots, contents_so_far, names_in, slots_in, content_so_far, AppendsSlot, RepresentsSlots}
-use Rattle.emit65.proofs.Alikes.{alike_back, alike_sym, alike_trans, bytes_alike, no_bytes_alike}
+use Rattle.emit65.proofs.EquivalentContents.{alike_back, alike_sym, alike_trans, bytes_alike, no_bytes_alike}
 use Rattle.emit65.proofs.Slots.{asked_more, held_alike, held_contents, slots_back, slots_sym, slots_trans}
 
 -- sections also represent equivalent slots that request the same sections

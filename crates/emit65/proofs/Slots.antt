@@ -11,9 +11,9 @@ use Rattle.semantics65.specs.Contents.{Content, exported_names}
 use Rattle.semantics65.specs.Module.{PieceResult, unrepeated_result, Resolution, Fixup, Slot, declarations_result, piece_result, slot_result, result_then, resolved, is_repeated, without_warning, resolution_of, deferred, LocatedFault, with_location}
 use Rattle.semantics65.specs.Numbering.{all_declarations, distinct_keys, section_keys, segment_requests}
 use Rattle.semantics65.specs.Symbols.{Symbols}
-use Rattle.semantics65.proofs.Found.{AreFound, after, found_all, found_each, names_append, nothing_after, asks_none, made_asks}
+use Rattle.semantics65.proofs.SlotResolution.{AreFound, after, found_all, found_each, names_append, nothing_after, asks_none, made_asks}
 use Rattle.emit65.specs.SectionContents.{AreEquivalentContents, AreEquivalentResults, AreEquivalentSlots, AreEquivalentResolutions, contents_so_far, content_so_far}
-use Rattle.emit65.proofs.Alikes.{alike_back, alike_front, alike_same, alike_sym, alike_trans}
+use Rattle.emit65.proofs.EquivalentContents.{alike_back, alike_front, alike_same, alike_sym, alike_trans}
 use Rattle.emit65.proofs.Keys.{once_append}
 
 -- ---- The resolution of concatenated slots.

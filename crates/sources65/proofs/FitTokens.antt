@@ -16,7 +16,7 @@ use Rattle.object65.specs.Objects.{is_name}
 use Rattle.expand65.specs.Macros.{is_generated_name}
 use Rattle.semantics65.specs.Numbering.{AreSymbolNames, IsSymbolName}
 use Rattle.semantics65.proofs.Segments.{all_same}
-use Rattle.sources65.proofs.Sounding.{short_name}
+use Rattle.sources65.proofs.WellFormedLines.{short_name}
 
 -- ---- Parts of lists.
 

@@ -23,7 +23,7 @@ use Rattle.semantics65.specs.Module.{PieceResult, Piece, Purpose, Slot, undefine
 use Rattle.semantics65.specs.Module as purpose
 use Rattle.semantics65.specs.Norms.{defined_form, norm_of}
 use Rattle.semantics65.specs.Numbering.{all_declarations, distinct_keys, parts_in, section_keys, segment_requests, IsMeasured, IsWellFormedStatement, IsWellFormedContent, part_len, statements_in}
-use Rattle.semantics65.proofs.Found.{AreFound, found_all_so, found_each, found_split, names_append}
+use Rattle.semantics65.proofs.SlotResolution.{AreFound, found_all_so, found_each, found_split, names_append}
 use Rattle.sources65.proofs.SoundForms.{Asks, all_append, definitions_pass, well_then}
 use Rattle.sources65.proofs.SoundParts.{IsKnown, any_ok, asked_in, below, content_is, if_found, placed_ok, slots_long}
 use Rattle.sources65.proofs.SoundPieces.{IsSoundPiece, IsWellMade, names_all, piece_sound, pieces_sound}

@@ -34,7 +34,7 @@ use Rattle.semantics65.specs.Module.{PieceResult, Piece, undefined_export_result
 use Rattle.semantics65.specs.Module as purpose
 use Rattle.semantics65.specs.Norms.{norm_of, address_mode, branch_mode, bytes_between, fill_encoding, first_of, is_branch, item_len, length_of, mode_len, mode_of, mode_encoding, operand_len, incbin_len as file_len, part_start, encoding_of, size_of, width_of}
 use Rattle.semantics65.specs.Numbering.{imports_in, IsMeasured, IsWellFormedLocatedForm, IsWellFormedForm, part_len, parts_in, sections_in}
-use Rattle.semantics65.proofs.Found.{AreFound}
+use Rattle.semantics65.proofs.SlotResolution.{AreFound}
 use Rattle.sources65.proofs.SoundForms.{Holds, IsWell, Pass, norm_well, well_then}
 
 -- ---- Forms.

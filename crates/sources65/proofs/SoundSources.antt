@@ -17,7 +17,7 @@ use Rattle.ast65.specs.declared.language.Statement.TheVariants.{Constant}
 use Rattle.semantics65.specs.Layout.{Layout, empty_layout}
 use Rattle.semantics65.specs.Numbering.{AreSymbolNames, IsWellFormedStatement}
 use Rattle.ast65.specs.Parsing.{IsStatement, label_with_colon, label_of}
-use Rattle.sources65.proofs.Sounding.{statement_sound}
+use Rattle.sources65.proofs.WellFormedLines.{statement_sound}
 use Rattle.sources65.specs.Machine.{LayoutIsWellFormed}
 use Rattle.sources65.specs.Reading.{IsLaidOut, layout_semantics, DefinesConstants, AssemblesRest, statement_assembled, statement_rejected, expansion_rejected, source_ended, Define, AssemblesOpeningResult, AssemblesExpanded, AssemblesLabelTokens, AssemblesLabel, AssemblesTokens, Job, ReachedState, with_bytes}
 use Rattle.sources65.proofs.FitSteps.{IsStateFit, opened_fit, next_fit, tokens_of}

@@ -11,9 +11,9 @@ use Rattle.semantics65.specs.Norms.{defined_form, form_of_definition, norm, norm
 use Rattle.semantics65.specs.Symbols.{Definition, Symbols, binding_of, defined_at}
 use Rattle.symbols65.specs.Resolving.{IsBlocked, IsBlockedAt, HasFinalBinding, binary_form, plain_form, plain_result, prefix_form}
 use Rattle.symbols65.specs.Tables.{HasBlocker}
-use Rattle.symbols65.proofs.Sizing.{binary_plain, left_alone, operand_norm, prefix_plain}
-use Rattle.symbols65.proofs.Turns.{norm_is_last}
-use Rattle.symbols65.proofs.Words.{get_stays}
+use Rattle.symbols65.proofs.PlainForms.{binary_plain, left_alone, operand_norm, prefix_plain}
+use Rattle.symbols65.proofs.ExpansionDepths.{norm_is_last}
+use Rattle.symbols65.proofs.InternedNames.{get_stays}
 
 pub if_some : {P Q : ℕ → Type 0} (o : Option ℕ) → ((r : ℕ) → P r → Q r) → IfSome o P → IfSome o Q
 if_some None f h = tt

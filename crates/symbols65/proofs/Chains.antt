@@ -3,7 +3,7 @@ use Rattle.std.proofs.lemmas.Grind.{common_steps}
 use Rattle.std.proofs.Common.{◌≡◌, ℕ, zero, suc, ◌+◌, ◌≤◌, sym, subst, arith, List, [], ◌∷◌, ◌++◌, length, ◌⊎◌, inl, inr}
 use Rattle.std.specs.Prelude.{⊤}
 use Rattle.semantics65.specs.Symbols.{Symbols}
-use Rattle.symbols65.proofs.Turns.{Course, constant_course}
+use Rattle.symbols65.proofs.ExpansionDepths.{Course, constant_course}
 
 -- ---- Elements of a list.
 

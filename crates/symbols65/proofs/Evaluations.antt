@@ -30,10 +30,10 @@ use Rattle.symbols65.specs.Resolving.{IsFinalWithin, IsReference, binary_form, p
 use Rattle.symbols65.specs.declared.constants.Evaluation.{Evaluation}
 use Rattle.symbols65.specs.declared.measuring.trees.Evaluations.{Evaluations}
 use Rattle.symbols65.proofs.Finals.{binary_stays, prefix_stays}
-use Rattle.symbols65.proofs.Measures.{left_after, refused_first, refused_same, unless_then}
-use Rattle.symbols65.proofs.Turns.{extends_itself}
-use Rattle.symbols65.proofs.Words.{get_more}
-use Rattle.symbols65.proofs.Sizing.{binary_plain, folded_plain, left_alone, plain_again, plain_known, plain_twice, plain_value, prefix_plain}
+use Rattle.symbols65.proofs.StatementLayouts.{left_after, refused_first, refused_same, unless_then}
+use Rattle.symbols65.proofs.ExpansionDepths.{extends_itself}
+use Rattle.symbols65.proofs.InternedNames.{get_more}
+use Rattle.symbols65.proofs.PlainForms.{binary_plain, folded_plain, left_alone, plain_again, plain_known, plain_twice, plain_value, prefix_plain}
 
 -- ---- The number or address of an operation depends only on those of its operands.
 

@@ -25,9 +25,9 @@ use Rattle.std.specs.Option.{option_map, unwrap_or}
 use Rattle.symbols65.specs.Resolving.{IsFinalWithin, binary_form, prefix_form, attempt_definition, attempt_value, known_form, plain_part, HasFinalBinding}
 use Rattle.symbols65.specs.Views.{final_form, key_at, table_of, interned_names_of}
 use Rattle.symbols65.proofs.Scopes.{name_is, name_meaning}
-use Rattle.symbols65.proofs.Words.{first_passes, first_within, get_mapped, get_stays, position_stays}
-use Rattle.symbols65.proofs.Settling.{final_among}
-use Rattle.symbols65.proofs.Turns.{extends_itself, expression_course, expression_is, ok_later}
+use Rattle.symbols65.proofs.InternedNames.{first_passes, first_within, get_mapped, get_stays, position_stays}
+use Rattle.symbols65.proofs.KnownForms.{final_among}
+use Rattle.symbols65.proofs.ExpansionDepths.{extends_itself, expression_course, expression_is, ok_later}
 
 -- ---- Definitions.
 

@@ -12,7 +12,7 @@ use Rattle.syntax65.specs.declared.expressions.operators.OperandStart.TheVariant
 use Rattle.syntax65.specs.declared.expressions.operators.ExprFault.{ExprFault}
 use Rattle.syntax65.specs.declared.expressions.operators.ExprFault.TheVariants.{OperandExpected, ParenthesisExpected}
 use Rattle.syntax65.proofs.Phrases.{low_level}
-use Rattle.syntax65.proofs.Runs.{Answer, whole_at, level_at, rest_at, Run, r_leaf, r_name, r_global, r_none, r_deep, r_prefix, r_enclosed, r_first, r_lost, r_end, r_next, r_next_lost, r_plain, r_negated, r_negation_deep, closed, one_answer}
+use Rattle.syntax65.proofs.LeftToRight.{Answer, whole_at, level_at, rest_at, Run, r_leaf, r_name, r_global, r_none, r_deep, r_prefix, r_enclosed, r_first, r_lost, r_end, r_next, r_next_lost, r_plain, r_negated, r_negation_deep, closed, one_answer}
 
 close_token : (o : Option Lexeme) → option_map_or (λ t. is_close t.0) o false ≡ true → option_and_then (λ t. binary_of t.0 t.1) o ≡ None
 close_token x h = grind (arith, common_steps)

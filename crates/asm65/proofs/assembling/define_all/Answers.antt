@@ -3,7 +3,7 @@ use Rattle.std.proofs.lemmas.Result.{err_from_is_err_and}
 use Rattle.sources65.specs.Reading.{Define, no_line}
 use Rattle.asm65.specs.declared.assembling.Define as code
 use Rattle.asm65.specs.Assembly.{define_of}
-use Rattle.asm65.proofs.Defines.{SoFar, left_dropped, none_so_far, one_more, one_wrong}
+use Rattle.asm65.proofs.CommandLineConstants.{SoFar, left_dropped, none_so_far, one_more, one_wrong}
 use Rattle.asm65.proofs.assembling.define_all.Goals as goal
 
 -- the default element for an index outside the list

@@ -8,7 +8,7 @@ use Rattle.expand65.specs.Failures.{IsPeekedLine, NeedsNoExpansion}
 use Rattle.expand65.specs.Representation.{location_of}
 use Rattle.semantics65.specs.Views.{location_in}
 use Rattle.asm65.specs.Internal.RunState.{AssemblesLine}
-use Rattle.asm65.proofs.Ahead.{line_is, roomy_ahead}
+use Rattle.asm65.proofs.PeekedLines.{line_is, roomy_ahead}
 use Rattle.asm65.proofs.Runs.{Answer}
 use Rattle.asm65.proofs.driver.assemble_peeked_line.Goals as goal
 

@@ -11,7 +11,7 @@ use Rattle.symbols65.specs.Evaluations.{IsEvaluated}
 use Rattle.symbols65.specs.Measuring.{naming_fault}
 use Rattle.symbols65.specs.Views.{table_of}
 use Rattle.symbols65.proofs.Evaluations.{operand_trees_are}
-use Rattle.symbols65.proofs.Measures.{last_of_two, measured_named, measured_refused, refused_same, room_of}
+use Rattle.symbols65.proofs.StatementLayouts.{last_of_two, measured_named, measured_refused, refused_same, room_of}
 use Rattle.symbols65.proofs.measuring.lay_out_instruction.Goals as goal
 
 -- the only possible error in the names of an instruction is a missing scope

@@ -13,11 +13,11 @@ use Rattle.semantics65.specs.Symbols.{Symbols}
 use Rattle.symbols65.specs.Evaluations.{HasFinal}
 use Rattle.symbols65.proofs.Finals.{within_final}
 use Rattle.symbols65.specs.Views.{table_of}
-use Rattle.symbols65.proofs.Measures.{ok_then}
+use Rattle.symbols65.proofs.StatementLayouts.{ok_then}
 use Rattle.asm65.specs.declared.assembler.Assembler.{Assembler}
 use Rattle.asm65.specs.Internal.AssemblerState.{EmitsPieces}
-use Rattle.asm65.proofs.Enterings.{fed_enters, says_nothing}
-use Rattle.asm65.proofs.Waitings.{waits_enters}
+use Rattle.asm65.proofs.PieceEmission.{fed_enters, says_nothing}
+use Rattle.asm65.proofs.DeferredPieces.{waits_enters}
 use Rattle.asm65.proofs.assembler.Assembler.defer_constant.Goals as goal
 
 -- if a form was found, it is final

@@ -19,10 +19,10 @@ use Rattle.symbols65.specs.Tables.{AreSearched, entries_at, entry_at}
 use Rattle.symbols65.specs.Views.{entry_form, known_by, table_of}
 use Rattle.symbols65.proofs.Chains.{Among, last_course}
 use Rattle.symbols65.proofs.Entries.{meets_form, meets_mark, past_form, past_mark, unmet_fewer, unmet_no_more}
-use Rattle.symbols65.proofs.Lasts.{last_tried}
-use Rattle.symbols65.proofs.Pursuits.{InheritsErrors, IsPursuit, all_recorded, ends_recorded, known_of, known_same, last_circular, last_faults, last_lacks, pursuit_known, pursuit_leads, pursuit_meets, pursuit_needs, pursuit_starts, pursuit_up, search_done, search_ends, still_unmarked, unless_more}
-use Rattle.symbols65.proofs.Tries.{IsAttempt, attempt_at, attempt_first, attempt_last}
-use Rattle.symbols65.proofs.Turns.{EventuallyEquals, comes_to_norm, expression_course}
+use Rattle.symbols65.proofs.LastPending.{last_tried}
+use Rattle.symbols65.proofs.FormSearch.{InheritsErrors, IsPursuit, all_recorded, ends_recorded, known_of, known_same, last_circular, last_faults, last_lacks, pursuit_known, pursuit_leads, pursuit_meets, pursuit_needs, pursuit_starts, pursuit_up, search_done, search_ends, still_unmarked, unless_more}
+use Rattle.symbols65.proofs.Attempts.{IsAttempt, attempt_at, attempt_first, attempt_last}
+use Rattle.symbols65.proofs.ExpansionDepths.{EventuallyEquals, comes_to_norm, expression_course}
 use Rattle.symbols65.proofs.resolving.search.run_search.Goals as goal
 
 -- an error has no form

@@ -28,8 +28,8 @@ use Rattle.emit65.specs.declared.numbering.keys.Numbers.{Numbers}
 use Rattle.emit65.specs.declared.sections.ClosedSections.{ClosedSections}
 use Rattle.emit65.specs.SectionContents.{AreEquivalentContents, HasSlots, HaveFilesBelow, content_of, contents_so_far, names_in, location_of_pos, has_file_below}
 use Rattle.emit65.specs.Internal.Drafts.{assert_by, assert_keys, assert_file, draft_keys, draft_of, export_by, export_keys, export_file, fragment_of, object_of, origin_of, entries_in, declarations_of, section_of, value_keys, IsNumbered}
-use Rattle.emit65.proofs.Alikes.{files_by, files_named_by, object_over, same_object}
-use Rattle.emit65.proofs.Grown.{contents_of_slots}
+use Rattle.emit65.proofs.EquivalentContents.{files_by, files_named_by, object_over, same_object}
+use Rattle.emit65.proofs.GrownSlots.{contents_of_slots}
 use Rattle.emit65.proofs.Keys.{imports_anyhow}
 use Rattle.emit65.proofs.Naming.{AreBelow, IsNaming, found_by, naming_more, naming_none, naming_one, once_named}
 use Rattle.emit65.proofs.Renumbering.{left, once_all, right}

@@ -23,11 +23,11 @@ use Rattle.symbols65.specs.Tables.{AreSearched, KeepsSearches, entries_at, entry
 use Rattle.symbols65.specs.declared.table.symbols.SearchEntry.{SearchEntry}
 use Rattle.symbols65.specs.declared.table.symbols.SearchEntry.TheVariants.{KnownForm, NoForm}
 use Rattle.symbols65.specs.Views.{with_definition}
-use Rattle.symbols65.proofs.Growing.{none_searched}
+use Rattle.symbols65.proofs.TableGrowth.{none_searched}
 use Rattle.symbols65.proofs.Scopes.{name_is, name_meaning}
-use Rattle.symbols65.proofs.Settling.{has_form}
-use Rattle.symbols65.proofs.Turns.{constant_course, constant_is, ok_later}
-use Rattle.symbols65.proofs.Words.{and_false, get_stays, position_stays}
+use Rattle.symbols65.proofs.KnownForms.{has_form}
+use Rattle.symbols65.proofs.ExpansionDepths.{constant_course, constant_is, ok_later}
+use Rattle.symbols65.proofs.InternedNames.{and_false, get_stays, position_stays}
 
 -- ---- Names.
 

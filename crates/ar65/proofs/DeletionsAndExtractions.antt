@@ -17,7 +17,7 @@ use Rattle.ar65.specs.declared.fault.ArchiveFault.TheVariants as error
 use Rattle.ar65.specs.Librarian.{AreUtf8, extracted_files, extract_result, file_of, files_of, member_name, without_files}
 use Rattle.ar65.specs.Faults.{is_system_error}
 use Rattle.ar65.proofs.Names.{names_are_texts}
-use Rattle.ar65.proofs.Turns.{ahead, each_none, refused_so}
+use Rattle.ar65.proofs.LoopSteps.{ahead, each_none, refused_so}
 
 -- ---- Deletion.
 

@@ -23,9 +23,9 @@ use Rattle.symbols65.specs.Tables.{AreSearched, KeepsSearches, entries_at}
 use Rattle.symbols65.specs.Views.{entry_form, final_form, known_by, table_of}
 use Rattle.symbols65.proofs.Chains.{Among, IsChain, among_after, among_cases, among_last, among_more, chain_less, chain_more, chain_passes, last_course, met_ever}
 use Rattle.symbols65.proofs.Entries.{Meets, entry_same, meets_cases, meets_form, meets_mark, past_form, past_mark}
-use Rattle.symbols65.proofs.Settling.{has_form, known_found}
-use Rattle.symbols65.proofs.Turns.{Course, EventuallyEquals, circular_before, constant_course, constant_is, constant_is_last, ok_later}
-use Rattle.symbols65.proofs.Tries.{Near, Agrees, IsAttempt, at_turn, attempt_at}
+use Rattle.symbols65.proofs.KnownForms.{has_form, known_found}
+use Rattle.symbols65.proofs.ExpansionDepths.{Course, EventuallyEquals, circular_before, constant_course, constant_is, constant_is_last, ok_later}
+use Rattle.symbols65.proofs.Attempts.{Near, Agrees, IsAttempt, at_turn, attempt_at}
 
 -- ---- One constant needs another.
 

@@ -20,7 +20,7 @@ use Rattle.ar65.specs.Librarian.{as_file, member_name, with_file, with_files}
 use Rattle.ar65.specs.Laws.{HaveBytes}
 use Rattle.ar65.specs.Faults.{is_failure, is_system_error}
 use Rattle.base65.specs.Store.{IsBytes}
-use Rattle.ar65.proofs.Longs.{told_by_front}
+use Rattle.ar65.proofs.LongFiles.{told_by_front}
 
 -- ---- One FILE.
 

@@ -22,9 +22,9 @@ use Rattle.syntax65.specs.Trees.{Tree}
 use Rattle.ast65.specs.declared.language.Statement.{Statement}
 use Rattle.ast65.specs.declared.language.Statement.TheVariants.{Align, Assert, CheapLabel, Constant, Export, Incbin, ForceImport, Global, Import, Instruction, Label, OpenProc, OpenScope, Reserve, UnnamedLabel, Values}
 use Rattle.semantics65.specs.Types.{Action, Item, Mnemonic, Operand, Width}
-use Rattle.asm65.proofs.Enterings.{enters_none}
+use Rattle.asm65.proofs.PieceEmission.{enters_none}
 use Rattle.symbols65.specs.declared.measuring.StatementLayout.{StatementLayout}
-use Rattle.symbols65.proofs.Measures.{ok_then}
+use Rattle.symbols65.proofs.StatementLayouts.{ok_then}
 use Rattle.semantics65.specs.Module.{forced_import, constant_definition, exported, imported, pieces_of, expression_value}
 
 -- ---- The environment at a statement.

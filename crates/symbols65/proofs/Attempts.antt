@@ -15,7 +15,7 @@ use Rattle.semantics65.specs.Symbols.{Symbols, Definition, Binding, binding_of}
 use Rattle.semantics65.specs.Norms.{fold_result, form_by, form_of_definition, form_of_binding, norm}
 use Rattle.symbols65.specs.Resolving.{IsReference, attempt_result, attempt_definition, binding_form, operand_form, attempt_by, form_attempt, constant_attempt, last_attempt, HaveBoundedDepth}
 use Rattle.symbols65.proofs.Chains.{last_course}
-use Rattle.symbols65.proofs.Turns.{NormCache, Course, expression_course, constant_course, constant_is, ok_later, ok_before}
+use Rattle.symbols65.proofs.ExpansionDepths.{NormCache, Course, expression_course, constant_course, constant_is, ok_later, ok_before}
 
 -- the results are equal, or the first is circular and `C` is true
 abbrev pub Near : Type 0 → Result Form AsmFault → Result Form AsmFault → Type 0

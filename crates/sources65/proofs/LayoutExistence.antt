@@ -23,8 +23,8 @@ use Rattle.semantics65.specs.Layout.{empty_layout}
 use Rattle.semantics65.specs.Module.{outcome_of}
 use Rattle.sources65.specs.Reading.{DefinesConstants, AssemblesRest, statement_assembled, statement_rejected, expansion_rejected, source_ended, StatementSemantics, Define, AssemblesAfterDefines, AssemblesOpeningResult, AssemblesExpanded, AssemblesLabelTokens, AssemblesLabel, AssemblesTokens, AssemblesSource, Job, layout_semantics, no_line, open_scope_fault, ReachedState, stopped_at, with_bytes, with_statement}
 use Rattle.semantics65.specs.Types.{AsmFault, Constant, Expansion, SourceLocation, Statement}
-use Rattle.sources65.proofs.SomeContents.{outcome_own}
-use Rattle.sources65.proofs.SomeLines.{statement_own}
+use Rattle.sources65.proofs.ContentExistence.{outcome_own}
+use Rattle.sources65.proofs.LineExistence.{statement_own}
 
 expansion_own : (e : ExpandFault) → is_expand_system_error e ≡ false → is_system_error (Expansion e) ≡ false
 expansion_own expansion.OutOfMemory h = absurd (let e : true ≡ false = h in cc)

@@ -15,7 +15,7 @@ use Rattle.sources65.specs.Machine.{State, outcome_of_state, resolution_of_state
 use Rattle.semantics65.specs.Module.{Outcome, without_warning, Resolution, Slot, slot_result, resolved, resolution_of}
 use Rattle.semantics65.specs.Numbering.{AreWellFormedContents, all_declarations, object_with, section_keys}
 use Rattle.semantics65.specs.Symbols.{Symbols}
-use Rattle.semantics65.proofs.Found.{after, found_all, nothing_after, resolved_more, resolved_stops}
+use Rattle.semantics65.proofs.SlotResolution.{after, found_all, nothing_after, resolved_more, resolved_stops}
 use Rattle.emit65.specs.SectionContents.{AreEquivalentContents, AreEquivalentSlots, HasSlots, HaveFilesBelow, RepresentsSlots, content_of, contents_so_far, names_in, names_of, slot_of, content_so_far, has_file_below}
 use Rattle.emit65.specs.declared.files.Files.{Files}
 use Rattle.emit65.specs.declared.entries.SectionEntry.{SectionEntry}
@@ -24,10 +24,10 @@ use Rattle.emit65.specs.declared.entries.SourcePos.{SourcePos}
 use Rattle.emit65.specs.declared.fixups.Fixup.{Fixup}
 use Rattle.std.specs.Global.{Box}
 use Rattle.emit65.specs.declared.sections.ClosedSections.{ClosedSections}
-use Rattle.emit65.proofs.Grown.{standing_more}
+use Rattle.emit65.proofs.GrownSlots.{standing_more}
 use Rattle.emit65.proofs.Renumbering.{and, left, right}
 use Rattle.emit65.proofs.Slots.{comes_alike, faulty_alike, held_alike, held_contents, keys_found, slots_back, slots_front, slots_same, slots_trans}
-use Rattle.symbols65.proofs.Measures.{unless_then}
+use Rattle.symbols65.proofs.StatementLayouts.{unless_then}
 use Rattle.symbols65.specs.Views.{table_of}
 use Rattle.asm65.specs.declared.assembler.Assembler.{Assembler}
 use Rattle.asm65.specs.declared.finish.ResolveState.{ResolveState}

@@ -14,8 +14,8 @@ use Rattle.emit65.specs.declared.files.Files.{Files}
 use Rattle.emit65.specs.declared.sections.ClosedSections.{ClosedSections}
 use Rattle.emit65.specs.declared.sections.Sections.{Sections}
 use Rattle.emit65.specs.SectionContents.{AreEquivalentContents, AreEquivalentSlots, contents_so_far, slot_of, slots_in, content_so_far, has_file_below, IsPrefix, HasSlots, IsAdded, HaveFilesBelow, RepresentsSlots, AppendsSlotsWithFiles, open_contents, names_in}
-use Rattle.emit65.proofs.Alikes.{alike_back, alike_front, alike_nothing, alike_sym, alike_trans, bytes_alike, empty_alike, no_bytes_alike, no_room_alike, room_alike}
-use Rattle.emit65.proofs.Grown.{begins_long, slots_grown, standing_grown, standing_more}
+use Rattle.emit65.proofs.EquivalentContents.{alike_back, alike_front, alike_nothing, alike_sym, alike_trans, bytes_alike, empty_alike, no_bytes_alike, no_room_alike, room_alike}
+use Rattle.emit65.proofs.GrownSlots.{begins_long, slots_grown, standing_grown, standing_more}
 use Rattle.emit65.proofs.Slots.{asked_more, asked_same, held_alike, slots_back, slots_front, slots_nothing, slots_same, slots_sym, slots_trans}
 
 -- ---- The open part.

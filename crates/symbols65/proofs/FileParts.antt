@@ -14,7 +14,7 @@ use Rattle.semantics65.specs.Layout.{Cursor, context_of, has_value, missing_scop
 use Rattle.semantics65.specs.Norms.{optional_value}
 use Rattle.semantics65.specs.Symbols.{Symbols}
 use Rattle.symbols65.specs.Measuring.{IsOptionalValue, layout_or_error, range_in_file, unread_fault}
-use Rattle.symbols65.proofs.Measures.{left_after, unless_then}
+use Rattle.symbols65.proofs.StatementLayouts.{left_after, unless_then}
 
 -- ---- The part of a file.
 

@@ -8,7 +8,7 @@ use Rattle.ast65.specs.Faults.{is_system_error}
 use Rattle.ast65.specs.declared.language.Statement.TheVariants.{Constant}
 use Rattle.sources65.specs.Reading.{RepresentsOrFails, DefinesConstants, Define}
 use Rattle.sources65.specs.Machine.{State, StepsTo, initial_state}
-use Rattle.sources65.proofs.Taken.{DefinesOn, faulty_constant, first_constant, next_constant}
+use Rattle.sources65.proofs.AssembledStatements.{DefinesOn, faulty_constant, first_constant, next_constant}
 use Rattle.asm65.specs.declared.assembler.Assembler.{Assembler}
 use Rattle.asm65.specs.declared.assembling.Define as code
 use Rattle.asm65.specs.Assembly.{define_of}

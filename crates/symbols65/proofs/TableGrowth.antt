@@ -21,7 +21,7 @@ use Rattle.symbols65.specs.declared.table.symbols.ScopeKey.TheVariants as openin
 use Rattle.symbols65.specs.declared.table.symbols.Definition.{Definition}
 use Rattle.semantics65.specs.Norms.{Extends}
 use Rattle.symbols65.specs.Tables.{AreCounted, AreDistinct, AreFinal, AreInnerKnown, AreNumbered, KeepsSearches, IsPrefixOf, HasNumber, IsCounted, IsInnerKnown, IsScopeKey, StoresFinalForm, definition_in, entry_at, interned_key_of, first_number, key_in, same_scope_key, scope_by, scope_opened, table_in, table_without_imports, interned_name, key_name_id, scope_name_id}
-use Rattle.symbols65.proofs.Words.{position_none, first_within, first_passes, get_more, map_same, position_same, position_stays, finds_opened, get_word, keys_get}
+use Rattle.symbols65.proofs.InternedNames.{position_none, first_within, first_passes, get_more, map_same, position_same, position_stays, finds_opened, get_word, keys_get}
 use Rattle.ast65.proofs.Lists.{same_bytes}
 
 -- ---- Maps.

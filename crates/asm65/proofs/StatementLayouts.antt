@@ -10,13 +10,13 @@ use Rattle.semantics65.specs.Layout.{Cursor, context_of, cursor_after, line_faul
 use Rattle.semantics65.specs.Symbols.{Symbols}
 use Rattle.symbols65.specs.Measuring.{cursor_with_bytes, layout_result, opening_count, HasBoundedCounts}
 use Rattle.symbols65.specs.declared.measuring.StatementLayout.{StatementLayout}
-use Rattle.symbols65.proofs.Following.{after_measured, counted_after, is_measured, with_fault, without_fault}
-use Rattle.symbols65.proofs.Measures.{unless_then}
+use Rattle.symbols65.proofs.NextCursors.{after_measured, counted_after, is_measured, with_fault, without_fault}
+use Rattle.symbols65.proofs.StatementLayouts.{unless_then}
 use Rattle.sources65.specs.Machine.{State}
 use Rattle.symbols65.specs.Views.{table_of}
 use Rattle.asm65.specs.declared.assembler.Assembler.{Assembler}
 use Rattle.asm65.specs.Internal.AssemblerState.{Represents, HasLayout, IsRejected}
-use Rattle.asm65.proofs.Takings.{unless_either}
+use Rattle.asm65.proofs.StatementSteps.{unless_either}
 
 module _ (count : ℕ) (t : State) (old : Assembler) (h : Represents count t old) (x : Statement) where
   abbrev here : Result StatementLayout AsmFault

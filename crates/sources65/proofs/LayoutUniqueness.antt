@@ -15,7 +15,7 @@ use Rattle.ast65.specs.declared.language.Statement.{Statement}
 use Rattle.ast65.specs.declared.language.Statement.TheVariants.{Constant}
 use Rattle.ast65.specs.Parsing.{IsStatement, label_of}
 use Rattle.sources65.specs.Reading.{DefinesConstants, AssemblesRest, statement_assembled, statement_rejected, expansion_rejected, source_ended, StatementSemantics, Define, AssemblesAfterDefines, AssemblesOpeningResult, AssemblesExpanded, AssemblesLabelTokens, AssemblesLabel, AssemblesTokens, AssemblesSource, Job, ReachedState, StepRelation, no_line, open_scope_fault, with_bytes, stopped_at, AreLaidOut, IsLaidOut, layout_semantics, with_statement}
-use Rattle.expand65.proofs.Unique.{one_next}
+use Rattle.expand65.proofs.StepUniqueness.{one_next}
 use Rattle.expand65.specs.Lines.{LocatedError}
 use Rattle.ast65.specs.declared.fault.AsmFault.TheVariants.{Expansion}
 use Rattle.semantics65.specs.Layout.{Layout, empty_layout}

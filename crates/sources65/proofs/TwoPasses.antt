@@ -18,7 +18,7 @@ use Rattle.semantics65.specs.Module.{LocatedFault, Outcome, outcome_of, stdout_t
 use Rattle.sources65.specs.Reading.{IsLaidOut, layout_semantics}
 use Rattle.semantics65.specs.Norms.{Extends}
 use Rattle.sources65.proofs.Resolving.{extends_after, extends_same, extends_then, flat_push, symbols_push}
-use Rattle.sources65.proofs.OneLayouts.{Matches, Simulates, StandIn, source_matches}
+use Rattle.sources65.proofs.LayoutUniqueness.{Matches, Simulates, StandIn, source_matches}
 
 -- ---- Slots with equal results.
 

@@ -15,8 +15,8 @@ use Rattle.std.specs.Result.{result_ok}
 use Rattle.symbols65.specs.Resolving.{HaveBoundedDepth}
 use Rattle.symbols65.specs.Views.{final_form, known_by, table_of, interned_names_of}
 use Rattle.symbols65.specs.Tables.{definition_in}
-use Rattle.symbols65.proofs.Words.{get_mapped, get_stays, without_imports}
-use Rattle.symbols65.proofs.Turns.{extends_itself, constant_course, constant_is, ok_later}
+use Rattle.symbols65.proofs.InternedNames.{get_mapped, get_stays, without_imports}
+use Rattle.symbols65.proofs.ExpansionDepths.{extends_itself, constant_course, constant_is, ok_later}
 
 pub has_form : (r : Result Form AsmFault) (f : Form) → result_ok r ≡ Some f → r ≡ Ok f
 has_form x f e = grind (arith, common_steps)

@@ -15,18 +15,18 @@ use Rattle.ast65.specs.declared.language.Statement.TheVariants as statement
 use Rattle.semantics65.specs.Layout.{Cursor, laid_out_statement, context_of, cursor_after, defined_twice, first_fault, is_not_global, line_fault, missing_scopes_fault, opened_twice, or_then, layout_faults, scope_name, is_global_only, trees_of, fault_if, fault_if_some, operand_fault, unless_fault}
 use Rattle.symbols65.specs.Measuring.{HaveBoundedParents, opening_count, layout_of_statement, naming_fault, unread_fault, HasBoundedCounts}
 use Rattle.symbols65.specs.declared.measuring.StatementLayout.{StatementLayout}
-use Rattle.symbols65.proofs.Following.{inside_after}
-use Rattle.symbols65.proofs.Measures.{faults_are, unless_then}
+use Rattle.symbols65.proofs.NextCursors.{inside_after}
+use Rattle.symbols65.proofs.StatementLayouts.{faults_are, unless_then}
 use Rattle.semantics65.proofs.Segments.{all_more, all_same}
 use Rattle.sources65.specs.Machine.{PieceStep, PieceSteps, State, StepsWithoutError, StepsTo, UnlessFault, emitted_now, with_content, with_symbols, deferred_piece_step, symbols_after}
 use Rattle.semantics65.specs.Module.{statement_stdout, statement_warning, Piece, pieces_of}
 use Rattle.symbols65.specs.Views.{table_of}
-use Rattle.symbols65.proofs.Words.{position_none}
+use Rattle.symbols65.proofs.InternedNames.{position_none}
 use Rattle.symbols65.specs.declared.table.symbols.Symbols.{Symbols as SymbolTable}
 use Rattle.asm65.specs.declared.assembler.Assembler.{Assembler}
 use Rattle.asm65.specs.declared.texts.ConsoleOutput.{ConsoleOutput}
 use Rattle.asm65.specs.Internal.AssemblerState.{AreNumberedBelow, Represents, IsNumberedBelow, IsNew, HasLayout, EmitsThenDefines, with_requested_section, statement_with_layout, state_after_layout}
-use Rattle.asm65.proofs.Namings.{IsBeside, puts_beside}
+use Rattle.asm65.proofs.SymbolUpdates.{IsBeside, puts_beside}
 use Rattle.std.specs.FinMap.{get}
 use Rattle.base65.specs.Store.{Files, FailedOn, FailedWithin, LastFailure, bytes_in}
 use Rattle.syntax65.specs.Trees.{Tree}

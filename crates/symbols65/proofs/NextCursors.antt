@@ -11,7 +11,7 @@ use Rattle.ast65.specs.declared.language.Statement.TheVariants as statement
 use Rattle.semantics65.specs.Layout.{Cursor, opens_scope, scope_after, segments_after, cursor_after, line_fault}
 use Rattle.symbols65.specs.Measuring.{cursor_with_bytes, layout_of_statement, layout_result, HaveBoundedParents, HasSpareCounts, opening_count, opening_limit, HasBoundedCounts}
 use Rattle.symbols65.specs.declared.measuring.StatementLayout.{StatementLayout}
-use Rattle.symbols65.proofs.Measures.{no_fault}
+use Rattle.symbols65.proofs.StatementLayouts.{no_fault}
 use Rattle.semantics65.proofs.Segments.{all_more, all_same, grown_length}
 
 -- ---- Enclosing scopes.

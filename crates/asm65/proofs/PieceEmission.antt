@@ -26,13 +26,13 @@ use Rattle.semantics65.specs.Numbering.{all_declarations}
 use Rattle.semantics65.specs.Symbols.{Symbols}
 use Rattle.emit65.specs.declared.sections.Sections.{Sections}
 use Rattle.emit65.specs.SectionContents.{AppendsSlot, RepresentsSlots}
-use Rattle.emit65.proofs.Alikes.{alike_sym, empty_alike}
+use Rattle.emit65.proofs.EquivalentContents.{alike_sym, empty_alike}
 use Rattle.emit65.proofs.Pieces.{held_stand, runs, runs_stand}
 use Rattle.symbols65.specs.Views.{table_of}
 use Rattle.asm65.specs.declared.assembler.Assembler.{Assembler}
 use Rattle.asm65.specs.Internal.AssemblerState.{EmitsPieces, AreEncodedNumbers, IsNextForm, AppendsPart, EmitsIfResolved, DefersPiece, operand_part}
-use Rattle.asm65.proofs.Puttings.{literal_is, stored_is}
-use Rattle.asm65.proofs.Waitings.{all_entered, holds_all, holds_entered, waits_enters}
+use Rattle.asm65.proofs.AppendedParts.{literal_is, stored_is}
+use Rattle.asm65.proofs.DeferredPieces.{all_entered, holds_all, holds_entered, waits_enters}
 
 -- ---- Pieces in order.
 

@@ -22,7 +22,7 @@ use Rattle.semantics65.specs.Norms.{defined_form, norm_of}
 use Rattle.semantics65.specs.Symbols.{definition_index, named, Symbols, symbols_of}
 use Rattle.semantics65.specs.Types.{AsmFault, SourceLocation}
 use Rattle.semantics65.specs.declared.contexts.Context.{Context}
-use Rattle.sources65.proofs.SomeForms.{defined_own, folded_own, norm_own}
+use Rattle.sources65.proofs.FormExistence.{defined_own, folded_own, norm_own}
 
 -- ---- Parts.
 

@@ -13,8 +13,8 @@ use Rattle.semantics65.specs.Layout.{Layout, empty_layout}
 use Rattle.semantics65.specs.Module.{LocatedFault}
 use Rattle.sources65.specs.Reading.{DefinesConstants, AssemblesExpanded, IsLaidOut, Job, layout_semantics, no_line}
 use Rattle.sources65.specs.Machine.{State, StepsTo, initial_state, machine_semantics}
-use Rattle.sources65.proofs.OneLayouts.{Matches, defined_matches, given_matches, next_same}
-use Rattle.sources65.proofs.Passes.{Follows, begun_follows, laying_stands_in, takes_follows}
+use Rattle.sources65.proofs.LayoutUniqueness.{Matches, defined_matches, given_matches, next_same}
+use Rattle.sources65.proofs.TwoPasses.{Follows, begun_follows, laying_stands_in, takes_follows}
 use Rattle.asm65.specs.declared.assembling.Assembly.{Assembly}
 use Rattle.asm65.specs.declared.texts.Diagnostic.{Diagnostic}
 use Rattle.asm65.specs.Assembly.{is_store_failure, located_fault}

@@ -67,11 +67,11 @@ lines-preserved g c =
     let P : BlockStep → Type 0 = λ s. RefinesVerdict (Ok s) (line_verdict k c.lines.depth (tokens_in line)) in
     let goes = subst P c.in-Open.is c.in_ok-end.ensures.step in
     let Q : List (List Lexeme) → Type 0 = λ b. IfSome o (Leads k c.in-Open.deeper b new c.args.self.now) in
-    let stands_on : IsStackPositionedIfKnown o c.lines.self → IsStackPositionedIfKnown o new = λ h. stands_back o (g.S.Store.files c.lines.store) mid new c.lines.invariant.files c.in_ok-line.ensures.stands (stands_so o c.lines.self mid c.skip_uncollected_lines.ensures.stack_position h) in
+    let stands_on : IsStackPositionedIfKnown o c.lines.self → IsStackPositionedIfKnown o new = λ h. stands_back o (g.S.Store.files c.lines.store) mid new c.lines.invariant.files c.in_ok-line.ensures.stack_position (stands_so o c.lines.self mid c.skip_uncollected_lines.ensures.stack_position h) in
     record {
       outer = c.in_ok-line.ensures.innermost.outer ∙ c.skip_uncollected_lines.ensures.innermost.outer ∙ c.lines.invariant.outer;
       mark = c.in_ok-line.ensures.innermost.mark ∙ c.skip_uncollected_lines.ensures.innermost.mark ∙ c.lines.invariant.mark;
-      budget = omega (arith, c.in_ok-line.ensures.room, c.skip_uncollected_lines.ensures.budget, c.lines.invariant.budget);
+      budget = omega (arith, c.in_ok-line.ensures.remaining_budget, c.skip_uncollected_lines.ensures.budget, c.lines.invariant.budget);
       files = c.in_ok-line.ensures.frame.files ∙ c.lines.invariant.files;
       count = search rules;
       stands = λ h. stands_on (c.lines.invariant.stands h);
@@ -95,4 +95,4 @@ returns-in-Closed-clause-stack_position g c = λ stands.
     (let o = g.S.Store.files c.args.store.now in
     let mid = c.skip_uncollected_lines.new.self in
     let new = c.read_block_line.new.self in
-    stands_back o (g.S.Store.files c.lines.store) mid new c.lines.invariant.files c.in_ok-line.ensures.stands (stands_so o c.lines.self mid c.skip_uncollected_lines.ensures.stack_position (c.lines.invariant.stands stands)))
+    stands_back o (g.S.Store.files c.lines.store) mid new c.lines.invariant.files c.in_ok-line.ensures.stack_position (stands_so o c.lines.self mid c.skip_uncollected_lines.ensures.stack_position (c.lines.invariant.stands stands)))

@@ -79,7 +79,7 @@ pub read_level-operators-init : goal.read_level-operators-init
 read_level-operators-init t c = record {
   part = operand_part (lexemes c.args.tokens.now) c.args.depth_left c.args.level c.args.at _ _ c.in_ok-left.ensures.phrase;
   further = c.in_ok-left.ensures.further;
-  within = c.in_ok-left.ensures.inside;
+  within = c.in_ok-left.ensures.in_bounds;
 }
 
 pub read_level-returns-in_err-right-clause-phrase : goal.read_level-returns-in_err-right-clause-phrase

@@ -14,7 +14,7 @@ invariant_of-self-2 c = λ running.
     let x : Outline × Item = (outline_in c.accept_record.new.scan_state, c.in_ok-item.item) in
     record {
       sound = c.in_ok-item.ensures.sound;
-      reachable = stands_next o e x (c.self.invariant c.if-self.false).reachable (scanned_on o e (Ok x) refl c.if-self-2.false c.in_ok-item.ensures.effect);
+      reachable = stands_next o e x (c.self.invariant c.if-self.false).reachable (scanned_on o e (Ok x) refl c.if-self-2.false c.in_ok-item.ensures.taken);
     }
 
 pub returns-clause-within : goal.returns-clause-within
@@ -24,7 +24,7 @@ returns-clause-within c =
     let x : Outline × Item = (outline_in c.accept_record.new.scan_state, c.in_ok-item.item) in
     let same = ap (λ (b : Bool). record o { failed = b }) (sym c.if-self.false) ∙ c.self.view_is in
     subst (λ (p : Outline). IsWithinLimits p c.in_ok-item.item) same
-    (within_next o e x (c.self.invariant c.if-self.false).reachable (scanned_on o e (Ok x) refl c.if-self-2.false c.in_ok-item.ensures.effect) c.in_ok-item.ensures.small)
+    (within_next o e x (c.self.invariant c.if-self.false).reachable (scanned_on o e (Ok x) refl c.if-self-2.false c.in_ok-item.ensures.taken) c.in_ok-item.ensures.small)
 
 pub returns-clause-scanned : goal.returns-clause-scanned
 unfolding scan_step

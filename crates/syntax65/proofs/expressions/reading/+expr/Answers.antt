@@ -20,7 +20,7 @@ read_operand-returns-in_default-start t c =
     record {
       phrase = bad_operand (lexemes c.args.tokens.now) c.args.depth_left c.args.at c.operand_start_at-start.result c.operand_start_at-start.ensures.value none c.in_default-start.not-Name c.in_default-start.not-Scope c.in_default-start.not-Prefix c.in_default-start.not-Parenthesis;
       further = tt;
-      inside = tt;
+      in_bounds = tt;
     }
 
 pub read_prefixed-returns-then-depth_left-eq0-clause-phrase : goal.read_prefixed-returns-then-depth_left-eq0-clause-phrase

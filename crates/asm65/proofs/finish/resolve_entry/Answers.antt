@@ -11,5 +11,5 @@ returns-in_default c =
     record {
       resolved = λ (h : AreInitialEntries files (e ∷ [])). known_settled (table_of c.args.tables.symbols.now) files e c.args.resolve_state.now c.in_default.not-FixupEntry h;
       found = c.requires;
-      inside = tt;
+      no_failure = tt;
     }

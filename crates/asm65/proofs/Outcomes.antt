@@ -1,4 +1,4 @@
--- What is answered, from what the statements of a source come to.
+-- The result of an assembly, from the state that the statements of a source lead to.
 use Rattle.std.proofs.Common.{◌≡◌, ◌∙◌, ℕ, ◌+◌, ◌*◌, ◌≤◌, ◌<◌, inl, inr, arith, nat_lt, Bool, true, false, List, [], Option, Some, None, refl, sym, ap, subst}
 use Rattle.std.specs.Prelude.{Result, Ok, Err, IfOk, IfErr, IfSome, ⊤, ◌||◌, ◌⊎◌}
 use Rattle.base65.specs.Outcome.{RefinesProp, Unless, ◌>>=◌}
@@ -22,8 +22,8 @@ use Rattle.semantics65.specs.Symbols.{Symbols, symbols_of}
 use Rattle.sources65.specs.Machine.{SimulatesLayout, RunsStatements, State, StepsTo, initial_state, outcome_of_state, resolution_of_state, machine_semantics}
 use Rattle.semantics65.specs.Module.{Resolution, Outcome, module_resolution, LocatedFault}
 use Rattle.sources65.specs.Reading.{IsOutcome, DefinesConstants, Job, no_line, stopped_at}
-use Rattle.sources65.proofs.Taken.{constants_refused, open_refused}
-use Rattle.sources65.proofs.Passes.{Follows, begun_follows, one_pass, stands_for, takes_follows}
+use Rattle.sources65.proofs.AssembledStatements.{constants_refused, open_refused}
+use Rattle.sources65.proofs.TwoPasses.{Follows, begun_follows, one_pass, stands_for, takes_follows}
 use Rattle.sources65.proofs.SoundContents.{sound_contents}
 use Rattle.sources65.proofs.SoundLayouts as layouts
 use Rattle.sources65.proofs.SoundLayouts.{IsGood, good_statement, nothing_good}
@@ -39,7 +39,7 @@ use Rattle.asm65.specs.Internal.AssemblerState.{Represents}
 use Rattle.asm65.specs.Internal.RunState.{RepresentsWithin, RunRepresents, IsReached, at_first, following, RepresentsSome, IsRunning, RefinesTransition, RefinesRun, HasSameOutput, running_limit}
 use Rattle.asm65.proofs.Sources.{RanAll, some_all, some_both, some_then}
 
--- ---- What statements lead to comes to objects of the grammar.
+-- ---- The objects of reached states are well-formed.
 
 record Laid (t : State) : Type 0 where
   layout : Layout
@@ -72,7 +72,7 @@ good_concluded t o reached is = by (resolution_of_state t).found refl is
         let sound'' : AreWellFormedContents t.cursor.segments t.symbols.imports cs = subst (λ (w : Cursor). AreWellFormedContents w.segments t.symbols.imports cs) (sym for.cursor) sound' in
         ap is_well_formed_object (sym same) ∙ good_object t.cursor.segments t.symbols.imports cs sound''
 
--- ---- Answers.
+-- ---- Results.
 
 abbrev pub Found : Type 0
 Found = Result Object Diagnostic
@@ -106,7 +106,7 @@ outside_found P (Err e) h = by (is_diagnostic_system_error e) h
 abbrev pub RefusedBy : Assembler → SourceLocation → AsmFault → Assembly → Type 0
 RefusedBy b location e a = is_system_error e ≡ false → (t : State) → HasSameOutput t b → RefinesOutcome (outcome_of_state t (Some (record { place = location; fault = e }))) a
 
--- a fault of a source, at its place
+-- the case of an error at a location of the source
 pub refused_answer : (a : Assembly) (b : Assembler) (m : Files) (job : Job) (location : SourceLocation) (e : AsmFault) → Unless (is_system_error e) ((u : State) × RunsStatements m job (stopped_at u location e) × HasSameOutput u b) → (is_system_error e ≡ true → is_system_error_result a.result ≡ true) → RefusedBy b location e a → RefinesProp is_diagnostic_system_error (λ q. IsOutcome m job (assembly_outcome a q)) a.result
 refused_answer a b m job location e ran outside refused = by (is_system_error e) refl ran
   where
@@ -114,12 +114,12 @@ refused_answer a b m job location e ran outside refused = by (is_system_error e)
     by true is h = outside_found (λ q. IsOutcome m job (assembly_outcome a q)) a.result (outside is)
     by false is h = outcome_answer a (outcome_of_state h.0 (Some (record { place = location; fault = e }))) m job (one_pass m job (stopped_at h.0 location e) h.1) (refused is h.0 h.2)
 
--- a source without a fault of a line
+-- the case of a source without an error at a line
 pub concluded_answer : (a : Assembly) (m : Files) (job : Job) (run : Run) (v : Unit {0}) → RefinesRun m job run (Ok v) → ((count : ℕ) (t : State) → Represents count t run.assembler → RefinesOutcome (outcome_of_state t None) a) → RefinesProp is_diagnostic_system_error (λ q. IsOutcome m job (assembly_outcome a q)) a.result
 concluded_answer a m job run v ran h =
     outcome_answer a (outcome_of_state ran.0 None) m job (one_pass m job (record { state = ran.0; fault = None }) ran.1) (h ran.2.0 ran.0 ran.2.1)
 
--- ---- What callers are told.
+-- ---- Outcomes for known files.
 
 abbrev pub AnswersAs : Files → Job → Assembly → Type 0
 AnswersAs m job a = RefinesProp is_diagnostic_system_error (λ r. IsOutcome m job (assembly_outcome a r)) a.result
@@ -155,7 +155,7 @@ define_answer o job x e a b left outside refused opens =
     by m q true h = tt
     by m q false h = (initial_state, constants_refused m machine_semantics job x initial_state e q (h.0 tt), h.1)
 
--- an opened source behind its constants
+-- a run that begins after the constants represents the state after them
 pub first_held : (x : Expander) (b : Assembler) (u : State) (run : Run) → run ≡ record { expander = x; assembler = b } → measure_of x ≤ 3145729 → RepresentsWithin 0 u b → RunRepresents u run
 first_held x b u run is size held = subst (RunRepresents u) (sym is) (record {
   count = held.0;
@@ -206,7 +206,7 @@ pub none_passed : (old new : ℕ) (x : Expander) (e : AsmFault) (r : Found) → 
 none_passed old new x e (Ok o) p inside none h = absurd none
 none_passed old new x e (Err y) p inside none h = record { monotone = p.monotone; reported = λ lt. (let told = p.reported lt in absurd cc); caused = λ yes. (let no : true ≡ false = sym yes ∙ h ∙ inside in absurd cc) }
 
--- ---- What was said where the store failed.
+-- ---- Output before a failure of the store.
 
 or_true : (b : Bool) → b || true ≡ true
 or_true true = refl
@@ -231,12 +231,12 @@ pub only_error : (e : ExpandFault) → is_failure (Expansion e) ≡ true → e �
 only_error FileError h = refl
 only_error _ h = absurd cc
 
--- where memory runs out nothing is said, if nothing is where it comes from outside
+-- a condition for all system errors applies if memory runs out
 pub memory_silent : (r : Found) (P : Type 0) → (is_system_error_result r ≡ true → P) → is_memory_error_result r ≡ true → P
 memory_silent (Ok o) P f h = absurd cc
 memory_silent (Err e) P f h = f (memory_outside e.fault h)
 
--- the store didn't fail
+-- the case that the store didn't fail
 never_so : (m : Files) (last_failure : LastFailure) (job : Job) (a : Assembly) → IfErr a.result (λ e. is_store_failure e ≡ false) → RunReportsStoreFailure m last_failure job a
 never_so m last_failure job a none = by a.result none
   where
@@ -261,7 +261,7 @@ pub as_memory : (r : Found) → IfErr r (λ e. e.fault ≡ OutOfMemory) → IfEr
 as_memory (Ok o) h = tt
 as_memory (Err x) h = ap is_failure h
 
--- it failed before a line was read
+-- the case of a failure before the first line is read
 pub stops_first : (o : Option Files) (last_failure : LastFailure) (job : Job) (e : ExpandFault) (a : Assembly) → IfErr a.result (λ x. is_store_failure x ≡ is_failure (Expansion e)) → (is_failure (Expansion e) ≡ true → IfErr a.result (λ x. (x.fault ≡ Expansion e) × ((located_fault x).place ≡ no_location))) → (is_system_error_result a.result ≡ true → (a.out ≡ []) × (a.err ≡ [])) → (e ≡ FileError → FailedAt last_failure job.source 16777216) → IfSome o (λ m. RunReportsStoreFailure m last_failure job a)
 stops_first o last_failure job e a failed first silent requested = some_all (λ m. RunReportsStoreFailure m last_failure job a) o (λ m. by m a.result failed first silent)
   where
@@ -276,7 +276,7 @@ stops_first o last_failure job e a failed first silent requested = some_all (λ 
 abbrev pub StoppedAt : SourceLocation → AsmFault → Found → Type 0
 StoppedAt location e r = IfErr r (λ x. located_fault x ≡ record { place = location; fault = e })
 
--- it failed behind some statements
+-- the case of a failure after some statements
 pub stops_here : (o : Option Files) (last_failure : LastFailure) (first now : Run) (e : AsmFault) (a : Assembly) → is_failure e ≡ true → StoppedAt (location_of now.expander) e a.result → a.out ≡ now.assembler.texts.out → a.err ≡ now.assembler.texts.err → IfSome o (λ m. RunReportsFailure m last_failure first now (Err e)) → IfSome o (λ m. StopsFrom m last_failure first a)
 stops_here o last_failure first now e a failed placed out err all =
     some_then (λ m. RunReportsFailure m last_failure first now (Err e)) (λ m. StopsFrom m last_failure first a) o (λ m h job begins. by m job a.result placed (h failed job begins)) all
@@ -293,7 +293,7 @@ pub stopped_silent : (r : Found) (location : SourceLocation) (e : AsmFault) (P :
 stopped_silent (Ok o) location e P failed p h = absurd cc
 stopped_silent (Err x) location e P failed p h = absurd (let both : true ≡ false = sym h ∙ ap (λ (q : LocatedFault). is_out_of_memory q.fault) p ∙ failure_inside e failed in cc)
 
--- a fault behind some statements, which may be a failure of the store
+-- the case of an error after some statements, which may be a failure of the store
 pub stops_after : (o : Option Files) (last_failure : LastFailure) (first now : Run) (e : AsmFault) (a : Assembly) → IfErr a.result (λ x. is_store_failure x ≡ is_failure e) → (is_failure e ≡ true → StoppedAt (location_of now.expander) e a.result) → (is_failure e ≡ true → (a.out ≡ now.assembler.texts.out) × (a.err ≡ now.assembler.texts.err)) → IfSome o (λ m. RunReportsFailure m last_failure first now (Err e)) → IfSome o (λ m. StopsFrom m last_failure first a)
 stops_after o last_failure first now e a same stopped_at said all = by (is_failure e) refl
   where
@@ -301,7 +301,7 @@ stops_after o last_failure first now e a same stopped_at said all = by (is_failu
     by true is = stops_here o last_failure first now e a is (stopped_at is) (said is).0 (said is).1 all
     by false is = stops_never_from o last_failure first a (as_fault a.result e is same)
 
--- what an opened source comes to behind its constants
+-- a failure in a run that begins after the constants is a failure in the source
 pub run_stops : (o : Option Files) (last_failure : LastFailure) (job : Job) (x : Expander) (b : Assembler) (v : Unit {0}) (a : Assembly) → AreLeft job b v → measure_of x ≤ 3145729 → IfSome o (λ m. RepresentsFirstState m (Ok x) (first_state_in m job.source job.include)) → IfSome o (λ m. IsPositioned m x) → IfSome o (λ m. StopsFrom m last_failure (record { expander = x; assembler = b }) a) → IfSome o (λ m. RunReportsStoreFailure m last_failure job a)
 run_stops o last_failure job x b v a left size opens placed all =
     some_both (λ m. RepresentsFirstState m (Ok x) (first_state_in m job.source job.include) × IsPositioned m x) (λ m. StopsFrom m last_failure (record { expander = x; assembler = b }) a) (λ m. RunReportsStoreFailure m last_failure job a) o (λ m q r. r job (left.0, q.0, q.1, left.1, first_held x b left.0 (record { expander = x; assembler = b }) refl size left.3))

@@ -1,4 +1,4 @@
--- What calls that take statements leave, by what their parts leave.
+-- The effect of calls that assemble statements, from the effects of the calls inside them.
 use Rattle.std.proofs.Common.{◌≡◌, ◌∙◌, ℕ, zero, suc, ◌+◌, ◌≤◌, ◌<◌, Bool, true, false, List, [], ◌∷◌, ◌++◌, Option, Some, None, refl, sym, ap, subst, arith}
 use Rattle.std.specs.Prelude.{Result, Ok, Err, IfErr, IfSome, ◌==◌, if◌then◌else◌}
 use Rattle.std.proofs.lemmas.List.{append-nil}
@@ -22,16 +22,16 @@ use Rattle.ast65.specs.declared.language.Statement.TheVariants as statement
 use Rattle.semantics65.specs.Layout.{laid_out_statement, line_fault}
 use Rattle.semantics65.specs.Numbering.{AreSymbolNames, IsWellFormedStatement}
 use Rattle.ast65.specs.Parsing.{IsStatement, label_of}
-use Rattle.sources65.proofs.Sounding.{statement_sound}
+use Rattle.sources65.proofs.WellFormedLines.{statement_sound}
 use Rattle.sources65.specs.Machine.{PieceStep, emitted_now, deferred_piece_step, PieceSteps, State, StepsWithoutError, StepsTo, UnlessFault, with_section_request, with_content, with_symbols}
 use Rattle.semantics65.specs.Module.{statement_stdout, statement_warning, Piece, pieces_of}
 use Rattle.sources65.specs.Reading.{RepresentsOrFails, AssemblesExpanded, AssemblesLabelTokens, AssemblesLabel, AssemblesTokens, with_bytes}
 use Rattle.semantics65.specs.Contents.{section_request}
-use Rattle.sources65.proofs.Taken.{label_quiet}
+use Rattle.sources65.proofs.AssembledStatements.{label_quiet}
 use Rattle.sources65.proofs.SoundSources.{label_sound}
 use Rattle.asm65.specs.declared.assembler.Assembler.{Assembler}
 use Rattle.asm65.specs.declared.texts.ConsoleOutput.{ConsoleOutput}
-use Rattle.symbols65.proofs.Measures.{unless_then}
+use Rattle.symbols65.proofs.StatementLayouts.{unless_then}
 use Rattle.symbols65.specs.Measuring.{opening_count, opening_limit}
 use Rattle.asm65.specs.Internal.AssemblerState.{Represents}
 use Rattle.asm65.specs.Internal.RunState.{IsRejectedUnread, read_bytes, following, HasHeadroom, RefinesTransition, HasSameOutput, KeepsOutputAtFailure, RefinesAllTransitions, ForKnownFiles, tokens_of}
@@ -41,7 +41,7 @@ use Rattle.asm65.proofs.WholeFiles.{read_sound, takes_whole}
 abbrev pub Answer : Type 0
 Answer = Result (Unit {0}) AsmFault
 
--- ---- A fault of a part is the whole's.
+-- ---- An error of a part is the error of the whole.
 
 pub fault_first : (IsValid : Type 0) (Is : Result State AsmFault → Type 0) (most : ℕ) (t : State) (new : Assembler) (e : AsmFault) → Unless (is_system_error e) (Is (Err e)) → (is_system_error e ≡ false → HasSameOutput t new) → RefinesTransition IsValid Is most t new (Err e)
 fault_first IsValid Is most t new e is says = by (is_system_error e) is says
@@ -82,7 +82,7 @@ sound_leaves location x old new (Ok v) sound taken same = λ count t room h.
 sound_leaves location x old new (Err e) sound taken same = λ count t room h.
     fault_first (IsWellFormedStatement x) (StepsTo t location x) (count + 1) t new e (taken count t h (omega (arith, room))) (λ inside. says_same count t old new h (same inside))
 
--- ---- Where files are told.
+-- ---- Files that are known.
 
 pub told_then : (o : Option Files) (P Q : Files → Type 0) → ((m : Files) → P m → Q m) → IfSome o P → IfSome o Q
 told_then None P Q f h = tt
@@ -92,7 +92,7 @@ pub told_all : (o : Option Files) (P : Files → Type 0) → ((m : Files) → P 
 told_all None P f = tt
 told_all (Some m) P f = f m
 
--- ---- What stands behind a label.
+-- ---- The rest after a label.
 
 abbrev pub RestBy : Option Files → SourceLocation → List Lexeme → State → Result State AsmFault → Type 0
 RestBy o location ts = ForKnownFiles o (λ m t. AssemblesTokens m StepsTo t location ts)
@@ -106,7 +106,7 @@ rest_wrong o location (k ∷ ts) a e some is = λ count t room h.
     by t true g = tt
     by t false g = told_all o (λ m. AssemblesTokens m StepsTo t location (k ∷ ts) (Err e)) (λ m. (Err e, g, refl))
 
--- a statement that was read, and the same with what was read of its file
+-- a parsed statement, and the same statement with the bytes that were read of its file
 module _ (location : SourceLocation) (k : Lexeme) (ts : List Lexeme) (x y : Statement) (is : IsStatement (k ∷ ts) (Ok x)) where
   taken_rest : (m : Files) (t : State) (r : Result State AsmFault) → y ≡ read_bytes m location x → StepsTo t location y r → AssemblesTokens m StepsTo t location (k ∷ ts) r
   taken_rest m t r e h = (Ok x, is, takes_whole m location x t r (subst (λ z. StepsTo t location z r) e h))
@@ -130,7 +130,7 @@ rest_leaves o location (k ∷ ts) x y old new (Ok v) some is read taken = λ cou
 rest_leaves o location (k ∷ ts) x y old new (Err e) some is read taken = λ count t room h.
     wrong_rest location k ts x y is o (count + 1) t new e read (taken count t room h)
 
--- a statement that is refused before its file is read
+-- a statement that is rejected before its file is read
 module _ (f : Option Files) (last_failure : LastFailure) (location : SourceLocation) (x : Statement) (old new : Assembler) (e : AsmFault) (refused : (count : ℕ) (t : State) → Represents count t old → IsRejectedUnread f last_failure t location x e) (same : new.texts ≡ old.texts) where
   pub rest_unread : (ts : List Lexeme) → (ts ≡ [] → ⊥) → IsStatement ts (Ok x) → RefinesAllTransitions (AreSymbolNames ts) (RestBy f location ts) 1 old new (Err e)
   rest_unread [] some is = absurd (some refl)
@@ -149,11 +149,11 @@ module _ (f : Option Files) (last_failure : LastFailure) (location : SourceLocat
         unread = λ count t room h. (let w = (refused count t h).failed failed in record { name = w.name; requested = w.requested; inside = w.inside; answered = λ m none. (Ok x, is, w.answered m none) });
       })
 
--- what holds what another one does is followed by what that is
+-- if an assembler represents all states of another one, a transition from it is one from the other
 pub takes_from : (IsValid : Type 0) (Is : State → Result State AsmFault → Type 0) (more : ℕ) (old mid new : Assembler) (r : Answer) → ((count : ℕ) (t : State) → Represents count t old → Represents count t mid) → RefinesAllTransitions IsValid Is more mid new r → RefinesAllTransitions IsValid Is more old new r
 takes_from IsValid Is more old mid new r held taken = λ count t room h. taken count t room (held count t h)
 
--- what is no failure of the store
+-- the case that the result is no failure of the store
 pub never_stops : (Is : State → Result State AsmFault → Type 0) (more : ℕ) (old new : Assembler) (r : Answer) → IfErr r (λ e. is_failure e ≡ false) → KeepsOutputAtFailure Is more old new r
 never_stops Is more old new (Ok v) h = tt
 never_stops Is more old new (Err e) h = λ failed. absurd cc
@@ -170,7 +170,7 @@ FrontBy location o old new r = RefinesAllTransitions (IfSome o IsWellFormedState
 pub front_leaves : (location : SourceLocation) (o : Option Statement) (x : Statement) (old new : Assembler) (r : Answer) → o ≡ Some x → RefinesAllTransitions (IsWellFormedStatement x) (λ t. StepsTo t location x) 1 old new r → FrontBy location o old new r
 front_leaves location o x old new r e h = subst (λ p. FrontBy location p old new r) (sym e) h
 
--- it prints nothing
+-- emitting pieces prints nothing
 puts_quiet : (location : SourceLocation) (s : Context) (t u : State) (p : Piece) → PieceStep location s t p u → (u.out ≡ t.out) × (u.err ≡ t.err)
 puts_quiet location s t _ p (emitted_now c encoding) = (refl, refl)
 puts_quiet location s t _ p deferred_piece_step = (refl, refl)
@@ -220,7 +220,7 @@ sound_if : (o : Option Statement) → ((x : Statement) → o ≡ Some x → IsWe
 sound_if None f = tt
 sound_if (Some x) f = f x refl
 
--- they are a label and what stands behind it
+-- the tokens are a label and the rest after it
 abbrev Says : List Lexeme → List Lexeme → Option Statement → Type 0
 Says ts rest o = let p : Result (Option Statement × List Lexeme) AsmFault = Ok (o, rest) in p ≡ Ok (label_of ts)
 
@@ -234,7 +234,7 @@ label_room location o old mid v held front =
     let few = a.3.1 in
     (a.3.0, a.0, omega (arith, room, few), a.3.2)
 
--- a label says nothing, so neither does a failure behind it
+-- a label prints nothing, so a failure after the label leaves the output unchanged
 pub label_stops : (f : Option Files) (last_failure : LastFailure) (location : SourceLocation) (ts rest : List Lexeme) (o : Option Statement) (old mid new : Assembler) (v : Unit {0}) (r : Answer) → HasHeadroom 2 old → Says ts rest o → FrontBy location o old mid (Ok v) → KeepsOutputAtFailure (AnswersWithoutFile f last_failure (λ m t. AssemblesTokens m StepsTo t location rest)) 1 mid new r → KeepsOutputAtFailure (AnswersWithoutFile f last_failure (λ m t. AssemblesLabelTokens m StepsTo t location ts)) 2 old new r
 label_stops f last_failure location ts rest o old mid new v (Ok w) held says front quiet = tt
 label_stops f last_failure location ts rest o old mid new v (Err e) held says front quiet = λ failed.
@@ -291,7 +291,7 @@ label_leaves f location ts rest o old mid new v (Err e) says front taken = λ co
     (told_then f (λ m. AssemblesTokens m StepsTo a.0 location rest (Err e)) (λ m. AssemblesLabelTokens m StepsTo t location ts (Err e)) (λ m g. subst (λ q. LabelAt m t location q (Err e)) (sym is) (Ok a.0, a.1, g)))
     (λ s. (s.0 ∙ same.0, s.1 ∙ same.1)) b)
 
--- ---- A statement that expansion gives.
+-- ---- An expanded statement.
 
 abbrev pub GivenBy : Option Files → SourceLocation → expand.ExpandedStatement → State → Result State AsmFault → Type 0
 GivenBy f location g = ForKnownFiles f (λ m t. AssemblesExpanded m StepsTo t location g)
@@ -315,7 +315,7 @@ given_plain f location g line ts old new r is same h =
     let Q : List Lexeme → Type 0 = λ ts. RefinesAllTransitions (AreSymbolNames ts) (RestBy f location ts) 2 old new r in
     subst P (sym is) (subst Q same (wider (AreSymbolNames ts) (RestBy f location ts) old new r h))
 
--- ---- Where the store fails.
+-- ---- Failures of the store.
 
 abbrev pub GivenStops : Option Files → LastFailure → SourceLocation → given.Statement → Assembler → Assembler → Answer → Type 0
 GivenStops f last_failure location g old new r = KeepsOutputAtFailure (AnswersWithoutFile f last_failure (λ m t. AssemblesExpanded m StepsTo t location (statement_of g))) 2 old new r

@@ -1,4 +1,4 @@
--- The statements of a source as an expander gives them and an assembler takes them.
+-- The statements of a source, as an expander yields them and an assembler assembles them.
 use Rattle.std.proofs.Common.{◌≡◌, [], List, length, ◌∙◌, ℕ, ◌+◌, ◌*◌, ◌≤◌, ◌<◌, Bool, true, false, Option, Some, None, refl, sym, ap, subst, arith}
 use Rattle.std.specs.Prelude.{Result, Ok, Err, IfSome, if◌then◌else◌}
 use Rattle.base65.specs.Outcome.{Unless}
@@ -23,7 +23,7 @@ use Rattle.semantics65.specs.Layout.{is_not_global, Cursor}
 use Rattle.semantics65.specs.Numbering.{AreSymbolNames}
 use Rattle.sources65.specs.Reading.{StateImpliesResult, environment_at, DefinesConstants, AssemblesExpanded, AssemblesSource, Job, no_line, open_scope_fault, stopped_at}
 use Rattle.sources65.specs.Machine.{RunsStatements, State, StepsTo, initial_state, machine_semantics}
-use Rattle.sources65.proofs.Taken.{same_outside, same_place, begins, ends, goes_on, is_refused, stops}
+use Rattle.sources65.proofs.AssembledStatements.{same_outside, same_place, begins, ends, goes_on, is_refused, stops}
 use Rattle.sources65.proofs.FitSteps as fitting
 use Rattle.sources65.proofs.FitSteps.{fewer_given, IsStateFit, next_fit, opened_fit}
 use Rattle.sources65.proofs.FitTokens.{AreFit, are_named}
@@ -45,7 +45,7 @@ pub some_both : (P Q R : Files → Type 0) (o : Option Files) → ((m : Files) �
 some_both P Q R None f h k = tt
 some_both P Q R (Some m) f h k = f m h k
 
--- ---- Room for what statements open.
+-- ---- The limit of openings.
 
 few_opened : (count left : ℕ) → count + 2 * left ≤ running_limit → 0 < left → count + 2 ≤ opening_limit
 few_opened count left room some = omega arith
@@ -69,10 +69,10 @@ held_after t u old mid new h b less same = record {
   holds = b.2;
 }
 
--- ---- One statement more, whatever the store tells.
+-- ---- A further statement, with any store.
 
 module _ (old mid : Run) (same : mid.assembler ≡ old.assembler) (less : measure_of mid.expander < measure_of old.expander) where
-  -- there is room for what it opens
+  -- the openings of a statement are within the limit
   pub next_roomy : IsRunning old → HasHeadroom 2 mid.assembler
   next_roomy held =
       let h = held.2 in
@@ -89,10 +89,10 @@ module _ (old mid : Run) (same : mid.assembler ≡ old.assembler) (less : measur
       let b = taken h.count held.0 room (holds_same h.count held.0 old.assembler mid.assembler same h.holds) in
       (b.0, b.2 held.1, held_after held.0 b.0 old mid new h b.3 less stays)
 
--- ---- Where files are told.
+-- ---- Files that are known.
 
--- What is left comes, behind a state that is held, to what all comes to. The expander may stand some steps further on,
--- none of which gave a statement.
+-- The invariant of a run: the rest of the source leads from the represented state to the result of the whole source. Since
+-- the last statement, the expander may have made some steps, none of which yielded a statement.
 pub record Stays (m : Files) (job : Job) (run : Run) (u : State) : Type 0 where
   pub left : expand.State
   pub here : expand.State
@@ -116,11 +116,11 @@ RanAll m first now r =
 abbrev pub NextBy : Files → Run → Result (Option Statement) ExpandFault → Run → Type 0
 NextBy m old r mid = (t : State) → RunRepresents t old → RefinesNextStatement m (environment_at t.symbols t.cursor) old.expander r mid.expander
 
--- where the store failed on the way to it
+-- the store failed before the next statement
 abbrev pub StopsBy : Files → LastFailure → Run → Result (Option Statement) ExpandFault → Run → Type 0
 StopsBy m last_failure old r mid = (t : State) → RunRepresents t old → HasFailureBetweenStatements m last_failure (environment_at t.symbols t.cursor) old.expander r mid.expander
 
--- files are read at the places that the expander goes by, if they were at first
+-- if the files are positioned as the expander assumes at the beginning, they are so now
 abbrev pub StaysPlaced : Files → Run → Run → Type 0
 StaysPlaced m first now = IsPositioned m first.expander → IsPositioned m now.expander
 
@@ -143,7 +143,7 @@ same_tokens : (m : Files) (x : Statement) → AreFit m (fitting.tokens_of (state
 same_tokens m (Label line) h = are_named m _ h
 same_tokens m (Plain line) h = are_named m _ h
 
--- a failure of expansion is the store's
+-- if the error of expansion is a failure of the store, it is one for the expander, too
 of_store : (e : ExpandFault) → is_failure (Expansion e) ≡ true → expansion.is_failure e ≡ true
 of_store fault_of.FileError h = refl
 of_store fault_of.FailedBefore h = absurd cc
@@ -164,7 +164,7 @@ of_store (fault_of.Error t) h = absurd cc
 of_store fault_of.NotUnderstood h = absurd cc
 of_store fault_of.LineTooLong h = absurd cc
 
--- what comes next of where the expander stands comes next of what is left
+-- steps without a statement don't change which statement is next
 answered_from : (m : Files) (k : expand.EnvironmentView) (s here : expand.State) (r : Result (Option Statement) ExpandFault) (new : Expander) → Walks m k s here → RefinesAnswer m k here r new → RefinesAnswer m k s r new
 answered_from m k s here (Ok (Some x)) new walks (t, reaches, stands) = (t, reaches_after m k s here (statement (statement_of x) t) walks reaches, stands)
 answered_from m k s here (Ok None) new walks (t, reaches, stands) = (t, reaches_after m k s here (nothing t) walks reaches, stands)
@@ -175,7 +175,7 @@ answered_from m k s here (Err f) new walks answer = by (expansion.is_system_erro
     by false h = reaches_after m k s here (fault (f, location_of new)) walks h
 
 module _ (m : Files) (first old mid : Run) (same : mid.assembler ≡ old.assembler) where
-  -- a statement that is taken
+  -- the case of a statement that is assembled
   pub goes_further : (x : Statement) (new : Run) (v : Unit {0}) → measure_of mid.expander < measure_of old.expander → NextBy m old (Ok (Some x)) mid → RefinesAllTransitions (AreSymbolNames (tokens_of (statement_of x))) (λ t. AssemblesExpanded m StepsTo t (location_of mid.expander) (statement_of x)) 2 mid.assembler new.assembler (Ok v) → new.expander ≡ mid.expander → Goes m first old → Goes m first new
   goes_further x new v less next taken stays so_far job t opens defined begun_held =
       let now = so_far job t opens defined begun_held in
@@ -200,7 +200,7 @@ module _ (m : Files) (first old mid : Run) (same : mid.assembler ≡ old.assembl
         },
       )
 
-  -- a statement with a fault
+  -- the case of a statement with an error
   pub goes_wrong : (x : Statement) (new : Run) (e : AsmFault) (r : Answer) → r ≡ Err e → measure_of mid.expander < measure_of old.expander → NextBy m old (Ok (Some x)) mid → RefinesAllTransitions (AreSymbolNames (tokens_of (statement_of x))) (λ t. AssemblesExpanded m StepsTo t (location_of mid.expander) (statement_of x)) 2 mid.assembler new.assembler (Err e) → new.expander ≡ mid.expander → Goes m first old → RanAll m first new r
   goes_wrong x new e r fails less next taken stays so_far job t opens defined begun_held =
       let now = so_far job t opens defined begun_held in
@@ -220,7 +220,7 @@ module _ (m : Files) (first old mid : Run) (same : mid.assembler ≡ old.assembl
       by u s t' reaches fit at_mid at_new false h =
           (u, subst (λ p. RunsStatements m job (stopped_at u p e)) (sym at_new) (stops m machine_semantics (AssemblesSource m machine_semantics job initial_state) s.left t' (statement_of x) u e s.goes reaches (subst (λ p. AssemblesExpanded m StepsTo u p (statement_of x) (Err e)) (sym at_mid) (h.0 (same_tokens m x fit)))), h.1)
 
-  -- a fault of expansion
+  -- the case of an error of expansion
   pub goes_out : (e : ExpandFault) (r : Answer) → r ≡ Err (Expansion e) → NextBy m old (Err e) mid → Goes m first old → RanAll m first mid r
   goes_out e r fails next so_far job t opens defined begun_held =
       let now = so_far job t opens defined begun_held in
@@ -233,7 +233,7 @@ module _ (m : Files) (first old mid : Run) (same : mid.assembler ≡ old.assembl
       by u s true false eq h = absurd cc
       by u s false false eq h = (u, is_refused m machine_semantics (AssemblesSource m machine_semantics job initial_state) s.left u e (location_of mid.expander) s.goes h, says_held s.held.count u old.assembler mid.assembler same s.held.holds)
 
-  -- the end
+  -- the case of the end of the source
   pub goes_to_end : (r : Answer) → r ≡ (if is_not_global mid.assembler.cursor.scope then Err BadScope else Ok tt) → NextBy m old (Ok None) mid → Goes m first old → RanAll m first mid r
   goes_to_end r is next so_far job t opens defined begun_held =
       let now = so_far job t opens defined begun_held in
@@ -252,7 +252,7 @@ module _ (m : Files) (first old mid : Run) (same : mid.assembler ≡ old.assembl
       by u count holds true runs = (u, runs, (holds.out, holds.err))
       by u count holds false runs = (u, runs, (count, holds))
 
-  -- the store fails while expansion reads on
+  -- the case that the store fails during expansion
   pub stops_out : (last_failure : LastFailure) (e : ExpandFault) (r : Answer) → r ≡ Err (Expansion e) → StopsBy m last_failure old (Err e) mid → Goes m first old → StaysPlaced m first old → RunReportsFailure m last_failure first mid r
   stops_out last_failure e r fails where_it_is so_far placed = subst (RunReportsFailure m last_failure first mid) (sym fails) (λ failed job begun_so. by (of_store e failed) job (placed begun_so.2) (so_far job begun_so.0 begun_so.1 begun_so.3 begun_so.4))
     where
@@ -265,7 +265,7 @@ module _ (m : Files) (first old mid : Run) (same : mid.assembler ≡ old.assembl
           let walked : FailsBetweenStatements m last_failure k s.here (location_of mid.expander) → FailsBetweenStatements m last_failure k s.left (location_of mid.expander) = λ so. record { state = so.state; reading = so.reading; goes = goes_over m k s.left s.here so.state (s.walks k) so.goes; fails = so.fails; at = so.at } in
           record { left = s.left; following = u; taken = s.taken; failure_location = walked (where_it_is u s.held here s.here s.stands failed); printed_out = says.0; printed_err = says.1 }
 
-  -- it fails while a statement is taken
+  -- the case that the store fails while a statement is assembled
   pub stops_wrong : (last_failure : LastFailure) (x : Statement) (new : Run) (e : AsmFault) (r : Answer) → r ≡ Err e → NextBy m old (Ok (Some x)) mid → measure_of mid.expander < measure_of old.expander → KeepsOutputAtFailure (AnswersWithoutFile (Some m) last_failure (λ m t. AssemblesExpanded m StepsTo t (location_of mid.expander) (statement_of x))) 2 mid.assembler new.assembler (Err e) → new.expander ≡ mid.expander → Goes m first old → RunReportsFailure m last_failure first new r
   stops_wrong last_failure x new e r fails next less quiet stays so_far = subst (RunReportsFailure m last_failure first new) (sym fails) (λ failed job begun_so. by failed job (so_far job begun_so.0 begun_so.1 begun_so.3 begun_so.4))
     where
@@ -288,7 +288,7 @@ module _ (m : Files) (first old mid : Run) (same : mid.assembler ≡ old.assembl
             printed_err = q.err ∙ says.1;
           }
 
--- ---- The same by what a store tells of its files.
+-- ---- Files that may be unknown.
 
 pub some_all : (P : Files → Type 0) (o : Option Files) → ((m : Files) → P m) → IfSome o P
 some_all P None f = tt
@@ -347,7 +347,7 @@ module _ (o p : Option Files) (told : p ≡ o) (first old mid : Run) (same : mid
           some_both (λ m. Goes m first old × NextBy m old (Ok (Some x)) mid) (TakesIn (Err e)) (λ m. RanAll m first new r) o (λ m so t. goes_wrong m first old mid same x new e r fails less so.1 t stays so.0)
           (some_both (λ m. Goes m first old) (λ m. NextBy m old (Ok (Some x)) mid) (λ m. Goes m first old × NextBy m old (Ok (Some x)) mid) o (λ m so n. (so, n)) so_far (given (Some x) is)) (told_taken (Err e) taken)
 
--- one statement further
+-- a further statement preserves the positions of files
 pub placed_on : (o p : Option Files) → p ≡ o → (first old mid new : Run) → new.expander ≡ mid.expander → IfSome o (λ m. StaysPlaced m first old) → IfSome p (λ m. StaysPlaced m old mid) → IfSome o (λ m. StaysPlaced m first new)
 placed_on o p told first old mid new stays placed next =
     some_both (λ m. StaysPlaced m first old) (λ m. StaysPlaced m old mid) (λ m. StaysPlaced m first new) o (λ m a b h. subst (IsPositioned m) (sym stays) (b (a h))) placed (subst (λ q. IfSome q (λ m. StaysPlaced m old mid)) told next)
@@ -378,7 +378,7 @@ goes_passed m first e f a passes so_far job t opens defined held =
     )
 
 module _ (o : Option Files) (last_failure : LastFailure) (location : SourceLocation) where
-  -- at the place of the expander behind a statement
+  -- the location of the line is that of the expander after the statement
   taken_at : (x : expand.ExpandedStatement) (mid f : Expander) (a b : Assembler) (r : Answer) → location ≡ location_of f → location_of mid ≡ location_of f → AssemblesStatement o last_failure location x a b r → AssemblesStatement o last_failure (location_of mid) x a b r
   taken_at x mid f a b r here at h = subst (λ p. AssemblesStatement o last_failure p x a b r) (here ∙ sym at) h
 

@@ -1,4 +1,4 @@
--- The bytes of the file of a name.
+-- Assembling a statement with the bytes that are read of its file has the same result as with the whole file.
 use Rattle.std.proofs.Common.{◌≡◌, ◌∙◌, ℕ, Bool, true, false, List, Option, Some, None, take, refl, sym, ap, option_map, Ok, Err, ◌≤◌, nat_le, not, ◌∷◌, length, subst, arith}
 use Rattle.std.specs.FinMap as fmap
 use Rattle.std.specs.Prelude.{if◌then◌else◌, ◌&&◌, IfSome, Result}
@@ -24,7 +24,7 @@ use Rattle.semantics65.specs.Symbols.{Symbols}
 use Rattle.sources65.specs.Machine.{State, StepsWithoutError, StepsTo, UnlessFault}
 use Rattle.sources65.specs.Reading.{bytes_for, with_bytes}
 
--- ---- The bytes of the file of a name.
+-- ---- The file of a name.
 
 named : (m : Files) (name text : List ℕ) → Some text ≡ as_text name → file_named m name ≡ fmap.get m text
 named m name text e = by (is_utf8 name) e
@@ -44,7 +44,7 @@ same_text name text e = by (is_utf8 name) e
 pub read_failed : (o : Option Files) (last_failure : LastFailure) (name text : List ℕ) → Some text ≡ as_text name → IfSome o (λ m. FailedWithin last_failure text 0 (length (bytes_in (fmap.get m text)))) → IfSome o (λ m. FailedWithin last_failure name 0 (length (bytes_in (fmap.get m name))))
 read_failed o last_failure name text e h = subst (λ n. IfSome o (λ m. FailedWithin last_failure n 0 (length (bytes_in (fmap.get m n))))) (same_text name text e) h
 
--- a name that is no text has no file
+-- a name that isn't UTF-8 has no file
 pub unnamed : (m : Files) (name : List ℕ) (most : ℕ) → None ≡ as_text name → None ≡ option_map (take most) (file_named m name)
 unnamed m name most e = by (is_utf8 name) e
   where
@@ -66,13 +66,13 @@ read_some m name text most bytes e h = front_some (fmap.get m text) most bytes h
 pub read_none : (m : Files) (name text : List ℕ) (most : ℕ) → Some text ≡ as_text name → file_prefix (fmap.get m text) most ≡ Err FileNotFound → None ≡ option_map (take most) (file_named m name)
 read_none m name text most e h = front_none (fmap.get m text) most h ∙ ap (option_map (take most)) (sym (named m name text e))
 
--- a statement with what was read of its file
+-- the statement with the bytes that were read of its file
 pub part_read : (m : Files) (file name slice : List ℕ) (line : ℕ) (bytes : Option (List ℕ)) (start len : Option Tree) (x : Statement) → x ≡ IncbinPath name start len → slice ≡ name → bytes ≡ option_map (take 16777217) (file_named m (sibling_path file slice)) → Incbin bytes start len ≡ read_bytes m (location_in file line) x
 part_read m file name slice line bytes start len x is same read =
     ap (λ b. Incbin b start len) (read ∙ ap (λ n. option_map (take 16777217) (file_named m (sibling_path file n))) same)
     ∙ sym (ap (read_bytes m (location_in file line)) is)
 
--- ---- A file of which more than the limit was read is refused as the whole file is.
+-- ---- Well-formed statements.
 
 pub read_sound : (m : Files) (location : SourceLocation) (x : Statement) → IsWellFormedStatement x → IsWellFormedStatement (read_bytes m location x)
 read_sound m location (IncbinPath name start len) sound = tt
@@ -89,7 +89,7 @@ first_of (Some e) b rest = refl
 first_of None (Some e) rest = refl
 first_of None None rest = refl
 
--- the fault of a part of such a file
+-- the error of a statement with such a file
 abbrev long_fault : Symbols → Cursor → Option Tree → Option Tree → AsmFault
 long_fault y w start len =
     or_bad (or_then (missing_scopes_fault y.scopes w.scope (trees_of (Incbin None start len))) (operand_fault y (context_of w) (Incbin None start len)))
@@ -127,7 +127,7 @@ whole t location (Some bytes) start len r h = by (nat_le (length bytes) file_lim
         takes_same t location (Incbin (Some (take 16777217 bytes)) start len) (Incbin (Some bytes) start len) r (long_fault t.symbols t.cursor start len)
         (too_long t.symbols t.cursor (take 16777217 bytes) start len cut) (too_long t.symbols t.cursor bytes start len many) h
 
--- a statement is taken with what was read of its file as it is with the whole file
+-- a step with the bytes that were read of the file is a step with the whole file
 pub takes_whole : (m : Files) (location : SourceLocation) (x : Statement) (t : State) (r : Result State AsmFault) → StepsTo t location (read_bytes m location x) r → StepsTo t location (with_bytes m location x) r
 takes_whole m location (IncbinPath name start len) t r h = whole t location (bytes_for m location name) start len r h
 takes_whole m location _ t r h = h

@@ -340,7 +340,8 @@ pub fn assemble_all<S: Store>(alloc: Global, store: &mut S, run: &mut Run) -> Re
         RunRepresents t run.old → RefinesRun m job run.new result) }
     ensures stopped { IfSome (S.files store.old) (λ m.
         RunReportsFailure m (S.last_failure store.new) run.old run.new result) }
-    ensures represented { OnOk result ((t : State) × IsReached t × RepresentsSome t run.new.assembler) }
+    ensures represented { OnOk result ((t : State) × IsReached t ×
+        RepresentsSome t run.new.assembler) }
     ensures frame { AsmStoreFrame S.files S.failures store.old store.new result }
 {
     'statements: loop {

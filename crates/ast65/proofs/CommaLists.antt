@@ -1,4 +1,4 @@
--- Parts between commas.
+-- The parts of a list of tokens that commas separate.
 use Rattle.std.proofs.Common.{◌≡◌, ◌≢◌, ℕ, zero, suc, ◌+◌, ◌-◌, ◌<◌, ◌≤◌, Bool, true, false, nat_eq, not, List, [], ◌∷◌, None, if◌then◌else◌, ◌&&◌, codes, Option, Some, length, take, drop, Result, Ok, Err, IfErr, refl, ap, sym, ◌∙◌, arith, add-one, one-add, length-drop, subst}
 use Rattle.std.proofs.lemmas.Bool.Decides.{nat_tests}
 use Rattle.std.specs.List.{prefix_len, onto_first}
@@ -29,7 +29,7 @@ lexemes_drop zero ts = refl
 lexemes_drop (suc n) [] = refl
 lexemes_drop (suc n) (t ∷ ts) = lexemes_drop n ts
 
--- ---- Expressions of all the tokens.
+-- ---- Expressions that consist of all tokens.
 
 whole_all : (e : Tree) (n count : ℕ) → n ≡ count → complete_expression count (Ok (e, n)) ≡ Ok e
 whole_all e n count h = go (nat_eq n count) refl
@@ -41,7 +41,7 @@ whole_all e n count h = go (nat_eq n count) refl
 pub is_whole : (ts : List Token) (e : Tree) (n : ℕ) → IsParsed (lexemes ts) (Ok (e, n)) → n ≡ length ts → IsExpression (lexemes ts) (Ok e)
 is_whole ts e n h f = (Ok (e, n), h, sym (whole_all e n (length (lexemes ts)) (f ∙ sym (lexemes_len ts))))
 
--- a number is an element, also if a string may be one
+-- a number is an element, also in a list that may contain strings
 pub is_item : (elements : ElementKind) (ts : List Lexeme) (v : ℕ) → IsExpression ts (Ok (number v)) → string_of ts ≡ None → IsItem elements ts (Ok (Value (number v)))
 is_item Values ts v h n = (Ok (number v), h, refl)
 is_item ValuesAndTexts ts v h n = rw n (Ok (number v), h, refl)
@@ -61,7 +61,7 @@ then_fault Is next view (Err f) e h i = rw h (go (is_system_error e) i)
     go true j = tt
     go false j = (Err e, j, refl)
 
--- an error is passed on, and no store failed
+-- if the error of a result is no failure of the store, `RefinesRel` implies `ParsesAs`
 pub parses_fault : {A X : Type 0} (Is : Result A AsmFault → Type 0) (view : X → A) (result : Result X AsmFault) (e : AsmFault) → IsErrAnd result (λ f. f ≡ e) → is_failure e ≡ false → RefinesRel is_system_error view result Is → ParsesAs view result Is
 parses_fault {X = X} Is view result e h inside value = record { value = value; inside = by result h }
   where
@@ -161,7 +161,7 @@ second_fault Is next view (Err f) x e h i n = rw h (go (is_system_error e))
     go true = tt
     go false = (Ok x, i, sym n)
 
--- an operand whose expression isn't understood, or whose end isn't, or that is understood
+-- the cases of an operand: an error in its expression, an error in its end, and no error
 pub front_fault : {X : Type 0} (end : List Lexeme → Result (Option Index) AsmFault) (make : Tree → Option Index → Operand) (ts : List Lexeme) (view : X → Operand) (result : Result X AsmFault) (e : AsmFault) → IsErrAnd result (λ f. f ≡ e) → is_failure e ≡ false → Unless (is_system_error e) (IsExpressionAndRest ts (Err e)) → ParsesAs view result (IsExpressionOperand end make ts)
 front_fault end make ts view result e h inside value = parses_fault _ view result e h inside (then_fault (IsExpressionAndRest ts) _ view result e h value)
 

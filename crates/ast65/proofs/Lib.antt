@@ -1,4 +1,4 @@
-pub mod Each
+pub mod PartByPart
 pub mod Lists
 pub mod SingleNumber
 pub mod UniqueStatement

@@ -1,4 +1,4 @@
--- A number by itself.
+-- Expressions that are a single number.
 use Rattle.std.proofs.Common.{◌≡◌, ℕ, List, [], ◌∷◌, Option, Some, None, Ok, IfSome, ap, refl, sym, subst, take}
 use Rattle.syntax65.specs.Expressions.{IsParsed, HasNoOperator, Phrase, a_leaf, binary_at, leaf_of, of_level, operand_start_at, operand_start_of, text_at}
 use Rattle.syntax65.specs.Tokens.{Lexeme, lexeme_of, lexemes}
@@ -22,7 +22,7 @@ phrase ts t h =
     let five = of_level 64 4 0 1 t four in
     of_level 64 5 0 1 t five
 
--- a number that no operator follows is an expression
+-- a number without an operator after it is an expression
 pub alone : (ts : List Lexeme) (v : ℕ) → operand_start_at ts 0 ≡ Number v → binary_at ts 1 ≡ None → IsParsed ts (Ok (number v, 1))
 alone ts v o e = record { phrase = phrase ts (number v) (ap (λ x. leaf_of x (text_at ts 0)) o); ends = no_operator ts e }
 
@@ -32,7 +32,7 @@ alone_if (Some v) all following first e n b =
     let P : List Token → Type 0 = λ ts. IsParsed (lexemes ts) (Ok (number v, 1)) in
     subst P (sym e) (alone (lexemes (first ∷ following)) v n b)
 
--- so it is an element of a list
+-- a single number is an element of a list
 pub number_item : (all following : List Token) (first : Token) (v : ℕ) → all ≡ first ∷ following → operand_start_of first.kind first.text.now ≡ Number v → quoted_in (lexeme_of first) ≡ None → (e : ElementKind) → IsItem e (lexemes (take 1 all)) (Ok (literal_item v))
 number_item all following first v is n q e =
     let P : List Token → Type 0 = λ ts. IsItem e (lexemes (take 1 ts)) (Ok (literal_item v)) in

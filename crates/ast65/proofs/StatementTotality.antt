@@ -1,4 +1,4 @@
--- Any tokens are a statement, or aren't understood.
+-- Each list of tokens is parsed to a statement or to an error, which is no system error.
 use Rattle.std.proofs.Common.{◌≡◌, ℕ, Bool, true, false, List, [], ◌∷◌, length, Option, Some, None, refl}
 use Rattle.std.specs.Prelude.{Result, Ok, Err, codes, nat_le, ◌==◌, MatchBool, MatchOption}
 use Rattle.std.specs.Str.{bytes_eq}
@@ -28,7 +28,7 @@ use Rattle.ast65.specs.declared.reading.keywords.Directive.TheVariants as direct
 use Rattle.ast65.specs.declared.reading.keywords.ElementKind.{ElementKind}
 use Rattle.ast65.specs.declared.reading.keywords.ElementKind.TheVariants as elements
 
--- there is such a result, and it is no system error
+-- the relation has a result that is no system error
 abbrev There : {A : Type 0} → (Result A AsmFault → Type 0) → Type 0
 There Is = Has is_system_error Is
 

@@ -1,4 +1,4 @@
--- Tokens are at most one statement, and so is a line.
+-- A list of tokens is parsed to at most one statement or error.
 use Rattle.std.proofs.Common.{◌≡◌, ◌∙◌, ℕ, Bool, true, false, List, [], ◌∷◌, Option, Some, None, sym, ap, subst}
 use Rattle.std.specs.Prelude.{Result, Ok, Err, length, codes, MatchBool, MatchOption}
 use Rattle.syntax65.specs.Expressions.{IsParsed}
@@ -40,8 +40,7 @@ pub first_one : {E A B : Type 0} (q : Result A E) (Next : A → Result B E → T
 first_one (Ok x) Next one r s h k = one x r s h k
 first_one (Err e) Next one r s h k = h ∙ sym k
 
--- if the first result is unique, and so is each one after it, the whole is
--- unique
+-- if the first result is unique, and so is each result after it, the whole result is unique
 pub followed_one : {E F A B : Type 0} (Is : Result A E → Type 0) (by : Result A E → Result A F) (Next : A → Result B F → Type 0) → One Is → ((x : A) → One (Next x)) → One (λ r. (q : Result A E) × Is q × AndThen (by q) Next r)
 followed_one Is by Next one next r s h k =
     let same = one k.0 h.0 k.1 h.1 in
@@ -53,7 +52,7 @@ made_one Is make one r s h k = h.2 ∙ ap make (one h.0 k.0 h.1 k.1) ∙ sym k.2
 pub same_one : {A : Type 0} (x : A) → One (λ r. r ≡ x)
 same_one x r s h k = h ∙ sym k
 
--- by a test
+-- a choice by a test
 test_one : {A : Type 0} (b : Bool) (P Q : A → Type 0) → One P → One Q → One (λ r. MatchBool b (P r) (Q r))
 test_one true P Q where_true where_false = where_true
 test_one false P Q where_true where_false = where_false

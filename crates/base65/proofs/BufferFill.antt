@@ -1,4 +1,4 @@
--- A buffer that is filled by one read after another.
+-- A buffer is filled by consecutive reads.
 use Rattle.std.proofs.Common.{◌≡◌, ◌∙◌, ℕ, ◌+◌, ◌-◌, ◌≤◌, List, ◌++◌, length, take, drop, Option, Some, None, Ok, refl, sym, ap, arith}
 use Rattle.std.proofs.lemmas.List.{take-append-drop, take_at, drop_at, drop-drop, drop-take, length-take, length-append, length-drop, take-take, take-append-le}
 use borrow.Rule.Slice.PartMut.{put_mid, post_of}
@@ -34,13 +34,13 @@ filled_full (Some bytes) at done n len buf new e f within full before read =
     let capacity : length (put_mid done len buf new) ≤ length (drop at bytes) = rw full at more.0 in
     record { count = full ∙ sym (min-eq_left capacity); prefix = more.1 }
 
--- likewise if the files may be unknown
+-- the same if the files may be unknown
 pub told_more : (known next : Option Files) (name : List ℕ) (at done n len : ℕ) (buf new : List ℕ) → next ≡ known → done + length new ≡ length buf → len ≡ length new → n ≤ length new → IfSome known (λ m. FilledTo (map.get m name) at done buf) → IfSome next (λ m. ReadsAt (map.get m name) (at + done) new (Ok n)) → IfSome known (λ m. FilledTo (map.get m name) at (done + n) (put_mid done len buf new))
 told_more None next name at done n len buf new same e f within before read = tt
 told_more (Some m) next name at done n len buf new same e f within before read =
     filled_more (map.get m name) at done n len buf new e f within before (rw same at read)
 
--- likewise for a read that fills the buffer to its end
+-- the same for a read that fills the buffer to its end
 pub told_full : (known next : Option Files) (name : List ℕ) (at done n len : ℕ) (buf new : List ℕ) → next ≡ known → done + length new ≡ length buf → len ≡ length new → n ≤ length new → done + n ≡ length (put_mid done len buf new) → IfSome known (λ m. FilledTo (map.get m name) at done buf) → IfSome next (λ m. ReadsAt (map.get m name) (at + done) new (Ok n)) → IfSome known (λ m. ReadsFull (map.get m name) at (put_mid done len buf new) (Ok (done + n)))
 told_full None next name at done n len buf new same e f within full before read = tt
 told_full (Some m) next name at done n len buf new same e f within full before read =

@@ -1,4 +1,4 @@
--- A file that is read chunk by chunk.
+-- A file is read in chunks.
 use Rattle.std.proofs.Common.{◌≡◌, ◌∙◌, ℕ, ◌+◌, ◌-◌, ◌≤◌, ◌<◌, Bool, true, false, nat_le, List, [], ◌++◌, length, take, drop, Option, Some, None, Ok, min, refl, sym, ap, subst, arith, length-drop}
 use Rattle.std.specs.Prelude.{IfSome}
 use Rattle.std.specs.FinMap as map
@@ -8,7 +8,7 @@ use Rattle.base65.specs.Store.{Files}
 use Rattle.base65.proofs.BufferFill.{take-add}
 use Rattle.base65.specs.Reading.{ReadsChunk, file_prefix}
 
--- the bytes are the first ones of a file; none if there is no such file
+-- the bytes are a prefix of the file, or empty if there is no such file
 abbrev pub IsFront : Option (List ℕ) → List ℕ → Type 0
 IsFront None bytes = bytes ≡ []
 IsFront (Some file) bytes = bytes ≡ take (length bytes) file
@@ -16,7 +16,7 @@ IsFront (Some file) bytes = bytes ≡ take (length bytes) file
 longer : (file : List ℕ) (max_len n : ℕ) (old new : List ℕ) → old ≡ take (length old) file → ReadsChunk (Some file) (length old) max_len old new (Ok n) → new ≡ take (length old + max_len) file
 longer file max_len n old new front read = read.0 ∙ ap (λ xs. xs ++ take max_len (drop (length old) file)) front ∙ sym (take-add (length old) max_len file)
 
--- one more chunk
+-- one further chunk
 pub more : (file : Option (List ℕ)) (max_len n : ℕ) (old new : List ℕ) → IsFront file old → length new ≡ length old + n → ReadsChunk file (length old) max_len old new (Ok n) → IsFront file new
 more None max_len n old new front len read = absurd read
 more (Some file) max_len n old new front len read =

@@ -1,4 +1,4 @@
--- The value of digits, from the value so far and the rest.
+-- The value of digits, by the value so far and the rest.
 use Rattle.std.proofs.lemmas.Grind.{common_steps}
 use Rattle.std.proofs.Common.{◌≡◌, ℕ, ◌+◌, ◌*◌, ◌^◌, ◌<◌, ◌≤◌, Bool, true, false, List, [], ◌∷◌, length, drop, get_or, Option, Some, None, refl, sym, ap, ◌∙◌, arith, nat_lt, add-one}
 use Rattle.std.specs.Prelude.{◌&&◌, if◌then◌else◌}

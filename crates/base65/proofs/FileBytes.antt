@@ -11,7 +11,7 @@ use Rattle.base65.specs.MemStore.{entry, files_of}
 use Rattle.base65.specs.Store.{IsBytes}
 use Rattle.base65.proofs.FileIndex.{looked_up, tested}
 
--- the first files of a list consist of bytes
+-- the first `n` files of a list consist of bytes
 abbrev pub AreHeld : List File → ℕ → Type 0
 AreHeld fs n = (k : ℕ) (d : File) → k < n → IsBytes (get_or fs k d).bytes.items
 

@@ -11,7 +11,7 @@ use Rattle.base65.specs.declared.mem_store.File.{File}
 use Rattle.base65.specs.Store.{Files}
 use Rattle.base65.specs.MemStore.{file_index, is_named, files_of, entry}
 
--- the search begins with the first file of a list
+-- the first step of a search from an index on
 drops : (fs : List File) (i : ℕ) (f : File) (name : List ℕ) → i < length fs → f ≡ get_or fs i f → file_index name (drop i fs) ≡ cond (is_named name f) (Some 0) (option_map suc (file_index name (drop (i + 1) fs)))
 drops fs i f name h is = ap (file_index name) (drop_more fs i f h ∙ ap (λ g. g ∷ drop (i + 1) fs) (sym is))
 
@@ -30,7 +30,7 @@ found_later fs i f name h is named =
 pub found_nowhere : (fs : List File) (i : ℕ) (name : List ℕ) → length fs ≤ i → file_index name (drop i fs) ≡ None
 found_nowhere fs i name h = ap (file_index name) (drop_all i fs h)
 
--- the test of two names
+-- the equality test of two names
 equal : (o : Ordering) → is_eq o ≡ true → o ≡ Equal
 equal Less e = cc
 equal Equal e = refl
@@ -56,7 +56,7 @@ some_mapped : (o : Option ℕ) (i : ℕ) → option_map suc o ≡ Some i → (k 
 some_mapped None i e = cc
 some_mapped (Some k) i e = (k, refl, cc)
 
--- the cases of a test
+-- the two cases of a condition
 pub tested : {A : Type 0} (b : Bool) (x y z : A) → cond b x y ≡ z → ((b ≡ true) × (x ≡ z)) ⊎ ((b ≡ false) × (y ≡ z))
 tested true x y z e = inl (refl, e)
 tested false x y z e = inr (refl, e)
@@ -83,7 +83,7 @@ find_somewhere (f ∷ fs) name i d e =
 pub get_somewhere : (fs : List File) (name : List ℕ) (i : ℕ) (f : File) → file_index name fs ≡ Some i → f ≡ get_or fs i f → get (files_of fs) name ≡ Some f.bytes.items
 get_somewhere fs name i f e is = looked_up fs name ∙ find_somewhere fs name i f e ∙ ap (λ (g : File). Some g.bytes.items) (sym is)
 
--- a file with the same name replaces another
+-- replacing a file by one with the same name
 find_set : (fs : List File) (name : List ℕ) (i : ℕ) (g : File) → file_index name fs ≡ Some i → g.name.items ≡ name → (q : List ℕ) → find (slice_cmp nat_cmp) q (map entry (set fs i g)) ≡ cond (eq_by_cmp (slice_cmp nat_cmp) q name) (Some g.bytes.items) (find (slice_cmp nat_cmp) q (map entry fs))
 find_set [] name i g e named q = cc
 find_set (f ∷ fs) name i g e named q =
@@ -112,7 +112,7 @@ set_there fs name i g e named =
     same_map nat_list_cmp_total (slice_cmp-IsAntisymmetric nat_cmp-IsAntisymmetric) _ _
     (λ q. looked_up (set fs i g) q ∙ find_set fs name i g e named q ∙ ap (cond (eq_by_cmp (slice_cmp nat_cmp) q name) (Some g.bytes.items)) (sym (looked_up fs q)) ∙ sym (get-insert nat_list_cmp_total (files_of fs) name g.bytes.items q))
 
--- a file with a new name at the end
+-- appending a file with a new name
 pub pushed : (fs : List File) (name : List ℕ) (g : File) → file_index name fs ≡ None → g.name.items ≡ name → files_of (fs ++ g ∷ []) ≡ insert (files_of fs) name g.bytes.items
 pushed fs name g e named =
     ap (from_entries {R = slice_cmp nat_cmp}) (map-append entry fs (g ∷ []))

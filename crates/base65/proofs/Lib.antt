@@ -2,7 +2,7 @@ pub mod BufferFill
 pub mod Chunks
 pub mod Outcome
 pub mod SystemErrors
-pub mod Wraps
+pub mod WrappingOperations
 pub mod FileIndex
 pub mod Digit
 pub mod Texts

@@ -1,4 +1,4 @@
--- Properties of a part as properties of the whole.
+-- Properties of a part that imply properties of the whole.
 use Rattle.std.proofs.Common.{◌≡◌, ◌∙◌, Bool, true, false, Result, Ok, Err, refl, sym}
 use Rattle.base65.specs.Outcome.{◌>>=◌, AndThen, Refines, RefinesErr, Unless}
 
@@ -14,8 +14,7 @@ module _ {E : Type 0} (is_system_error : E → Bool) where
   gives-then (Ok u) x read f h = rw h refl
   gives-then (Err e) x read f h = refused-then e read (λ y. Ok (f y)) h
 
--- there is at most one result after a first part, if there is at most one after each value of
--- that part
+-- if `Next` has at most one result for each value of the first part, `AndThen` has at most one result
 pub first_once : {E A B : Type 0} (head : Result A E) (Next : A → Result B E → Type 0) (r q : Result B E) → ((x : A) → Next x r → Next x q → r ≡ q) → AndThen head Next r → AndThen head Next q → r ≡ q
 first_once (Ok x) Next r q once h k = once x h k
 first_once (Err e) Next r q once h k = h ∙ sym k

@@ -1,4 +1,4 @@
--- The test of bytes for UTF-8, and its definition.
+-- Bytes that are not UTF-8 fail the test `is_utf8`.
 use Rattle.std.proofs.Common.{◌≡◌, ℕ, Bool, true, false, List, refl}
 use Rattle.std.specs.Prelude.{IsUtf8}
 use Rattle.std.specs.Str.{is_utf8}

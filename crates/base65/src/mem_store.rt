@@ -112,7 +112,8 @@ fn set_file(
     name: &[u8],
     bytes: &[u8],
 ) -> Result<(), AllocError>
-    ensures ok { OnOk result (files_of files.new.items ≡ map.insert (files_of files.old.items) name.now bytes.now) }
+    ensures ok { OnOk result (files_of files.new.items ≡
+        map.insert (files_of files.old.items) name.now bytes.now) }
     ensures err { OnErr result (files.new.items ≡ files.old.items) }
 {
     let file = File {
@@ -128,7 +129,8 @@ fn set_file(
 
 /// Appends bytes to the file with this name.
 fn append_to_file(files: &mut Vec<File>, name: &[u8], piece: &[u8]) -> Result<usize, StoreFault>
-    ensures appended { AppendsToFile (files_of files.old.items) name.now piece.now (files_of files.new.items) result }
+    ensures appended { AppendsToFile (files_of files.old.items) name.now piece.now
+        (files_of files.new.items) result }
     ensures all { IfOk result (λ n. n ≡ length piece.now) }
     ensures cause { IsErrOf result StoreFault.FileError → ⊥ }
 {

@@ -22,14 +22,19 @@ fn read_chunk<S: Store>(
 ) -> Result<usize, StoreFault>
     requires want { max_len ≤ 4096 }
     requires limit { at < 2 ^ 63 }
-    ensures read { IfSome (S.files store.old) (λ m. ReadsChunk (map.get m name.now) at max_len bytes.old.items bytes.new.items result) }
+    ensures read { IfSome (S.files store.old) (λ m.
+        ReadsChunk (map.get m name.now) at max_len bytes.old.items bytes.new.items result) }
     ensures bytes { IfSome (S.files store.old) (λ m. HasOnlyBytes (map.get m name.now) result) }
-    ensures grown { IfOk result (λ n. (n ≤ max_len) × (length bytes.new.items ≡ length bytes.old.items + n)) }
+    ensures grown { IfOk result (λ n. (n ≤ max_len) ×
+        (length bytes.new.items ≡ length bytes.old.items + n)) }
     ensures files { S.files store.new ≡ S.files store.old }
-    ensures count { PropagatesIoError StoreFault.FileError (S.failures store.old) (S.failures store.new) result }
-    ensures last_failure { IsErrOf result StoreFault.FileError → FailedOn (S.last_failure store.new) name.now }
-    ensures inside { IsErrOf result StoreFault.FileError →
-        IfSome (S.files store.old) (λ m. FailsInside (map.get m name.now) (S.last_failure store.new) name.now at) }
+    ensures count { PropagatesIoError StoreFault.FileError (S.failures store.old)
+        (S.failures store.new) result }
+    ensures last_failure { IsErrOf result StoreFault.FileError →
+        FailedOn (S.last_failure store.new) name.now }
+    ensures failure_offset { IsErrOf result StoreFault.FileError →
+        IfSome (S.files store.old) (λ m.
+        FailsInside (map.get m name.now) (S.last_failure store.new) name.now at) }
     ensures at_last_count { FailsAtLastCount is_store_system_error (S.failures store.old) result }
 {
     let mut chunk = [0u8; CHUNK];
@@ -47,13 +52,18 @@ pub fn read_prefix<S: Store>(
     most: usize,
 ) -> Result<Vec<u8>, StoreFault>
     requires { most < 2 ^ 62 }
-    ensures read { IfSome (S.files store.old) (λ m. Refines is_store_system_error (λ v. v.items) result (file_prefix (map.get m name.now) most)) }
+    ensures read { IfSome (S.files store.old) (λ m.
+        Refines is_store_system_error (λ v. v.items) result
+        (file_prefix (map.get m name.now) most)) }
     ensures bytes { IfSome (S.files store.old) (λ m. HasOnlyBytes (map.get m name.now) result) }
     ensures files { S.files store.new ≡ S.files store.old }
-    ensures count { PropagatesIoError StoreFault.FileError (S.failures store.old) (S.failures store.new) result }
-    ensures last_failure { IsErrOf result StoreFault.FileError → FailedOn (S.last_failure store.new) name.now }
-    ensures inside { IsErrOf result StoreFault.FileError → IfSome (S.files store.old) (λ m.
-        FailedWithin (S.last_failure store.new) name.now 0 (length (bytes_in (map.get m name.now)))) }
+    ensures count { PropagatesIoError StoreFault.FileError (S.failures store.old)
+        (S.failures store.new) result }
+    ensures last_failure { IsErrOf result StoreFault.FileError →
+        FailedOn (S.last_failure store.new) name.now }
+    ensures failure_offset { IsErrOf result StoreFault.FileError → IfSome (S.files store.old) (λ m.
+        FailedWithin (S.last_failure store.new) name.now 0
+        (length (bytes_in (map.get m name.now)))) }
     ensures at_last_count { FailsAtLastCount is_store_system_error (S.failures store.old) result }
 {
     let mut bytes = Vec::new(alloc);

@@ -68,25 +68,31 @@ pub trait Store {
     /// Reads from offset `at` of a file into `buf`. Returns the number of bytes read.
     fn read_at(&mut self, name: &str, at: u64, buf: &mut [u8]) -> Result<usize, StoreFault>
         ensures bound { IfOk result (λ n. n ≤ length buf.new) }
-        ensures read { IfSome (files self.old) (λ m. ReadsAt (map.get m name.now) at buf.new result) }
+        ensures read { IfSome (files self.old) (λ m.
+            ReadsAt (map.get m name.now) at buf.new result) }
         ensures bytes { IfSome (files self.old) (λ m. HasOnlyBytes (map.get m name.now) result) }
         ensures files { files self.new ≡ files self.old }
         ensures count { CountsFailure (failures self.old) (failures self.new) result }
-        ensures last_failure { RecordsFailure (λ b. FailedAt b name.now at) (last_failure self.old) (last_failure self.new) result };
+        ensures last_failure { RecordsFailure (λ b. FailedAt b name.now at) (last_failure self.old)
+            (last_failure self.new) result };
 
     /// Creates an empty file, or truncates the existing one.
     fn create(&mut self, name: &str) -> Result<(), StoreFault>
-        ensures created { RelatesFiles (λ old new. CreatesFile old name.now new result) (files self.old) (files self.new) }
+        ensures created { RelatesFiles (λ old new. CreatesFile old name.now new result)
+            (files self.old) (files self.new) }
         ensures count { CountsFailure (failures self.old) (failures self.new) result }
-        ensures last_failure { RecordsFailure (λ b. FailedOn b name.now) (last_failure self.old) (last_failure self.new) result };
+        ensures last_failure { RecordsFailure (λ b. FailedOn b name.now) (last_failure self.old)
+            (last_failure self.new) result };
 
     /// Appends the first bytes of `piece` to a file. Returns their number, which is at least one if
     /// `piece` isn't empty.
     fn append(&mut self, name: &str, piece: &[u8]) -> Result<usize, StoreFault>
         ensures bound { IfOk result (λ n. (n ≤ length piece.now) × (n ≡ 0 → length piece.now ≡ 0)) }
-        ensures appended { RelatesFiles (λ old new. AppendsToFile old name.now piece.now new result) (files self.old) (files self.new) }
+        ensures appended { RelatesFiles (λ old new. AppendsToFile old name.now piece.now new result)
+            (files self.old) (files self.new) }
         ensures count { CountsFailure (failures self.old) (failures self.new) result }
-        ensures last_failure { RecordsFailure (λ b. FailedOn b name.now) (last_failure self.old) (last_failure self.new) result };
+        ensures last_failure { RecordsFailure (λ b. FailedOn b name.now) (last_failure self.old)
+            (last_failure self.new) result };
 
     /// The failure counter has a maximum.
     ghost counted: { (s : Self) → failures s ≤ max_failures };
@@ -101,14 +107,18 @@ pub fn read_full<S: Store>(
 ) -> Result<usize, StoreFault>
     requires { at + length buf.old < 2 ^ 64 }
     ensures bound { IfOk result (λ n. n ≤ length buf.new) }
-    ensures read { IfSome (S.files store.old) (λ m. ReadsFull (map.get m name.now) at buf.new result) }
+    ensures read { IfSome (S.files store.old) (λ m.
+        ReadsFull (map.get m name.now) at buf.new result) }
     ensures bytes { IfSome (S.files store.old) (λ m. HasOnlyBytes (map.get m name.now) result) }
     ensures files { S.files store.new ≡ S.files store.old }
-    ensures count { PropagatesIoError FileError (S.failures store.old) (S.failures store.new) result }
+    ensures count { PropagatesIoError FileError (S.failures store.old)
+        (S.failures store.new) result }
     ensures last_failure { IsErrOf result FileError → FailedOn (S.last_failure store.new) name.now }
-    ensures within { IsErrOf result FileError → FailedWithin (S.last_failure store.new) name.now at (at + (length buf.old - 1)) }
-    ensures inside { IsErrOf result FileError →
-        IfSome (S.files store.old) (λ m. FailsInside (map.get m name.now) (S.last_failure store.new) name.now at) }
+    ensures within { IsErrOf result FileError →
+        FailedWithin (S.last_failure store.new) name.now at (at + (length buf.old - 1)) }
+    ensures failure_offset { IsErrOf result FileError →
+        IfSome (S.files store.old) (λ m.
+        FailsInside (map.get m name.now) (S.last_failure store.new) name.now at) }
     ensures at_last_count { FailsAtLastCount is_store_system_error (S.failures store.old) result }
 {
     let mut done = 0;

@@ -1,4 +1,4 @@
--- What clap's clauses say of the one command.
+-- The result of parsing arguments as the command `bin65`, from clap's contracts.
 use Rattle.std.proofs.Common.{◌≡◌, ◌∙◌, ◌⊎◌, arith, List, [], ◌∷◌, Ok, true, refl, sym, ap, subst, inl, inr}
 use Rattle.clap.specs.Words.{App, HasMatchesOf, HasKind, IsAmong, Kinds, Text, fault_of, is_simple, is_simple_and_free, kind_of, subcommand_of, subcommand_rows_of}
 use Rattle.clap.specs.declared.error.Error.{Error}
@@ -31,7 +31,7 @@ refuses (y ∷ ks) x kind.OutOfMemory (inr h) = tt
 refuses (y ∷ ks) x k (inr h) = refl
 
 module _ (a : App) (is : a ≡ bin65) (args : List Text) where
-  -- what clap gives is the answer
+  -- if clap returns matches, they are the result
   pub takes_words : (m : ArgMatches) → (is_simple_and_free a ≡ true → fault_of a args ≡ []) → HasMatchesOf a args m → clap_matches args ≡ Ok (subcommand_rows_of m)
   unfolding clap_matches
   takes_words m none has =
@@ -41,7 +41,7 @@ module _ (a : App) (is : a ≡ bin65) (args : List Text) where
       (ap (λ (b : App). fault_of b args) (sym is) ∙ none free)
       ((has simple).1 ∙ ap (λ (b : App). subcommand_of b args) is)
 
-  -- what clap refuses is refused, unless memory ran out
+  -- if clap returns an error, it is the result, unless memory ran out
   pub refuses_words : (e : Error) → (is_simple_and_free a ≡ true → HasKind (fault_of a args) e) → RefinesErr is_system_error (of_kind (kind_of e)) (clap_matches args)
   unfolding clap_matches
   refuses_words e has =
@@ -49,7 +49,7 @@ module _ (a : App) (is : a ≡ bin65) (args : List Text) where
       let at : HasKind (fault_of bin65 args) e = subst (λ (b : App). HasKind (fault_of b args) e) is (has free) in
       refuses (fault_of bin65 args) (subcommand_of bin65 args) (kind_of e) at
 
--- what is refused of arguments is refused of their line
+-- an error of the arguments is an error of their command line
 pub refused_line : (args : List Text) (e : LineFault) → RefinesErr is_system_error e (clap_matches args) → RefinesErr is_system_error e (line_of args)
 unfolding line_of
 refused_line args e refused = grind (arith, common_steps)

@@ -1,4 +1,4 @@
-pub mod Each
+pub mod LoopSteps
 pub mod Rows
 pub mod SmallValues
 pub mod LineExistence

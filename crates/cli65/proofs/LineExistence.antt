@@ -1,4 +1,4 @@
--- Any arguments are a command line, or bad arguments.
+-- Any arguments parse to a command line or to `BadArguments`.
 use Rattle.std.proofs.Common.{◌+◌, ℕ, List, [], ◌∷◌, take, drop, Option, Some, None, Result, Ok, Err, refl}
 use Rattle.std.specs.Prelude.{◌==◌, codes}
 use Rattle.std.specs.List.{position}

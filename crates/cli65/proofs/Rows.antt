@@ -1,4 +1,4 @@
--- What the getters read, by the rows.
+-- The values that clap's getters return, in terms of the rows of the matches.
 use Rattle.std.proofs.Common.{◌≡◌, List, ℕ}
 use Rattle.std.specs.Prelude.{option_map}
 use Rattle.clap.specs.Words.{all_of, found_of, first_value, raw_values, rows_of, first_of}

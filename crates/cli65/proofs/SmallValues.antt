@@ -1,4 +1,4 @@
--- The constants that a line defines have values below 2 ^ 32.
+-- The constants that a command line defines have values below 2 ^ 32.
 use Rattle.std.proofs.Common.{◌≡◌, ◌+◌, ◌<◌, ℕ, Bool, true, false, nat_lt, List, [], ◌∷◌, length, take, drop, Option, Some, None, Result, Ok, Err, refl, arith}
 use Rattle.std.specs.Prelude.{◌==◌, ◌&&◌, ◌^◌, ◌-◌, IfOk, IfSome, codes, slice_index, if◌then◌else◌, ⊤}
 use Rattle.std.specs.Char.{is_ascii_digit}
@@ -15,18 +15,18 @@ use Rattle.cli65.specs.Line.{ArchiveView, AssembleView, CommandView, argument_va
 use Rattle.cli65.specs.declared.fault.LineFault.{LineFault}
 use Rattle.cli65.specs.declared.fault.LineFault.TheVariants.{BadArguments}
 
--- the values of its constants are those of 32 bits
+-- the values of the constants of a command line are below 2 ^ 32
 abbrev pub HasSmallValues : CommandView → Type 0
 HasSmallValues (assemble a) = AllByRecursion (λ d. d.value < 2 ^ 32) a.defines
 HasSmallValues _ = ⊤
 
--- ---- Answers that hold something where there are any.
+-- ---- Properties of successful results.
 
 then_ok : {A B : Type 0} (P : B → Type 0) (q : Result A LineFault) (f : A → Result B LineFault) → ((x : A) → IfOk (f x) P) → IfOk (q >>= f) P
 then_ok P (Ok x) f h = h x
 then_ok P (Err e) f h = tt
 
--- where what comes first holds something, too
+-- the same, with a property of the first result
 so_ok : {A B : Type 0} (Q : A → Type 0) (P : B → Type 0) (q : Result A LineFault) (f : A → Result B LineFault) → IfOk q Q → ((x : A) → Q x → IfOk (f x) P) → IfOk (q >>= f) P
 so_ok Q P (Ok x) f k h = h x k
 so_ok Q P (Err e) f k h = tt
@@ -92,7 +92,7 @@ define_small : (text : Text) → IfOk (define_of text) HasSmall
 unfolding define_of
 define_small text = at_small text (position (λ b. b == 61) text)
 
--- ---- Lines.
+-- ---- Command lines.
 
 assembling_small : (rows : List Row) → IfOk (assemble_view_of rows) (λ a. HasSmallValues (assemble a))
 unfolding assemble_view_of

@@ -1,4 +1,4 @@
--- Files of an object: names that it can hold, none twice, and each that is written among them.
+-- The files of an object have valid, distinct names, and contain the file of each origin.
 use Rattle.std.proofs.lemmas.Grind.{common_steps}
 use Rattle.std.proofs.Common.{◌≡◌, ◌∙◌, ℕ, zero, suc, Bool, true, false, ◌&&◌, ◌||◌, List, [], ◌∷◌, ◌++◌, length, map, refl, ap, arith}
 use Rattle.std.specs.Prelude.{filter_map, if◌then◌else◌}
@@ -16,7 +16,7 @@ use Rattle.object65.specs.Objects.{are_distinct, has_well_formed_origin, has_wel
 use Rattle.semantics65.specs.Contents.{Content, Part, Known, ReservedBytes, LinkTimeValue, Declaration, ExportedSymbol, ForcedImport, LinkAssertion}
 use Rattle.semantics65.specs.declared.contents.Segment.{Segment}
 use Rattle.semantics65.specs.Numbering.{merged_neighbours, all_declarations, assert_files, assert_of, export_files, export_of, referenced_files, files_of, fragments_of, import_keys, origin_in_files, merged_fragments, distinct_names, object_with, part_files, parts_in, section_keys, section_of, IsWellFormedContent, IsWellFormedPart, IsWellFormedDeclaration}
-use Rattle.emit65.proofs.Fitting.{all_more}
+use Rattle.emit65.proofs.ConcatenatedItems.{all_more}
 use Rattle.emit65.proofs.GoodNames.{names_push}
 use Rattle.emit65.proofs.Naming.{any_below, itself, position_at}
 use Rattle.emit65.proofs.Renumbering.{and, left, right}
@@ -29,7 +29,7 @@ all_second : {A : Type 0} (P : A → Type 0) (xs ys : List A) → AllByRecursion
 all_second P [] ys h = h
 all_second P (x ∷ xs) ys h = all_second P xs ys h.1
 
--- ---- Names that are taken once.
+-- ---- Distinct names.
 
 abbrev with_name : List (List ℕ) → List ℕ → List (List ℕ)
 with_name found n = if list_any (bytes_eq n) found then found else found ++ n ∷ []
@@ -42,7 +42,7 @@ once_good found (n ∷ ns) h good = once_good (with_name found n) ns (by (list_a
     by true e = h
     by false e = names_push is_file_name found n h good.0 e
 
--- a name is among these
+-- the list contains the name
 abbrev pub IsAmong : List (List ℕ) → List ℕ → Type 0
 IsAmong files n = list_any (bytes_eq n) files ≡ true
 
@@ -69,7 +69,7 @@ once_has found (n ∷ ns) = (once_keeps (with_name found n) ns n (by (list_any (
     by true e = e
     by false e = list_any-append (bytes_eq n) found (n ∷ []) ∙ last (list_any (bytes_eq n) found)
 
--- ---- The files of sound contents.
+-- ---- The files of well-formed contents.
 
 abbrev AreFileNames : List (List ℕ) → Type 0
 AreFileNames ns = AllByRecursion (λ n. is_file_name n ≡ true) ns

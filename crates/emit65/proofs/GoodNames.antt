@@ -1,4 +1,4 @@
--- Names of imports, sections and exports: good ones, and none twice.
+-- The names of imports, sections and exports are valid and distinct.
 use Rattle.std.proofs.lemmas.Grind.{common_steps}
 use Rattle.std.proofs.Common.{◌≡◌, ◌∙◌, ℕ, zero, suc, ◌<◌, Bool, true, false, not, ◌&&◌, ◌||◌, nat_eq, List, [], ◌∷◌, ◌++◌, length, map, refl, ap, arith}
 use Rattle.std.specs.Prelude.{slice_get}
@@ -16,7 +16,7 @@ use Rattle.emit65.proofs.Renumbering.{left, right, and, turned}
 abbrev same_name : List ℕ → List ℕ → Bool
 same_name n m = pointwise nat_eq n m
 
--- ---- Names that pass, none twice.
+-- ---- Lists of distinct names that pass a test.
 
 flipped : (n m : List ℕ) → same_name n m ≡ same_name m n
 flipped n m = (lists_equiv nat_eq_equiv).symm n m
@@ -34,16 +34,16 @@ module _ (passes : List ℕ → Bool) where
   rest_good : (n : List ℕ) (ns : List (List ℕ)) → are_distinct passes (n ∷ ns) ≡ true → are_distinct passes ns ≡ true
   rest_good n ns h = right (passes n && not (is_among ns n)) (are_distinct passes ns) h
 
-  -- good names with one in front
+  -- prepending a name
   with_head : (n : List ℕ) (ns : List (List ℕ)) → passes n ≡ true → is_among ns n ≡ false → are_distinct passes ns ≡ true → are_distinct passes (n ∷ ns) ≡ true
   with_head n ns good apart rest = and (passes n && not (is_among ns n)) (are_distinct passes ns) (and (passes n) (not (is_among ns n)) good (ap not apart)) rest
 
-  -- one name more
+  -- appending a name
   pub names_push : (ns : List (List ℕ)) (n : List ℕ) → are_distinct passes ns ≡ true → passes n ≡ true → is_among ns n ≡ false → are_distinct passes (ns ++ n ∷ []) ≡ true
   names_push [] n h good apart = with_head n [] good refl refl
   names_push (m ∷ ns) n h good apart = grind (arith, common_steps, (names_push ns n (rest_good m ns h) good), rest_good, with_head, head_good, among_push, head_apart)
 
--- ---- Names at keys.
+-- ---- Names by their keys.
 
 name_good : (names : List (List ℕ)) (k : ℕ) → are_names names ≡ true → k < length names → is_name (name_of names k) ≡ true
 name_good [] k h lt = absurd (omega arith)
@@ -79,7 +79,7 @@ key_apart names k (j ∷ keys) h lt below apart =
     let first : same_name (name_of names k) (name_of names j) ≡ false = names_apart names k j h lt below.0 apart.0 in
     ap (λ b. b || is_among (map (name_of names) keys) (name_of names k)) first ∙ key_apart names k keys h lt below.1 apart.1
 
--- the names at different keys
+-- the names at distinct keys are valid and distinct
 pub names_at : (names : List (List ℕ)) (keys : List ℕ) → are_names names ≡ true → IsDistinct nat_eq keys → AreBelow names keys → are_names (map (name_of names) keys) ≡ true
 names_at names [] h distinct below = refl
 names_at names (k ∷ keys) h distinct below =
@@ -87,7 +87,7 @@ names_at names (k ∷ keys) h distinct below =
     (key_apart names k keys h below.0 below.1 (IsDistinct-head nat_eq k keys distinct))
     (names_at names keys h (IsDistinct-tail nat_eq k keys distinct) below.1)
 
--- a segment's name is that at its place
+-- the name of a segment is the name at its index
 pub segment_named : (segments : List Segment) (g : ℕ) → segment_name (slice_get segments g) ≡ name_of (map (λ g. g.name) segments) g
 segment_named [] g = refl
 segment_named (s ∷ segments) zero = refl

@@ -1,4 +1,4 @@
--- The object of sound contents is one of the grammar.
+-- The object of well-formed contents is well-formed.
 use borrow.Author.Rules.{rules}
 use Rattle.std.proofs.Common.{◌≡◌, ◌∙◌, ℕ, ◌<◌, Bool, true, not, ◌&&◌, nat_eq, nat_lt, cond, List, [], ◌∷◌, ◌++◌, length, map, Some, None, refl, sym, ap, subst, arith}
 use Rattle.std.specs.Prelude.{filter_map}
@@ -18,7 +18,7 @@ use Rattle.semantics65.specs.declared.contents.Segment.{Segment}
 use Rattle.semantics65.specs.Numbering.{all_declarations, assert_of, content_imports, export_of, files_of, import_keys, origin_in_files, imports_in, key_of, name_of, renumbered_form, object_with, optional_key, part_imports, declaration_imports, section_keys, section_of, segment_requests, AreWellFormedContents, IsWellFormedContent, IsWellFormedPart, IsWellFormedDeclaration}
 use Rattle.emit65.proofs.GoodFiles.{files_good, origins_good}
 use Rattle.emit65.proofs.GoodNames.{names_at, segment_named}
-use Rattle.semantics65.proofs.Found.{exports_named}
+use Rattle.semantics65.proofs.SlotResolution.{exports_named}
 use Rattle.emit65.proofs.GoodSections.{parts_in_good, section_good}
 use Rattle.ast65.proofs.Lists.{map_length}
 use Rattle.emit65.proofs.Renumbering.{HasAll, has, left, right, and, first_has, second_has, good_form, once_all, once_distinct, once_has, same_literal}
@@ -57,7 +57,7 @@ asked_below : (n : ℕ) (cs : List Content) → AllByRecursion (λ c. c.segment 
 asked_below n [] h = tt
 asked_below n (c ∷ cs) h = grind (arith, common_steps, (asked_below n cs h.1))
 
--- ---- What is said.
+-- ---- Declarations.
 
 all_both : {A : Type 0} (P : A → Type 0) (xs ys : List A) → AllByRecursion P xs → AllByRecursion P ys → AllByRecursion P (xs ++ ys)
 all_both P [] ys h g = g

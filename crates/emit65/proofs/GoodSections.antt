@@ -1,4 +1,4 @@
--- The fragments of a section, joined: none is empty, no two neighbours join, and they have the bytes of the parts.
+-- The merged fragments of a section: none is empty, no two neighbours can be merged, and their length is that of the parts.
 use Rattle.std.proofs.lemmas.Grind.{common_steps}
 use Rattle.std.proofs.Common.{◌≡◌, ◌∙◌, ℕ, ◌+◌, ◌≤◌, Bool, true, false, not, ◌||◌, nat_eq, nat_lt, cond, List, [], ◌∷◌, ◌++◌, length, Option, refl, sym, ap, arith, length-append}
 use Rattle.std.specs.Prelude.{sum_by}
@@ -16,7 +16,7 @@ use Rattle.semantics65.specs.declared.contents.Segment.{Segment}
 use Rattle.semantics65.specs.Numbering.{merged_neighbours, content_imports, fragment_of, fragments_of, is_empty, merged_fragments, part_imports, parts_in, declaration_imports, section_of, segment_power, IsWellFormedContent, IsWellFormedPart, part_len}
 use Rattle.emit65.proofs.Renumbering.{HasAll, first_has, good_form, left, right, and, same_literal, second_has}
 
--- ---- Neighbours that are joined.
+-- ---- Merged neighbours.
 
 more_bytes : (a b : List ℕ) → nat_lt 0 (length a) ≡ true → nat_lt 0 (length (a ++ b)) ≡ true
 more_bytes a b h = let both : length (a ++ b) ≡ length a + length b = length-append a b in grind (arith, nat_tests)
@@ -57,7 +57,7 @@ literals_alike x a b = grind (arith, common_steps)
 fills_alike : (f : Fragment) (m n : ℕ) → can_merge f (Fill m) ≡ can_merge f (Fill n)
 fills_alike x m n = grind (arith, common_steps)
 
--- a fragment in front of joined ones, which doesn't join the first of them
+-- the case of a fragment that can't be merged with the first of the fragments after it
 pub front_apart : (f g : Fragment) (fs : List Fragment) → can_merge f g ≡ false → are_all_merged (merged_fragments g fs) ≡ true → are_all_merged (f ∷ merged_fragments g fs) ≡ true
 front_apart f g [] h all = and (not (can_merge f g)) true (ap not h) refl
 front_apart f (Literal a) (Literal b ∷ fs) h all = front_apart f (Literal (a ++ b)) fs (literals_alike f (a ++ b) a ∙ h) all
@@ -76,7 +76,7 @@ module _ (at : SourceLocation → Origin) (s i : List ℕ) where
   abbrev pub made : Part → Fragment
   made p = fragment_of at s i p
 
-  -- a part of no byte is left out
+  -- a part is empty, and therefore omitted, or its fragment is well-formed
   abbrev pub is_good_part : Part → Bool
   is_good_part p = is_empty (made p) || is_well_formed_fragment (length s) (length i) (made p)
 
@@ -101,7 +101,7 @@ module _ (at : SourceLocation → Origin) (s i : List ℕ) where
   parts_good count [] sound has_imports = refl
   parts_good count (p ∷ ps) sound has_imports = grind (arith, common_steps, (parts_good count ps sound.1 (second_has i (part_imports p) (flat_map part_imports ps) has_imports)), and, part_good, first_has, second_has)
 
-  -- all parts in a segment
+  -- all parts in a segment satisfy this condition
   pub parts_in_good : (names : List (List ℕ)) (count g : ℕ) (cs : List Content) → AllByRecursion (IsWellFormedContent s count) cs → HasAll i (flat_map (content_imports names) cs) → list_all is_good_part (parts_in cs g) ≡ true
   parts_in_good names count g [] sound has_imports = refl
   parts_in_good names count g (c ∷ cs) sound has_imports =

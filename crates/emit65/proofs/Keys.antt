@@ -1,4 +1,4 @@
--- Keys in the order in which they first come.
+-- Distinct keys, in the order of their first occurrence.
 use Rattle.std.proofs.lemmas.Grind.{common_steps}
 use Rattle.std.proofs.Common.{◌≡◌, ◌∙◌, ℕ, ◌+◌, ◌<◌, zero, suc, List, [], ◌∷◌, ◌++◌, drop, length, get_or, map, position, nat_eq, refl, sym, ap, arith, add-one}
 use Rattle.std.specs.List.{list_any, flat_map}
@@ -27,22 +27,22 @@ drop_at (y ∷ ys) (suc i) x lt e = drop_at ys i x (omega arith) e
 pub drop_item : {A : Type 0} (xs : List A) (i : ℕ) (x : A) → i < length xs → x ≡ get_or xs i x → drop i xs ≡ x ∷ drop (i + 1) xs
 drop_item xs i x lt e = rw add-one (drop_at xs i x lt e)
 
--- one item more of a list of which the rest is still to be added
+-- a step of the loop: after the keys of an item are appended, those of the rest remain
 pub once_step : {A : Type 0} (f : A → List ℕ) (xs : List A) (i : ℕ) (x : A) (old all : List ℕ) → i < length xs → x ≡ get_or xs i x → distinct_keys old (flat_map f (drop i xs)) ≡ all → distinct_keys (distinct_keys old (f x)) (flat_map f (drop (i + 1) xs)) ≡ all
 once_step f xs i x old all lt at inv = grind (arith, common_steps, once_append, drop_item)
 
 -- ---- Keys by name.
 
--- it is found by the name's bytes
+-- the key of a name is its position in the set of imports
 pub key_found : {S : Type 0} (imports : IndexSet (Vec ℕ) S) (name : List ℕ) → key_of (names_of imports) name ≡ position (λ k. bytes_eq name k.items) imports.keys
 key_found imports name = position_mapped (λ m. bytes_eq m name) (λ k. k.items) imports.keys ∙ (λ i. position (λ k. nat_list_eq_equiv.symm k.items name i) imports.keys)
 
--- ---- Imports of what is said, wherever it stands.
+-- ---- Imports don't depend on locations.
 
 pub said_anywhere : (names : List (List ℕ)) (p q : SourceLocation) (x : said.Declaration) → declaration_imports names (declaration_at p x) ≡ declaration_imports names (declaration_at q x)
 said_anywhere names p q x = grind (arith, common_steps)
 
--- the imports of entries, whatever the files are
+-- the imports of entries don't depend on the files
 pub imports_anyhow : (names files more : List (List ℕ)) (es : List SectionEntry) → flat_map (content_imports names) (map (content_of files) es) ≡ flat_map (content_imports names) (map (content_of more) es)
 imports_anyhow names files more [] = refl
 imports_anyhow names files more (x ∷ es) = grind (arith, common_steps, (imports_anyhow names files more es), said_anywhere)

@@ -1,4 +1,4 @@
--- Names of files by their places in a table in which none stands twice.
+-- The names of files, by their indices in a table of distinct names.
 use Rattle.std.proofs.Common.{◌≡◌, ◌∙◌, ℕ, ◌<◌, Bool, true, false, cond, get_or, List, [], ◌∷◌, ◌++◌, length, map, position, Some, None, refl, sym, ap, arith, append-nil, ◌+◌, not, ◌||◌, nat_eq, nat_lt}
 use Rattle.std.specs.Prelude.{slice_get, if◌then◌else◌}
 use Rattle.std.specs.List.{position_or_len, AllByRecursion, IsDistinct, list_any}
@@ -13,11 +13,11 @@ use Rattle.std.proofs.lemmas.List.{map-append}
 use Rattle.std.proofs.lemmas.Map.Keys.{IsDistinct-cons, IsDistinct-head, IsDistinct-tail, apart_from_distinct}
 use Rattle.std.proofs.lemmas.Slice.Eq.{bytes_eq-Decides}
 use Rattle.semantics65.specs.Numbering.{name_of, distinct_names, distinct_keys}
-use Rattle.emit65.proofs.Fitting.{all_more}
+use Rattle.emit65.proofs.ConcatenatedItems.{all_more}
 
--- ---- A table of files, in which each name stands once.
+-- ---- A table of distinct names of files.
 
--- the name at the place at which it is found
+-- the item at the position of a name is this name
 pub named_there : (names : List (List ℕ)) (n : List ℕ) (i : ℕ) → position (bytes_eq n) names ≡ Some i → slice_get names i ≡ Some n
 named_there names n i e = by (nat_lt at (length names)) refl e
   where
@@ -36,12 +36,12 @@ map_more : {A : Type 0} (f : A → List ℕ) (xs : List A) (x : A) → map f (xs
 map_more f [] x = refl
 map_more f (y ∷ xs) x = ap (λ l. f y ∷ l) (map_more f xs x)
 
--- a name is put in behind the others, or stands there already
+-- the names before an insertion are a prefix of those after it
 pub begins_inserted : {A : Type 0} (f : A → List ℕ) (known new : List A) (x : A) (b : Bool) → new ≡ (if b then known else known ++ x ∷ []) → IsPrefix (map f known) (map f new)
 begins_inserted f known new x true e = ([], ap (map f) e ∙ sym (append-nil (map f known)))
 begins_inserted f known new x false e = (f x ∷ [], ap (map f) e ∙ map_more f known x)
 
--- ---- Names of files by their places in a table in which none stands twice.
+-- ---- Positions and distinct names.
 
 pub any_below : {A : Type 0} (p : A → Bool) (xs : List A) → list_any p xs ≡ true → position_or_len p xs < length xs
 any_below p [] h = absurd cc
@@ -57,7 +57,7 @@ nothing_twice : IsDistinct bytes_eq []
 unfolding IsDistinct
 nothing_twice = tt
 
--- keys that differ by a name have names that differ
+-- items that are distinct by their names have distinct names
 pub distinct_mapped : {A : Type 0} (f : A → List ℕ) (xs : List A) → IsDistinct (λ a b. bytes_eq (f a) (f b)) xs → IsDistinct bytes_eq (map f xs)
 distinct_mapped f [] d = nothing_twice
 distinct_mapped f (x ∷ xs) d =
@@ -75,7 +75,7 @@ module _ (files : List (List ℕ)) (apart : IsDistinct bytes_eq files) where
   name_at : (k : ℕ) → name_of files k ≡ get_or files k []
   name_at k = unwrap_or-slice_get files k []
 
-  -- two places have one name where they are one
+  -- the names at two indices are equal if and only if the indices are
   one_name : (k j : ℕ) → k < length files → j < length files → bytes_eq (name_of files k) (name_of files j) ≡ nat_eq k j
   one_name k j below_k below_j = by (nat_eq k j) refl
     where
@@ -95,7 +95,7 @@ module _ (files : List (List ℕ)) (apart : IsDistinct bytes_eq files) where
   first_same k [] lt below = refl
   first_same k (j ∷ order) lt below = λ n. cond (not (one_name k j lt below.0 n)) (1 + first_same k order lt below.1 n) 0
 
-  -- a name is found among others where its place is found among theirs
+  -- the position of a name in a list of names is the position of its index in the list of indices
   pub found_by : (k : ℕ) (order : List ℕ) → k < length files → AreBelow order → position (bytes_eq (name_of files k)) (map (name_of files) order) ≡ position (nat_eq k) order
   found_by k order lt below =
       position_mapped (bytes_eq (name_of files k)) (name_of files) order
@@ -105,7 +105,7 @@ module _ (files : List (List ℕ)) (apart : IsDistinct bytes_eq files) where
   any_same k [] lt below = refl
   any_same k (j ∷ found) lt below = λ n. one_name k j lt below.0 n || any_same k found lt below.1 n
 
-  -- names are taken once where their places are
+  -- the distinct names of a list of indices are the names of its distinct indices
   pub once_named : (found ks : List ℕ) → AreBelow found → AreBelow ks → distinct_names (map (name_of files) found) (map (name_of files) ks) ≡ map (name_of files) (distinct_keys found ks)
   once_named found [] f g = refl
   once_named found (k ∷ ks) f g =
@@ -123,7 +123,7 @@ module _ (files : List (List ℕ)) (apart : IsDistinct bytes_eq files) where
       by true old new = old
       by false old new = ap (λ ns. distinct_names ns (map (name_of files) ks)) push ∙ new
 
-  -- ---- Places of names in the table.
+  -- ---- Names of a list of indices.
 
   pub record IsNaming (ks : List ℕ) (ns : List (List ℕ)) : Type 0 where
     pub names : map (name_of files) ks ≡ ns

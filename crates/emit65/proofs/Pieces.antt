@@ -1,4 +1,4 @@
--- Bytes that are fed in one go.
+-- Appending bytes in one call has the same effect as appending them in several calls.
 use Rattle.std.proofs.Common.{◌≡◌, ◌∙◌, ℕ, List, [], ◌∷◌, ◌++◌, map, refl, sym, ap}
 use Rattle.std.specs.List.{flat_map}
 use Rattle.std.proofs.lemmas.List.{map-append}
@@ -7,10 +7,10 @@ use Rattle.semantics65.specs.Module.{Slot, resolved}
 use Rattle.semantics65.specs.Numbering.{distinct_keys, section_keys, segment_requests}
 use Rattle.emit65.specs.declared.sections.Sections.{Sections}
 use Rattle.emit65.specs.SectionContents.{AreEquivalentContents, AreEquivalentSlots, contents_so_far, names_in, slots_in, content_so_far, AppendsSlot, RepresentsSlots}
-use Rattle.emit65.proofs.Alikes.{alike_back, alike_sym, alike_trans, bytes_alike, no_bytes_alike}
+use Rattle.emit65.proofs.EquivalentContents.{alike_back, alike_sym, alike_trans, bytes_alike, no_bytes_alike}
 use Rattle.emit65.proofs.Slots.{asked_more, held_alike, held_contents, slots_back, slots_sym, slots_trans}
 
--- contents that are alike and ask for the same sections
+-- sections also represent equivalent slots that request the same sections
 pub alike_stands : (xs ys : List Slot) (s : Sections) → AreEquivalentSlots xs ys → section_keys (contents_so_far xs) ≡ section_keys (contents_so_far ys) → RepresentsSlots xs s → RepresentsSlots ys s
 alike_stands xs ys s alike keys h = record {
   requested = sym keys ∙ h.requested;
@@ -19,7 +19,7 @@ alike_stands xs ys s alike keys h = record {
   standing = h.standing;
 }
 
--- contents behind the same
+-- the same for resolved slots after others, if the requests for sections are equal
 pub held_stand : (xs : List Slot) (cs ds : List Content) (s : Sections) → AreEquivalentContents cs ds → segment_requests cs ≡ segment_requests ds → RepresentsSlots (xs ++ map resolved cs) s → RepresentsSlots (xs ++ map resolved ds) s
 held_stand xs cs ds s alike asks h =
     alike_stands (xs ++ map resolved cs) (xs ++ map resolved ds) s (slots_back xs (map resolved cs) (map resolved ds) (held_alike cs ds alike))
@@ -32,9 +32,9 @@ held_stand xs cs ds s alike asks h =
         ∙ ap (λ ds. section_keys (contents_so_far xs ++ ds)) (held_contents es)
         ∙ asked_more (contents_so_far xs) es
 
--- ---- Bytes in one go.
+-- ---- Bytes in one call.
 
--- bytes for each element, one content each
+-- one content for the bytes of each element
 abbrev pub runs : {A : Type 0} → ℕ → (A → List ℕ) → List A → List Content
 runs g f xs = map (λ x. section_part g (Known (f x))) xs
 
@@ -49,6 +49,6 @@ runs_ask : {A : Type 0} (g : ℕ) (f : A → List ℕ) (xs : List A) → segment
 runs_ask g f [] = refl
 runs_ask g f (x ∷ xs) = runs_ask g f xs
 
--- sections that are fed the bytes of all in one go stand for what they are fed one by one
+-- appending the bytes of all elements in one call has the same effect as appending them element by element
 pub runs_stand : {A : Type 0} (g : ℕ) (f : A → List ℕ) (xs : List A) (old new : Sections) → AppendsSlot old new (resolved (section_part g (Known (flat_map f xs)))) → (ys : List Slot) → RepresentsSlots ys old → RepresentsSlots (ys ++ map resolved (runs g f xs)) new
 runs_stand g f xs old new feeds ys h = held_stand ys (section_part g (Known (flat_map f xs)) ∷ []) (runs g f xs) new (runs_alike g f xs) (sym (runs_ask g f xs)) (feeds ys h)

@@ -1,4 +1,4 @@
--- What the numbers of sections and imports keep of a form.
+-- Renumbering the sections and imports of a form preserves its properties.
 use Rattle.std.proofs.lemmas.Grind.{common_steps}
 use Rattle.std.proofs.Common.{◌≡◌, ◌∙◌, ℕ, ◌+◌, ◌<◌, Bool, true, false, not, ◌&&◌, nat_eq, nat_le, List, [], ◌∷◌, ◌++◌, length, get_or, refl, sym, ap, subst, arith}
 use Rattle.std.specs.Prelude.{if◌then◌else◌, ◌==◌}
@@ -15,9 +15,9 @@ use Rattle.object65.specs.Form.{Form, lit, sec, imp, prefix, binary, nodes}
 use Rattle.object65.specs.Objects.{is_well_formed_form}
 use Rattle.semantics65.specs.Numbering.{imports_in, number_of, renumbered_form, distinct_keys, sections_in, IsWellFormedForm}
 
--- ---- Tests.
+-- ---- Booleans.
 
--- what holds of two holds of each
+-- each operand of a true conjunction is true
 pub left : (a b : Bool) → (a && b) ≡ true → a ≡ true
 left true b e = refl
 left false b e = cc
@@ -55,7 +55,7 @@ number_below keys k h = subst (λ n. n < length keys) (sym (number_is keys k h))
 pub number_at : (keys : List ℕ) (k : ℕ) → has keys k ≡ true → get_or keys (number_of keys k) 0 ≡ k
 number_at keys k h = grind (arith, common_steps, passes_at_first, place_below, number_is, nat_tests)
 
--- keys that are there have different numbers
+-- the numbers of two keys in the list are equal if and only if the keys are
 one_number : (keys : List ℕ) (k m : ℕ) → has keys k ≡ true → has keys m ≡ true → (number_of keys k == number_of keys m) ≡ (k == m)
 one_number keys k m h g = by (k == m) refl
   where
@@ -73,7 +73,7 @@ one_number keys k m h g = by (k == m) refl
             grind (arith, nat_tests)
         apart false d = refl
 
--- the keys of two lists
+-- if a list contains the keys of a concatenation, it contains those of each part
 pub first_has : (keys a b : List ℕ) → HasAll keys (a ++ b) → HasAll keys a
 first_has keys a b h = left (list_all (has keys) a) (list_all (has keys) b) (sym (list_all-append (has keys) a b) ∙ h)
 
@@ -131,7 +131,7 @@ module _ (s i : List ℕ) where
   pub good_form : (count : ℕ) (f : Form) → IsWellFormedForm s count f → HasAll i (imports_in f) → is_well_formed_form (length s) (length i) (renumbered_form s i f) ≡ true
   good_form count f sound has_imports = grind (arith, common_steps, same_nodes, nat_tests, and, now_within, same_normal)
 
--- ---- Keys that are taken once.
+-- ---- Distinct keys.
 
 abbrev with_key : List ℕ → ℕ → List ℕ
 with_key found k = if has found k then found else found ++ k ∷ []
@@ -144,7 +144,7 @@ once_distinct found (k ∷ ks) d = once_distinct (with_key found k) ks (by (has 
     by true e = d
     by false e = IsDistinct-push nat_eq_equiv found k d e
 
--- what holds of all keys holds of those that are kept
+-- a property of all keys is one of the distinct keys
 pub once_all : (P : ℕ → Type 0) (found ks : List ℕ) → AllByRecursion P found → AllByRecursion P ks → AllByRecursion P (distinct_keys found ks)
 once_all P found [] f g = f
 once_all P found (k ∷ ks) f g = once_all P (with_key found k) ks (by (has found k)) g.1
@@ -167,7 +167,7 @@ once_keeps : (found ks : List ℕ) (m : ℕ) → has found m ≡ true → has (d
 once_keeps found [] m h = h
 once_keeps found (k ∷ ks) m h = once_keeps (with_key found k) ks m (has_more found k m h)
 
--- each key is among those that are kept
+-- the distinct keys contain each key
 pub once_has : (found ks : List ℕ) → HasAll (distinct_keys found ks) ks
 once_has found [] = refl
 once_has found (k ∷ ks) = and (has (distinct_keys (with_key found k) ks) k) (list_all (has (distinct_keys (with_key found k) ks)) ks) (once_keeps (with_key found k) ks k (has_it found k)) (once_has (with_key found k) ks)

@@ -1,4 +1,4 @@
--- Slots that differ for no object, and what they come to.
+-- Equivalent slots, and their resolutions.
 use Rattle.std.proofs.lemmas.Grind.{common_steps}
 use Rattle.std.proofs.Common.{◌≡◌, ◌∙◌, ℕ, Bool, true, false, List, [], ◌∷◌, ◌++◌, map, refl, sym, ap, subst, append-nil, append_assoc, arith}
 use Rattle.std.specs.Prelude.{Result, Ok, Err, IfOk, filter, if◌then◌else◌}
@@ -11,14 +11,14 @@ use Rattle.semantics65.specs.Contents.{Content, exported_names}
 use Rattle.semantics65.specs.Module.{PieceResult, unrepeated_result, Resolution, Fixup, Slot, declarations_result, piece_result, slot_result, result_then, resolved, is_repeated, without_warning, resolution_of, deferred, LocatedFault, with_location}
 use Rattle.semantics65.specs.Numbering.{all_declarations, distinct_keys, section_keys, segment_requests}
 use Rattle.semantics65.specs.Symbols.{Symbols}
-use Rattle.semantics65.proofs.Found.{AreFound, after, found_all, found_each, names_append, nothing_after, asks_none, made_asks}
+use Rattle.semantics65.proofs.SlotResolution.{AreFound, after, found_all, found_each, names_append, nothing_after, asks_none, made_asks}
 use Rattle.emit65.specs.SectionContents.{AreEquivalentContents, AreEquivalentResults, AreEquivalentSlots, AreEquivalentResolutions, contents_so_far, content_so_far}
-use Rattle.emit65.proofs.Alikes.{alike_back, alike_front, alike_same, alike_sym, alike_trans}
+use Rattle.emit65.proofs.EquivalentContents.{alike_back, alike_front, alike_same, alike_sym, alike_trans}
 use Rattle.emit65.proofs.Keys.{once_append}
 
--- ---- What slots come to, one behind the other.
+-- ---- The resolution of concatenated slots.
 
--- contents that were found, and then what those behind them come to
+-- a result, followed by the resolution of the slots after it
 abbrev and_then : Result (List Content) LocatedFault → List ℕ → (List Content → Resolution) → Resolution
 and_then (Ok cs) printed rest = after (found_all cs printed) (rest cs)
 and_then (Err e) printed rest = record { found = Err e; printed_warnings = printed }
@@ -33,7 +33,7 @@ found_after m cs printed r = by r.found
     by (Ok ds) = ap (λ (w : List ℕ). found_all (m.content ∷ (cs ++ ds)) w) (sym (append_assoc m.warning printed r.printed_warnings))
     by (Err e) = ap (λ (w : List ℕ). record { found = Err e; printed_warnings = w }) (sym (append_assoc m.warning printed r.printed_warnings))
 
--- slots with others behind them, which stand behind the exports that the first come to
+-- the resolution of a concatenation: the second part is resolved after the exports of the first
 resolved_append : (y : Symbols) (names : List (List ℕ)) (xs zs : List Slot) → resolution_of y names (xs ++ zs) ≡ following (resolution_of y names xs) (λ cs. resolution_of y (names ++ exported_names (all_declarations cs)) zs)
 resolved_append y names [] zs = sym (nothing_after (resolution_of y (names ++ []) zs) ∙ ap (λ ns. resolution_of y ns zs) (append-nil names))
 resolved_append y names (x ∷ xs) zs = by (slot_result y names x) (λ m. resolved_append y (more m) xs zs)
@@ -57,7 +57,7 @@ resolved_append y names (x ∷ xs) zs = by (slot_result y names x) (λ m. resolv
         let r = resolution_of y (more m) xs in
         ap (λ a. result_then (Ok m) (λ k. a)) (one m) ∙ joined m r.found r.printed_warnings
 
--- ---- What is found alike.
+-- ---- Equivalent results.
 
 found_same : (r : Result (List Content) LocatedFault) → AreEquivalentResults r r
 found_same x = grind (arith, common_steps, alike_same)
@@ -68,7 +68,7 @@ found_trans x y z h k = grind (arith, common_steps, alike_trans)
 found_sym : (q r : Result (List Content) LocatedFault) → AreEquivalentResults q r → AreEquivalentResults r q
 found_sym x y h = grind (arith, common_steps, alike_sym)
 
--- with the same behind both
+-- equivalent resolutions, followed by the same rest, are equivalent
 come_front : (a b : Resolution) (rest : List Content → Resolution) → ((cs ds : List Content) → all_declarations cs ≡ all_declarations ds → rest cs ≡ rest ds) → AreEquivalentResolutions a b → AreEquivalentResolutions (following a rest) (following b rest)
 come_front a b rest same h = by a.found b.found h.found
   where
@@ -84,7 +84,7 @@ come_front a b rest same h = by a.found b.found h.found
     by (Err e) (Ok ds) k = absurd k
     by (Err e) (Err f) k = record { found = k; printed_warnings = h.printed_warnings }
 
--- with the same before both
+-- the same resolution, followed by equivalent ones, gives equivalent ones
 come_back : (a : Resolution) (rest more : List Content → Resolution) → ((cs : List Content) → AreEquivalentResolutions (rest cs) (more cs)) → AreEquivalentResolutions (following a rest) (following a more)
 come_back a rest more h = by a.found
   where
@@ -98,7 +98,7 @@ come_back a rest more h = by a.found
     by (Ok cs) = record { found = one cs (rest cs).found (more cs).found (h cs).found; printed_warnings = ap (λ w. a.printed_warnings ++ w) (h cs).printed_warnings }
     by (Err e) = record { found = refl; printed_warnings = refl }
 
--- ---- An equivalence.
+-- ---- Equivalence of slots is an equivalence relation.
 
 pub slots_same : (xs : List Slot) → AreEquivalentSlots xs xs
 slots_same xs = record {
@@ -124,7 +124,7 @@ slots_sym xs ys h = record {
   };
 }
 
--- ---- More slots.
+-- ---- Concatenation.
 
 pub slots_front : (xs ys zs : List Slot) → AreEquivalentSlots xs ys → AreEquivalentSlots (xs ++ zs) (ys ++ zs)
 slots_front xs ys zs h = record {
@@ -152,17 +152,17 @@ slots_back zs xs ys h = record {
       (come_back (resolution_of y names zs) (rest xs) (rest ys) (λ cs. h.resolutions y (names ++ exported_names (all_declarations cs)))));
 }
 
--- slots behind which others make no difference
+-- appending slots that are equivalent to none changes nothing
 pub slots_nothing : (xs zs : List Slot) → AreEquivalentSlots zs [] → AreEquivalentSlots (xs ++ zs) xs
 slots_nothing xs zs h = slots_trans (xs ++ zs) (xs ++ []) xs (slots_back xs zs [] h) (rw (append-nil xs) (slots_same xs))
 
--- ---- Contents that are held.
+-- ---- Resolved slots.
 
 pub held_contents : (cs : List Content) → contents_so_far (map resolved cs) ≡ cs
 held_contents [] = refl
 held_contents (c ∷ cs) = ap (λ ds. c ∷ ds) (held_contents cs)
 
--- they are found as they are
+-- the resolution of resolved slots is their contents, without warnings
 held_found : (y : Symbols) (names : List (List ℕ)) (cs : List Content) → resolution_of y names (map resolved cs) ≡ found_all cs []
 held_found y names [] = refl
 held_found y names (c ∷ cs) = ap (λ r. result_then (Ok (without_warning c)) (λ m. r)) (held_found y (names ++ exported_names c.said) cs)
@@ -177,19 +177,19 @@ held_alike cs ds h = record {
       (subst (λ (b : Resolution). AreEquivalentResolutions (found_all cs []) b) (sym (held_found y names ds)) (record { found = h; printed_warnings = refl }));
 }
 
--- ---- The sections that are asked for.
+-- ---- Requests for sections.
 
 pub asked_more : (cs ds : List Content) → section_keys (cs ++ ds) ≡ distinct_keys (section_keys cs) (segment_requests ds)
 asked_more cs ds = grind (arith, common_steps, filter-append, map-append, once_append)
 
--- what asks for no section
+-- appending a content that requests no section preserves the requested sections
 pub asked_same : (cs : List Content) (c : Content) → c.requests_section ≡ false → section_keys (cs ++ c ∷ []) ≡ section_keys cs
 asked_same cs c quiet = asked_more cs (c ∷ []) ∙ ap (λ b. distinct_keys (section_keys cs) (map (λ (d : Content). d.segment) (if b then c ∷ [] else []))) quiet
 
 one_asks : (c : Content) (cs ds : List Content) → segment_requests cs ≡ segment_requests ds → segment_requests (c ∷ cs) ≡ segment_requests (c ∷ ds)
 one_asks c cs ds same = grind (arith, common_steps)
 
--- what asks for none makes no difference
+-- a content that requests no section adds no request
 unasked : (c : Content) (cs : List Content) → c.requests_section ≡ false → segment_requests (c ∷ cs) ≡ segment_requests cs
 unasked c cs quiet = ap (λ b. map (λ (d : Content). d.segment) (if b then c ∷ filter (λ (d : Content). d.requests_section) cs else filter (λ (d : Content). d.requests_section) cs)) quiet
 
@@ -197,7 +197,7 @@ quiet_at : (location : SourceLocation) (r : Result PieceResult AsmFault) (m : Pi
 quiet_at location (Ok k) m h e = let same : k ≡ m = cc in subst asks_none same h
 quiet_at location (Err f) m h e = absurd cc
 
--- what waits asks for none
+-- the content of a deferred slot requests no section
 waits_quiet : (y : Symbols) (names : List (List ℕ)) (w : Fixup) (m : PieceResult) → slot_result y names (deferred w) ≡ Ok m → m.content.requests_section ≡ false
 waits_quiet y names w m = quiet_at w.place (piece_result y names w.place w.context w.piece) m (by (is_repeated names w.piece))
   where
@@ -216,13 +216,13 @@ asked_found y names (resolved d ∷ xs) (c ∷ cs) (warning, made, h) =
 asked_found y names (deferred w ∷ xs) (c ∷ cs) (warning, made, h) =
     unasked c cs (waits_quiet y names w (record { content = c; warning = warning }) made) ∙ asked_found y (names ++ exported_names c.said) xs cs h
 
--- the sections of what slots come to are those that were asked for
+-- the resolution of slots has the sections that the slots requested
 pub keys_found : (y : Symbols) (names : List (List ℕ)) (xs : List Slot) (cs : List Content) → (resolution_of y names xs).found ≡ Ok cs → section_keys cs ≡ section_keys (contents_so_far xs)
 keys_found y names xs cs h = ap (distinct_keys []) (asked_found y names xs cs (found_each y names xs cs h))
 
--- ---- What slots come to, by what alike ones come to.
+-- ---- Resolutions of equivalent slots.
 
--- contents like these, and the same is said
+-- the slots are resolved to contents that are equivalent to these, with the same warnings
 pub record ComesAlike (y : Symbols) (names : List (List ℕ)) (xs : List Slot) (ds : List Content) (printed : List ℕ) : Type 0 where
   pub contents : List Content
   pub is : resolution_of y names xs ≡ found_all contents printed
@@ -237,7 +237,7 @@ comes_alike y names xs ys ds printed alike is =
     by (Ok cs) found h warned = record { contents = cs; is = λ n. record { found = found n; printed_warnings = warned n }; equivalent = h }
     by (Err e) found h warned = absurd h
 
--- the same fault
+-- the case of an error: it is the same for equivalent slots
 pub faulty_alike : (y : Symbols) (names : List (List ℕ)) (xs ys : List Slot) (f : LocatedFault) (printed : List ℕ) → AreEquivalentSlots xs ys → resolution_of y names ys ≡ record { found = Err f; printed_warnings = printed } → resolution_of y names xs ≡ record { found = Err f; printed_warnings = printed }
 faulty_alike y names xs ys f printed alike is =
     let come : AreEquivalentResolutions (resolution_of y names xs) (record { found = Err f; printed_warnings = printed }) = subst (λ (b : Resolution). AreEquivalentResolutions (resolution_of y names xs) b) is (alike.resolutions y names) in

@@ -1,4 +1,4 @@
--- Blocks line by line, as the code takes them.
+-- Blocks line by line, as the code reads them.
 use Rattle.std.proofs.lemmas.Grind.{common_steps}
 use Rattle.std.proofs.Common.{arith, ◌≡◌, ℕ, Bool, true, false, List, [], refl, subst, sym, Option, Some, None, IfSome, Result, Ok, Err}
 use Rattle.base65.specs.Outcome.{Unless}
@@ -16,11 +16,11 @@ use Rattle.syntax65.specs.declared.source_location.SourceLocation.{SourceLocatio
 use Rattle.expand65.specs.declared.input_stack.InputStack.{InputStack}
 use Rattle.expand65.proofs.PlainLines.{plain_judged, unkept}
 
--- what the rest of a block comes to, the whole comes to
+-- each result of the rest of the block is a result of the whole block
 abbrev pub Leads : BlockKind → ℕ → List (List Lexeme) → InputStack → InputStack → Files → Type 0
 Leads k d body reader first m = (r : Result (CompleteBlock × RemainingInput) LocatedError) → Block k d body (remaining_of m reader) r → Block k 0 [] (remaining_of m first) r
 
--- a line that isn't there
+-- the next line has an error, or the input ends
 no_line : (k : BlockKind) (d : ℕ) (body : List (List Lexeme)) (l : RemainingInput) (e : LocatedError) → ReadsBlockLine l (Err e) → Block k d body l (Err e)
 no_line k d body l e (Ok (Some ts, m), t, h) = absurd cc
 no_line k d body l e (Ok (None, m), t, h) =
@@ -32,7 +32,7 @@ no_line k d body l e (Err f, t, h) =
     let P : LocatedError → Type 0 = λ s. Block k d body l (Err s) in
     subst P same (at_fault d body l f t)
 
--- a line that is there
+-- the next line is read
 pub some_line : (l m : RemainingInput) (ts : List Lexeme) → ReadsBlockLine l (Ok (ts, m)) → ReadsNextLine l (Ok (Some ts, m))
 some_line l m ts x = grind (arith, common_steps)
 
@@ -55,7 +55,7 @@ pub line_goes_on : (k : BlockKind) (o : Option Files) (first reader new : InputS
 line_goes_on k None first reader new d c body ts h t j = tt
 line_goes_on k (Some m) first reader new d c body ts h t j = λ r b. h r (one_more d c body (remaining_of m reader) (remaining_of m new) ts r (some_line (remaining_of m reader) (remaining_of m new) ts t) j b)
 
--- lines that change nothing
+-- skipping plain lines, if the block's lines aren't kept
 over_plain : (k : BlockKind) (d : ℕ) (body : List (List Lexeme)) (l n : RemainingInput) (r : Result (CompleteBlock × RemainingInput) LocatedError) → is_collected k ≡ false → SkipsPlainLines l n → Block k d body n r → Block k d body l r
 over_plain k d body _ _ r e (none_passed l) h = h
 over_plain k d body _ _ r e (a_line l m n before (ts, taken, plain)) h = over_plain k d body l m r e before (one_more d d body m n ts r taken (plain_judged k d ts plain) (subst (λ b. Block k d b n r) (sym (unkept k body ts e)) h))

@@ -1,4 +1,4 @@
--- Of lines and end marks a line is taken, and a block, or there is a fault of their own; less is left behind.
+-- Reading a line or a block always has a result, which is never a system error, and shrinks the remaining input.
 use Rattle.std.proofs.Common.{◌≡◌, ℕ, zero, suc, ◌<◌, ◌≤◌, Bool, true, false, List, [], ◌∷◌, Option, Some, None, refl, arith, if◌then◌else◌}
 use Rattle.std.specs.Prelude.{Result, Ok, Err, ⊤, length, drop, nat_le, ◌==◌}
 use Rattle.base65.proofs.SystemErrors.{Own, bad, choice, good}
@@ -18,13 +18,14 @@ use Rattle.expand65.specs.declared.blocks.BlockKind.TheVariants as kind
 
 -- ---- One line.
 
--- lines alone, of which less are left
+-- the remaining input consists of lines and end marks, with a smaller budget and no larger weight
 pub record AreFewer (is : List Item) (r : ℕ) (x : RemainingInput) : Type 0 where
   pub lines : AreLines x.items
   pub room : x.room < r
   pub light : weight x.items ≤ weight is
 
--- what is left behind a line that was taken, or that none was
+-- The result of reading a line: the remaining input is smaller, unchanged at an end mark, or there is an error that is no
+-- system error.
 abbrev pub IsTakenOf : List Item → ℕ → LineAndRest → Type 0
 IsTakenOf is budget (Ok (Some ts, x)) = AreFewer is budget x
 IsTakenOf is budget (Ok (None, x)) = (x.items ≡ is) × (x.room ≡ budget)
@@ -59,7 +60,7 @@ some_taken (file_line n bytes ∷ is) (suc budget) p lines =
 some_taken (body_line e ts ∷ is) (suc budget) p lines =
     (line_and_rest (body_line_tokens (substituted_line e ts)) (remaining_input is budget p), (body_line_tokens (substituted_line e ts), refl, refl), following_taken (body_line e ts) is budget p (body_line_tokens (substituted_line e ts)) (omega arith) lines (fitted_own (substituted_line e ts)))
 
--- ---- What a line does to its block.
+-- ---- The effect of a line on its block.
 
 abbrev RefusesOwn : Verdict → Type 0
 RefusesOwn (rejected f) = is_system_error f ≡ false
@@ -97,7 +98,7 @@ judge_own k d ts = by (is_mislabelled ts)
 
 -- ---- Blocks.
 
--- what is left behind a block
+-- the remaining input after a block is smaller, or there is an error that is no system error
 abbrev pub IsBlockOf : RemainingInput → Result (CompleteBlock × RemainingInput) LocatedError → Type 0
 IsBlockOf l (Ok (b, x)) = AreFewer l.items l.room x
 IsBlockOf l (Err e) = is_system_error e.0 ≡ false

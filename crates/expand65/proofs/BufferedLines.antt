@@ -1,4 +1,4 @@
--- Lines of files that are given as they stand.
+-- Lines of files that are returned without expansion.
 use Rattle.std.proofs.lemmas.Grind.{common_steps}
 use Rattle.std.proofs.Common.{◌≡◌, ◌-◌, ◌<◌, ◌++◌, arith, ℕ, zero, suc, length, take, drop, ap, ◌∙◌, List, [], ◌∷◌, Option, Some, None, Ok, Bool, true, false, refl, sym, subst}
 use Rattle.std.specs.Prelude.{◌&&◌, nat_lt}
@@ -25,7 +25,7 @@ use Rattle.expand65.specs.declared.expander.Statement.TheVariants.{Label, Plain}
 use Rattle.expand65.specs.declared.preprocessor.Preprocessor.{Preprocessor}
 use Rattle.expand65.proofs.StepSequences.{no_call, step_rest, step_taken, unlabelled}
 
--- ---- A line of given tokens.
+-- ---- A line of stored tokens.
 
 abbrev words_of : List Lexeme → List StoredToken
 words_of [] = []
@@ -45,9 +45,9 @@ line_kept (t ∷ ts) =
     let following : drop (length t.1) (t.1 ++ bytes_of ts) ≡ bytes_of ts = drop-append_seam t.1 (bytes_of ts) in
     rw (own, following) (ap (λ l. t ∷ l) (line_kept ts))
 
--- ---- The steps of a line that is taken.
+-- ---- The steps of a line without expansion.
 
--- a rewriter, and an expander, whose reader has read on
+-- a preprocessor or an expander after its input stack has changed
 abbrev with_reader : Preprocessor → InputStack → Preprocessor
 with_reader r reader = record { alloc = r.alloc; stack = reader; macros = r.macros; conditions = r.conditions; expansions = r.expansions; folders = r.folders }
 
@@ -83,12 +83,12 @@ pub reaches_after : (m : Files) (k : EnvironmentView) (s t : State) (n : Next) �
 reaches_after m k s _ n (no_step t) r = r
 reaches_after m k s _ n (goes_once _ t u h step) r = reaches_after m k s t n h (further t u n step r)
 
--- ---- The statements of a line that is taken.
+-- ---- The statements of a line without expansion.
 
 follows_given : (m : Files) (k : EnvironmentView) (old new : Expander) (x : Statement) (y : ExpandedStatement) → statement_of x ≡ y → old.failed ≡ false → new.failed ≡ old.failed → ReachesNext m k (state_in m old) (statement y (state_in m new)) → RefinesNextStatement m k old (Ok (Some x)) new
 follows_given m k old new x y is right same h = grind (arith, common_steps)
 
--- one statement more
+-- one further statement
 more : (old mid new : Expander) (x : Statement) (y : ExpandedStatement) (ys : List ExpandedStatement) → statement_of x ≡ y → old.failed ≡ false → mid.failed ≡ old.failed → ((m : Files) (k : EnvironmentView) → ReachesNext m k (state_in m old) (statement y (state_in m mid))) → measure_of mid < measure_of old → location_of mid ≡ location_of new → YieldsStatements mid ys new → YieldsStatements old (y ∷ ys) new
 more old mid new x y ys is right same reaches less at rest =
     let P : ExpandedStatement → Type 0 = λ z. YieldsStatements old (z ∷ ys) new in
@@ -97,7 +97,7 @@ more old mid new x y ys is right same reaches less at rest =
 none_more : (e : Expander) → YieldsStatements e [] e
 none_more e = none e e (record { goes = λ m k. no_step (state_in m e); failed = refl; size = omega arith })
 
--- what stands behind a label
+-- the rest of the line after a label
 rest_given : (old : Expander) (reader : InputStack) (ts : List Lexeme) → old.failed ≡ false → first_directive ts ≡ None → CallsNoMacro old.processor ts → YieldsStatements (following old reader (Rest (line_of ts))) (rest_statements ts) (following old reader Nothing)
 rest_given old reader [] right d calls =
     let mid = following old reader (Rest (line_of [])) in

@@ -1,4 +1,4 @@
--- Expressions of all the tokens.
+-- Expressions that consist of all tokens.
 use Rattle.std.proofs.Common.{◌≡◌, ◌≢◌, ℕ, true, false, List, length, refl, arith, Result, Ok, Err}
 use Rattle.std.specs.Prelude.{◌==◌}
 use Rattle.std.proofs.lemmas.Bool.Decides.{nat_tests}
@@ -15,7 +15,7 @@ use Rattle.expand65.specs.State.{complete_expression}
 use Rattle.expand65.specs.LineStart.{not_understood}
 use Rattle.syntax65.specs.declared.fault.ExpandFault.{ExpandFault}
 
--- these tokens are read as an expression of all of them, or not
+-- the result of parsing the tokens as one complete expression
 abbrev pub IsWhole : List Lexeme → Result Tree ExpandFault → Type 0
 IsWhole ts r = (q : Result (Tree × ℕ) ExprFault) × IsParsed ts q × (r ≡ complete_expression (length ts) q)
 

@@ -1,4 +1,4 @@
--- Macros that are defined, and repeats.
+-- Definitions of macros and repetitions.
 use Rattle.std.proofs.lemmas.Grind.{common_steps}
 use Rattle.std.proofs.Common.{◌≡◌, ℕ, Bool, true, false, List, [], ◌∷◌, length, drop, Option, Some, None, Result, Ok, Err, ap, refl, sym, ◌∙◌, arith, ◌++◌, map, Vec, Global}
 use Rattle.std.proofs.lemmas.List.{drop-map, map-append}
@@ -36,9 +36,7 @@ use Rattle.expand65.specs.declared.input_stack.InputStack.{InputStack}
 use Rattle.expand65.specs.declared.preprocessor.Preprocessor.{Preprocessor}
 use Rattle.expand65.proofs.Tables.{lookup_mapped, same_name}
 
--- ---- The variable.
-
--- ---- The header.
+-- ---- The header of a repetition.
 
 abbrev pub IsHeader : List Lexeme → Result (Tree × List (List ℕ)) ExpandFault → Type 0
 IsHeader ts r = (q : Result (Tree × ℕ) ExprFault) × IsParsed ts q × (r ≡ repeat_header ts q)
@@ -63,7 +61,7 @@ a_header ts following e n v h b r =
     let same : ok_or_not_understood (variable_of (drop n (lexemes ts))) ≡ Ok v = ap (λ l. ok_or_not_understood (variable_of l)) (sym (ap lexemes b ∙ sym (drop-map lexeme_of n ts))) ∙ r in
     (Ok (e, n), h, sym (ap (λ (r : Result (List (List ℕ)) ExpandFault). r >>= (λ v. Ok (e, v))) same))
 
--- what isn't there isn't there with more
+-- an error of `o` is an error of `o >=> f`
 pub refused_on : {A B : Type 0} (o : Option A) (f : A → Option B) (e : ExpandFault) → Unless (is_system_error e) (ok_or_not_understood o ≡ Err e) → Unless (is_system_error e) (ok_or_not_understood (o >=> f) ≡ Err e)
 refused_on {A} {B} o f e h = grind (arith, common_steps)
 
@@ -97,15 +95,13 @@ twice m s name params h = grind (arith, common_steps)
 pub is_none : {A : Type 0} (o : Option A) → is_some o ≡ false → o ≡ None
 is_none x h = grind (arith, common_steps)
 
--- what `.macro` with a header that is understood defines
+-- the step of `.macro` with a valid header
 pub macro_is : (s : State) (ts : List Lexeme) (name : List ℕ) (params : List (List ℕ)) (o : Option Definition) → ok_or_not_understood (header_of ts) ≡ Ok (name, params) → macro_of s.macros name ≡ o → definition_step s name params o ≡ macro_line s ts
 macro_is s ts name params o e none = sym (ap (λ (q : Result (List ℕ × List (List ℕ)) ExpandFault). and_then_step s q (λ h. definition_step s h.0 h.1 (macro_of s.macros h.0))) e ∙ ap (definition_step s name params) none)
 
--- ---- An input put in front of the lines.
+-- ---- Adding a macro.
 
--- ---- A macro is kept.
-
--- the state with other lines left and other macros
+-- the state with other remaining input and other macros
 abbrev pub rewritten : Files → Preprocessor → InputStack → List (List ℕ × Definition) → State
 rewritten m r rd ms = record { left = remaining_of m rd; macros = ms; conditions = r.conditions; expansions = r.expansions; folders = r.folders }
 
@@ -117,7 +113,7 @@ kept_one m old rd name body b end es h e v block =
 pub block_refused : (m : Files) (s : State) (name : List ℕ) (params : List (List ℕ)) (f : ExpandFault) (p : SourceLocation) → Unless (is_system_error f) (Block Macro 0 [] s.left (Err (f, p))) → Unless (is_system_error f) (StepReaches m (definition_step s name params None) (raises (f, p)))
 block_refused m s name params f p h = grind (arith, common_steps)
 
--- ---- A repeat begins.
+-- ---- The beginning of a repetition.
 
 pub turns_ready : (r : Replay) (b : Body) (n : ℕ) → r.body.value ≡ b → r.at ≡ length b.lines → r.arguments ≡ [] → r.count ≡ None → r.locals.entries ≡ [] → r.number ≡ 0 → remaining_iterations r 0 n ≡ iterations (repeat_substitution (map (λ k. k.items) b.params.keys)) (map tokens_in b.lines) 0 n
 turns_ready r b n v a g c l k = grind (arith, common_steps)

@@ -1,4 +1,4 @@
--- Where expansion was when the store failed.
+-- The location of expansion after a store failure.
 use Rattle.std.proofs.lemmas.Grind.{common_steps}
 use Rattle.std.proofs.Common.{arith, ◌≡◌, ℕ, List, [], ◌∷◌, ◌++◌, Bool, true, false, Option, Some, None, IfSome, Ok, Err, ap, refl, sym, subst, ◌∙◌, inl, inr, Result}
 use Rattle.std.specs.Prelude.{if◌then◌else◌}
@@ -33,7 +33,7 @@ use Rattle.expand65.specs.declared.expander.PendingLine.TheVariants.{Nothing, Re
 use Rattle.expand65.specs.declared.preprocessor.LineOutcome.{LineOutcome}
 use Rattle.expand65.proofs.StepSequences.{first_taken}
 
--- ---- The last open condition, and the innermost end mark, of a rewriter.
+-- ---- The last open condition, and the innermost end mark, of a preprocessor.
 
 -- an input with another source of lines
 abbrev pub with_source : Input → LineSource → Input
@@ -42,11 +42,11 @@ with_source i src = record { source = src; conditions = i.conditions; return_loc
 abbrev mark_by : Bool → Input → InputEnd
 mark_by b i = record { is_macro = b; conditions = i.conditions; return_location = i.return_location }
 
--- the innermost input says how many conditions stay open
+-- the last open condition, by the number of conditions that were open at the beginning of the innermost input
 pub last_is : (m : Files) (r : Preprocessor) → last_condition (state_of m r) ≡ without_last_condition r.conditions r.stack.top.conditions
 last_is m r = ap (λ (k : Option InputEnd). without_last_condition r.conditions (option_map_or (λ x. x.conditions) k 0)) (innermost_is m r.stack)
 
--- ---- An `.elseif` or `.else` behind a condition that was true.
+-- ---- An `.elseif` or `.else` after a true condition.
 
 abbrev ElseIn : Files → Preprocessor → StepResult → Type 0
 ElseIn m old r = StepReaches m (else_line (state_of m old) (last_condition (state_of m old))) r
@@ -94,12 +94,12 @@ names_added m r src ts names c h i a =
     some None h = absurd (cc)
     some (Some ns) h = let same : names ≡ ns = cc in ap (λ (x : List (List ℕ)). continues (with_items (state_of m r) (with_local_names x (remaining_of m r.stack).items))) same
 
--- ---- Of a reader.
+-- ---- Failures of the input stack.
 
 pub stops_so : {A : Type 0} (o : Option Files) (P Q : Files → SourceLocation → Type 0) (old new : InputStack) (r : Result A ExpandFault) → ((m : Files) (p : SourceLocation) → P m p → Q m p) → IfSome o (λ m. HasFailureLocation (P m) old new r) → IfSome o (λ m. HasFailureLocation (Q m) old new r)
 stops_so x y z old new r f h = grind (arith, common_steps)
 
--- where nothing was read
+-- no input was read
 pub stood : (A : Type 0) (o : Option Files) (P : Files → SourceLocation → Type 0) (reader : InputStack) (f : ExpandFault) → ((m : Files) → is_failure f ≡ true → P m reader.location) → IfSome o (λ m. HasFailureLocation {A = A} (P m) reader reader (Err f))
 stood x y z reader f h = grind (arith, common_steps)
 
@@ -109,12 +109,12 @@ stood_inside A o P reader f inside = stood A o P reader f (λ m failed. cc)
 pub only_error : (f : ExpandFault) → is_failure f ≡ true → f ≡ FileError
 only_error x h = grind (arith, common_steps)
 
--- the same step, by another word
+-- equal steps fail at the same locations
 pub stops_by : {A : Type 0} (o : Option Files) (last_failure : LastFailure) (x y : Files → ExpansionStep) (old new : InputStack) (r : Result A ExpandFault) → ((m : Files) → x m ≡ y m) → IfSome o (λ m. HasFailureLocation (StepFails m last_failure (x m)) old new r) → IfSome o (λ m. HasFailureLocation (StepFails m last_failure (y m)) old new r)
 stops_by None last_failure x y old new r e h = tt
 stops_by (Some m) last_failure x y old new r e h = subst (λ z. HasFailureLocation (StepFails m last_failure z) old new r) (e m) h
 
--- at a line that is taken, or behind it
+-- a failure while a line is read, or after it
 fails_taken : (last_failure : LastFailure) (m : Files) (k : EnvironmentView) (r : Preprocessor) (p : SourceLocation) → StepFails m last_failure (reads_line (remaining_of m r.stack) (step_after k (state_of m r))) p → StepFailsAt m last_failure k (state_of m r) p
 unfolding StepFailsAt
 fails_taken last_failure m k r p h = subst (λ z. StepFails m last_failure z p) (sym (first_taken m k r)) h
@@ -122,7 +122,7 @@ fails_taken last_failure m k r p h = subst (λ z. StepFails m last_failure z p) 
 pub stops_taking : {A : Type 0} (o : Option Files) (last_failure : LastFailure) (k : EnvironmentView) (old : Preprocessor) (new : InputStack) (r : Result A ExpandFault) → IfSome o (λ m. HasFailureLocation (FailsAtLine m last_failure (remaining_of m old.stack)) old.stack new r) → IfSome o (λ m. HasFailureLocation (StepFailsAt m last_failure k (state_of m old)) old.stack new r)
 stops_taking o last_failure k old new r h = stops_so o (λ m. FailsAtLine m last_failure (remaining_of m old.stack)) (λ m. StepFailsAt m last_failure k (state_of m old)) old.stack new r (λ m p f. fails_taken last_failure m k old p (inl f)) h
 
--- behind a line
+-- a failure after a line
 pub stops_after : {A : Type 0} (o : Option Files) (last_failure : LastFailure) (k : EnvironmentView) (old mid : Preprocessor) (new : InputStack) (ts : List Lexeme) (r : Result A ExpandFault) → IfSome o (λ m. ReadsNextLine (remaining_of m old.stack) (Ok (Some ts, remaining_of m mid.stack))) → ((m : Files) → state_of m mid ≡ with_remaining (state_of m old) (remaining_of m mid.stack)) → end_mark_of mid.stack.top ≡ end_mark_of old.stack.top → IfSome o (λ m. HasFailureLocation (StepFails m last_failure (unless_mislabelled k (state_of m mid) ts (is_mislabelled ts))) mid.stack new r) → IfSome o (λ m. HasFailureLocation (StepFailsAt m last_failure k (state_of m old)) old.stack new r)
 stops_after None last_failure k old mid new ts r t e same h = tt
 stops_after (Some m) last_failure k old mid new ts (Ok x) t e same h = tt
@@ -131,13 +131,13 @@ stops_after (Some m) last_failure k old mid new ts (Err f) t e same h = λ faile
     let following = subst (λ s. StepFails m last_failure (unless_mislabelled k s ts (is_mislabelled ts)) new.location) (e m) so.is_location in
     record { is_location = fails_taken last_failure m k old new.location (inr (Ok (Some ts, remaining_of m mid.stack), t, following)); mark = so.mark ∙ same }
 
--- ---- Of one line.
+-- ---- Failures in one line.
 
--- the branches behind one that was taken are passed over
+-- after a true condition, `.elseif` and `.else` skip the remaining branches
 pub stops_at_else : {A : Type 0} (o : Option Files) (last_failure : LastFailure) (old : Preprocessor) (new : InputStack) (cs : List Bool) (r : Result A ExpandFault) → without_last_condition old.conditions old.stack.top.conditions ≡ Some (false, cs) → IfSome o (λ m. HasFailureLocation (FailsInBlock m last_failure RemainingBranches 0 (remaining_of m old.stack)) old.stack new r) → IfSome o (λ m. HasFailureLocation (StepFails m last_failure (else_line (state_of m old) (last_condition (state_of m old)))) old.stack new r)
 stops_at_else o last_failure old new cs r e h = stops_by o last_failure (λ m. else_line (state_of m old) (Some (false, cs))) (λ m. else_line (state_of m old) (last_condition (state_of m old))) old.stack new r (λ m. else_is m old (Some (false, cs)) e) h
 
--- ---- Of one step, by what stands in front of the lines.
+-- ---- Failures in one step, by the pending line.
 
 fails_rest : (last_failure : LastFailure) (m : Files) (k : EnvironmentView) (r : Preprocessor) (line : StoredLine) (p : SourceLocation) → StepFails m last_failure (line_step k (state_of m r) (tokens_in line) (first_directive (tokens_in line))) p → StepFailsAt m last_failure k (with_pending (Rest line) (state_of m r)) p
 unfolding StepFailsAt
@@ -170,7 +170,7 @@ stops_rest o last_failure k old new line r is h = stops_in o last_failure k old 
 pub stops_branch : {A : Type 0} (o : Option Files) (last_failure : LastFailure) (k : EnvironmentView) (old : Expander) (new : InputStack) (line : StoredLine) (r : Result A ExpandFault) → old.pending ≡ Branch line → IfSome o (λ m. HasFailureLocation (StepFails m last_failure (if_line k (state_of m old.processor) True (tokens_in line))) old.processor.stack new r) → IfSome o (λ m. HasFailureWhileReading m last_failure k (state_in m old) r (end_mark_of new.top) new.location)
 stops_branch o last_failure k old new line r is h = stops_in o last_failure k old new r (Branch line) (λ m. StepFails m last_failure (if_line k (state_of m old.processor) True (tokens_in line))) is (λ m. refl) (λ m p. fails_branch last_failure m k old.processor line p) h
 
--- ---- Of steps one after another.
+-- ---- Failures in a sequence of steps.
 
 abbrev pub HasGone : EnvironmentView → Expander → Expander → Files → Type 0
 HasGone k i e m = SilentSteps m k (state_in m i) (state_in m e)
@@ -189,5 +189,3 @@ goes_over m k s t _ g (one_more _ v u h step) = one_more s v u (goes_over m k s 
 
 pub stops_later : {A : Type 0} (B : Type 0) (o : Option Files) (last_failure : LastFailure) (k : EnvironmentView) (i e : Expander) (end_mark : InputEnd) (location : SourceLocation) (r : Result A ExpandFault) (f : ExpandFault) → r ≡ Err f → IfSome o (HasGone k i e) → IfSome o (λ m. HasFailureWhileReading {A = B} m last_failure k (state_in m e) (Err f) end_mark location) → IfSome o (λ m. HasFailureWhileReading m last_failure k (state_in m i) r end_mark location)
 stops_later x y last_failure k i e there location r f is h s = grind (arith, common_steps, goes_over)
-
--- ---- At the place of the line that was read last.

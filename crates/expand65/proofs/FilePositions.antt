@@ -1,4 +1,4 @@
--- At which places open files are read.
+-- The positions at which open files are read.
 use Rattle.std.proofs.lemmas.Grind.{common_steps}
 use Rattle.std.proofs.Common.{arith, ◌≡◌, ◌+◌, ◌∙◌, Bool, List, [], ◌∷◌, ◌++◌, Option, Some, None, IfSome, OnOk, Result, Ok, Err, ap, refl, reverse, sym, subst, true}
 use Rattle.std.specs.Prelude.{if◌then◌else◌}
@@ -22,7 +22,7 @@ line_of m (source.File f) p h = h.line
 line_of m (source.Call r) p h = tt
 line_of m (source.Repeat r next count) p h = tt
 
--- a place in a file that isn't the source is behind once the file is left
+-- reading a line of an included file doesn't change the location that is restored after the file
 onward_back : (s : LineSource) (p : SourceLocation) (b : Option SourceLocation) → HasReturnLocation s b → restored_location (next_location s p) b ≡ restored_location p b
 onward_back s p (Some q) h = refl
 onward_back s p None h = rw h refl
@@ -35,7 +35,7 @@ first_of : (m : Files) (i : Input) (is : List Input) (p : SourceLocation) → Ar
 first_of m i [] p h = h.0
 first_of m i (j ∷ is) p h = h.0
 
--- the innermost input with another source of lines, at another place
+-- replacing the line source and the location of the innermost input preserves the positions
 with_first : (m : Files) (i k : Input) (is : List Input) (p q : SourceLocation) → k.return_location ≡ i.return_location → is_file k.source ≡ is_file i.source → (HasReturnLocation i.source i.return_location → restored_location q i.return_location ≡ restored_location p i.return_location) → IsSourceAt m k.source q → AreInputsAt m (i ∷ is) p → AreInputsAt m (k ∷ is) q
 with_first m i k [] p q b t s at h = (at, b ∙ h.1)
 with_first m i k (j ∷ is) p q b t s at h =
@@ -52,16 +52,16 @@ reads_so m old new b o t s at h =
     let there : AreInputsAt m (new.top ∷ reverse old.outer.items) new.location = with_first m old.top new.top (reverse old.outer.items) old.location new.location b t s at h in
     subst (λ x. AreInputsAt m (new.top ∷ reverse x.items) new.location) (sym o) there
 
--- lines are read on in the innermost input
+-- the innermost input is read further, and the location is unchanged
 pub reads_on : (m : Files) (old new : InputStack) → new.top.return_location ≡ old.top.return_location → new.outer ≡ old.outer → is_file new.top.source ≡ is_file old.top.source → new.location ≡ old.location → IsSourceAt m new.top.source old.location → IsStackPositioned m old → IsStackPositioned m new
 reads_on m old new b o t p at h = reads_so m old new b o t (λ x. ap (λ q. restored_location q old.top.return_location) p) (subst (IsSourceAt m new.top.source) (sym p) at) h
 
--- and one is taken
+-- the innermost input is read by one line
 pub reads_onward : (m : Files) (old new : InputStack) → new.top.return_location ≡ old.top.return_location → new.outer ≡ old.outer → is_file new.top.source ≡ is_file old.top.source → new.location ≡ next_location old.top.source old.location → IsSourceAt m new.top.source (next_location old.top.source old.location) → IsStackPositioned m old → IsStackPositioned m new
 reads_onward m old new b o t p at h =
     reads_so m old new b o t (λ return_location. ap (λ q. restored_location q old.top.return_location) p ∙ onward_back old.top.source old.location old.top.return_location return_location) (subst (IsSourceAt m new.top.source) (sym p) at) h
 
--- a line of a file is taken where it stands
+-- a buffered line of a file is read
 pub takes_on : (m : Files) (old new : InputStack) (p : Peeked) (ts : List Lexeme) → new.top.return_location ≡ old.top.return_location → new.outer ≡ old.outer → is_file new.top.source ≡ is_file old.top.source → new.location ≡ location_at old.location p.number → IsBufferedLine old.top.source p ts → (IsSourceAt m old.top.source old.location → IsSourceAt m new.top.source (location_at old.location p.number)) → IsStackPositioned m old → IsStackPositioned m new
 takes_on m old new p ts b o t e there at h =
     reads_so m old new b o t (λ return_location. ap (λ q. restored_location q old.top.return_location) e ∙ following old.top.source old.top.return_location there return_location) (subst (IsSourceAt m new.top.source) (sym e) (at (innermost_at m old h))) h
@@ -72,21 +72,21 @@ takes_on m old new p ts b o t e there at h =
     following (source.Call r) None there return_location = absurd there
     following (source.Repeat r next count) None there return_location = absurd there
 
--- ---- Inputs that are put inside others and are left.
+-- ---- Opened and closed inputs.
 
 pub enters : (m : Files) (old : InputStack) (new : List Input) (i : Input) (p : SourceLocation) → new ≡ old.outer.items ++ old.top ∷ [] → IsSourceAt m i.source p → HasReturnLocation i.source i.return_location → restored_location p i.return_location ≡ old.location → IsStackPositioned m old → AreInputsAt m (i ∷ reverse new) p
 unfolding IsStackPositioned
 enters m old new i p o s k b h = grind (arith, common_steps)
 
--- the innermost of those outside comes next
+-- the next outer input becomes the innermost one
 pub drops : (m : Files) (old : Input) (outer rest : List Input) (top : Input) (p q : SourceLocation) → outer ≡ rest ++ top ∷ [] → q ≡ restored_location p old.return_location → AreInputsAt m (old ∷ reverse outer) p → AreInputsAt m (top ∷ reverse rest) q
 drops m old outer rest top p q o e h = grind (arith, common_steps)
 
--- none is outside: the source goes back to none
+-- there is no outer input: the source remains, without a location to restore
 pub stays : (m : Files) (old new : Input) (outer rest : List Input) (p q : SourceLocation) → outer ≡ [] → rest ≡ [] → new.source ≡ old.source → new.return_location ≡ None → q ≡ restored_location p old.return_location → AreInputsAt m (old ∷ reverse outer) p → AreInputsAt m (new ∷ reverse rest) q
 stays m old new outer rest p q o l s n e h = grind (arith, common_steps)
 
--- a reader that has gone back to a place
+-- the input stack has returned to a location
 pub goes_back : (m : Files) (mid new : InputStack) (p : SourceLocation) → new.top ≡ mid.top → new.outer ≡ mid.outer → new.location ≡ p → AreInputsAt m (open_inputs mid) p → IsStackPositioned m new
 unfolding IsStackPositioned
 goes_back m mid new p t o e h = grind (arith, common_steps)
@@ -111,20 +111,20 @@ call_kind (source.Call r) (source.Repeat q next count) h k = absurd cc
 pub opened_at : (m : Files) (f : OpenFile) (p : SourceLocation) → f.name ≡ p.file → f.line ≡ 0 → p.line ≡ 0 → IsFileAfterLines m f 0 → IsFileAt m f p
 opened_at m f p e l z h = record { name = e; line = z ∙ sym l; following = subst (IsFileAfterLines m f) (sym l) h }
 
--- a source that is opened
+-- a source that was opened
 pub source_placed : (m : Files) (r : InputStack) (f : OpenFile) → r.top.source ≡ source.File f → r.top.return_location ≡ None → r.outer.items ≡ [] → IsFileAt m f r.location → IsStackPositioned m r
 unfolding IsStackPositioned
 source_placed m r f s b o at =
     let P : List Input → Type 0 = λ l. AreInputsAt m (r.top ∷ reverse l) r.location in
     subst P (sym o) (subst (λ (x : LineSource). IsSourceAt m x r.location) (sym s) at, b)
 
--- ---- Where a store tells its files.
+-- ---- If the store's files are known.
 
 pub stands_so : (o : Option Files) (old new : InputStack) → ((m : Files) → IsStackPositioned m old → IsStackPositioned m new) → IsStackPositionedIfKnown o old → IsStackPositionedIfKnown o new
 stands_so None old new f h = tt
 stands_so (Some m) old new f h = f m h
 
--- by what a call answers of its files
+-- by a property of the files that a call ensures
 pub stands_by : (o : Option Files) (P : Files → Type 0) (old new : InputStack) → ((m : Files) → P m → IsStackPositioned m old → IsStackPositioned m new) → IfSome o P → IsStackPositionedIfKnown o old → IsStackPositionedIfKnown o new
 stands_by None P old new f h k = tt
 stands_by (Some m) P old new f h k = f m h k
@@ -132,7 +132,7 @@ stands_by (Some m) P old new f h k = f m h k
 pub stands_where : (o p : Option Files) (r : InputStack) → p ≡ o → IsStackPositionedIfKnown o r → IsStackPositionedIfKnown p r
 stands_where o p r e h = subst (λ q. IsStackPositionedIfKnown q r) (sym e) h
 
--- by what a call found of the store before it
+-- if the call doesn't change the store's files
 pub stands_back : (o p : Option Files) (old new : InputStack) → p ≡ o → (IsStackPositionedIfKnown p old → IsStackPositionedIfKnown p new) → IsStackPositionedIfKnown o old → IsStackPositionedIfKnown o new
 stands_back o p old new e f h = let P : Option Files → Type 0 = λ x. IsStackPositionedIfKnown x old → IsStackPositionedIfKnown x new in subst P e f h
 
@@ -141,7 +141,7 @@ stands_on_ok o p r old new e f h = let P : Option Files → Type 0 = λ x. IsSta
 
 -- ---- The next line.
 
--- it is taken behind the lines before
+-- reading the next line preserves the positions
 pub line_stands : (o : Option Files) (old new : InputStack) (mid : LineSource) → new.top.return_location ≡ old.top.return_location → new.outer ≡ old.outer → is_file new.top.source ≡ is_file old.top.source → is_file mid ≡ is_file old.top.source → (IsLineOf old.top.source old.location → new.location ≡ next_location mid old.location) → IfSome o (λ m. (q : SourceLocation) → IsSourceAt m old.top.source q → IsSourceAt m mid q) → IfSome o (λ m. (q : SourceLocation) → IsSourceAt m mid q → IsSourceAt m new.top.source (next_location mid q)) → IsStackPositionedIfKnown o old → IsStackPositionedIfKnown o new
 line_stands None old new mid b k t u moves begins takes h = tt
 line_stands (Some m) old new mid b k t u moves begins takes h =
@@ -150,12 +150,12 @@ line_stands (Some m) old new mid b k t u moves begins takes h =
     let location : new.location ≡ next_location old.top.source old.location = moves (line_of m old.top.source old.location at) ∙ same in
     reads_onward m old new b k t location (subst (IsSourceAt m new.top.source) same (takes old.location (begins old.location at))) h
 
--- the store fails before it
+-- the store fails before the line's first byte
 pub reading_before : (o : Option Files) (old : InputStack) (last_failure : LastFailure) (f : ExpandFault) → is_failure f ≡ true → IfSome o (λ m. (q : SourceLocation) → IsSourceAt m old.top.source q → is_failure f ≡ true → IsReadingAt m last_failure q) → IsStackPositionedIfKnown o old → IfSome o (λ m. IsReadingAt m last_failure old.location)
 reading_before None old last_failure f failed stops h = tt
 reading_before (Some m) old last_failure f failed stops h = stops old.location (innermost_at m old h) failed
 
--- or within it
+-- the store fails within the line
 pub reading_within : (o : Option Files) (old : InputStack) (mid : LineSource) (location : SourceLocation) (last_failure : LastFailure) (f : ExpandFault) → is_failure f ≡ true → IfSome o (λ m. (q : SourceLocation) → IsSourceAt m old.top.source q → IsSourceAt m mid q) → IfSome o (λ m. (q : SourceLocation) → IsSourceAt m mid q → is_failure f ≡ true → IsReadingAt m last_failure (next_location mid q)) → (IsLineOf old.top.source old.location → location ≡ next_location mid old.location) → IsStackPositionedIfKnown o old → IfSome o (λ m. IsReadingAt m last_failure location)
 reading_within None old mid location last_failure f failed begins stops moves h = tt
 reading_within (Some m) old mid location last_failure f failed begins stops moves h =

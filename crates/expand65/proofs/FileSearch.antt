@@ -1,4 +1,4 @@
--- Files that are looked for.
+-- The search for files.
 use Rattle.std.proofs.lemmas.Grind.{common_steps}
 use Rattle.std.proofs.Common.{◌≡◌, ◌≢◌, ◌<◌, ◌≤◌, ℕ, ◌+◌, ◌-◌, Bool, true, false, List, [], ◌∷◌, ◌++◌, length, take, drop, get_or, Option, Some, None, Result, Ok, Err, ap, refl, sym, subst, ◌∙◌, arith, inl, inr, map, suc, zero}
 use Rattle.std.specs.FinMap as fmap
@@ -19,7 +19,7 @@ use Rattle.expand65.specs.Macros.{file_of, file_exists}
 use Rattle.syntax65.specs.declared.fault.ExpandFault.{ExpandFault}
 use Rattle.syntax65.specs.declared.fault.ExpandFault.TheVariants.{FileTooLong}
 
--- ---- A file's length by a read at its limit.
+-- ---- The length of a file, by a read at the maximum size.
 
 pub fits : (o : Option (List ℕ)) (buf : List ℕ) (n : ℕ) → ReadsAt o 16777216 buf (Ok n) → n ≡ 0 → 0 < length buf → file_exists o ≡ Ok true
 fits None buf n h e b = absurd h
@@ -36,7 +36,7 @@ too_long (Some bytes) buf n h e =
     let many : nat_le (length bytes) 16777216 ≡ false = grind (arith, nat_tests) in
     rw many refl
 
--- ---- The folder of a file's name.
+-- ---- The folder of a file name.
 
 pub folder_push : (xs : List ℕ) (b : ℕ) (c : Bool) → is_slash b ≡ c → folder_of (xs ++ b ∷ []) ≡ (if c then xs ++ b ∷ [] else folder_of xs)
 folder_push [] b true e = rw e refl
@@ -82,7 +82,7 @@ found_fits m (x ∷ names) name e = by (file_named m x) e (λ h. found_fits m na
     by None e ih = ih e
     by (Some bytes) e ih = few_found m x bytes name (nat_le (length bytes) 16777216) refl e
 
--- ---- What stands under one name.
+-- ---- The file with a name.
 
 pub not_utf8 : (bytes : List ℕ) → (IsUtf8 bytes → ⊥) → is_utf8 bytes ≡ false
 not_utf8 bytes h = by (is_utf8 bytes) refl
@@ -100,7 +100,7 @@ is_missing m name others u h = grind (arith, common_steps)
 pub is_refused : (m : Files) (name : List ℕ) (others : Result (List ℕ × List ℕ) ExpandFault) (f : ExpandFault) → is_utf8 name ≡ true → Unless (is_system_error f) (file_exists (fmap.get m name) ≡ Err f) → Unless (is_system_error f) (found_or name (file_named m name) others ≡ Err f)
 is_refused m name others f u h = grind (arith, common_steps)
 
--- ---- The name that was asked for.
+-- ---- The name of the failed call.
 
 pub among_at : (last_failure : LastFailure) (f : List ℕ → List ℕ) (l : List (List ℕ)) (i : ℕ) (d : List ℕ) → i < length l → FailedAt last_failure (f (get_or l i d)) 16777216 → FailedOnOneOf last_failure (map f l)
 among_at last_failure f [] i d h k = absurd (omega (arith, h))

@@ -22,7 +22,7 @@ use Rattle.expand65.specs.declared.input.NextLine.{NextLine}
 use Rattle.expand65.specs.declared.input.NextLine.TheVariants.{AtEnd, Numbered, Replayed}
 use Rattle.expand65.specs.declared.line.StoredLine.{StoredLine}
 
--- ---- End marks among the inputs' lines.
+-- ---- End marks among the lines of inputs.
 
 abbrev pub AreLines : List Item → Type 0
 AreLines [] = Unit {0}
@@ -74,7 +74,7 @@ innermost_lines (end_mark x ∷ is) js k h = absurd h
 pub own_split : (m : Files) (i : Input) (js : List Item) → input_items m i ++ js ≡ remaining_in m i.source ++ end_mark (end_mark_of i) ∷ js
 own_split m i js = append_assoc (remaining_in m i.source) (end_mark (end_mark_of i) ∷ []) js
 
--- the innermost of the inputs outside comes first
+-- the innermost of the outer inputs comes first
 pub outside_push : (m : Files) (is : List Input) (i : Input) → outer_items m (is ++ i ∷ []) ≡ input_items m i ++ outer_items m is
 outside_push m [] i = sym (append-nil (input_items m i))
 outside_push m (j ∷ is) i = ap (λ l. l ++ input_items m j) (outside_push m is i) ∙ append_assoc (input_items m i) (outer_items m is) (input_items m j)
@@ -102,7 +102,7 @@ marks_outside m (i ∷ is) =
 pub marks_all : (m : Files) (r : InputStack) → end_mark_count (remaining_of m r).items ≡ length r.outer.items + 1
 marks_all m r = marks_own m r.top (outer_items m r.outer.items) ∙ ap (λ n. n + 1) (marks_outside m r.outer.items)
 
--- the innermost end mark is that of the innermost input
+-- the innermost end mark is the end mark of the innermost input
 pub innermost_is : (m : Files) (r : InputStack) → innermost (remaining_of m r).items ≡ Some (end_mark_of r.top)
 innermost_is m r = ap innermost (own_split m r.top (outer_items m r.outer.items)) ∙ innermost_lines (remaining_in m r.top.source) (outer_items m r.outer.items) (end_mark_of r.top) (lines_left m r.top.source)
 
@@ -112,13 +112,13 @@ entered_one m old new i h t u r p = grind (arith, common_steps, nat_tests, marks
 pub entered_none : (m : Files) (old : InputStack) (i : Input) → 256 ≤ length old.outer.items → Err (Nested, old.location) ≡ with_lines (remaining_in m i.source) (end_mark_of i) (remaining_of m old)
 entered_none m old i h = grind (arith, common_steps, nat_tests, marks_all)
 
--- ---- Inputs that are left.
+-- ---- Closed inputs.
 
--- the innermost of the inputs outside comes next
+-- the innermost of the outer inputs becomes the innermost input
 pub dropped : (m : Files) (old new : List Input) (g top : Input) → old ≡ new ++ g ∷ [] → top ≡ g → input_items m top ++ outer_items m new ≡ outer_items m old
 dropped m old new g top e t = ap (λ x. input_items m x ++ outer_items m new) t ∙ sym (ap (outer_items m) e ∙ outside_push m new g)
 
--- ---- At the end of the innermost input.
+-- ---- The end of the innermost input.
 
 pub not_closed : (m : Files) (r : InputStack) (n : ℕ) → remaining_in m r.top.source ≡ [] → r.top.conditions ≢ n → Err (NotClosed, r.location) ≡ without_end_mark n r.location (remaining_of m r).items
 not_closed m r n e h = grind (arith, common_steps)
@@ -126,11 +126,11 @@ not_closed m r n e h = grind (arith, common_steps)
 pub closes : (m : Files) (old new : InputStack) (n : ℕ) (more : Bool) → remaining_in m old.top.source ≡ [] → old.top.conditions ≡ n → (if more then (remaining_of m new).items else []) ≡ outer_items m old.outer.items → new.location ≡ restored_location old.location old.top.return_location → Ok ((if more then (remaining_of m new).items else []), new.location) ≡ without_end_mark n old.location (remaining_of m old).items
 closes m old new n more e h i p = grind (arith, common_steps)
 
--- the place that a reader goes back to doesn't change what is left
+-- the location that is restored doesn't change the remaining items
 pub same_items : (m : Files) (a b : InputStack) (more : Bool) (is : List Item) → b.top ≡ a.top → b.outer ≡ a.outer → (if more then (remaining_of m a).items else []) ≡ is → (if more then (remaining_of m b).items else []) ≡ is
 same_items m a b more is t o h = ap (λ x. if more then input_items m x ++ outer_items m b.outer.items else []) t ∙ ap (λ x. if more then input_items m a.top ++ outer_items m x.items else []) o ∙ h
 
--- ---- Out of the innermost expansion.
+-- ---- Leaving the innermost macro call.
 
 outside_lines : (is js : List Item) (p : SourceLocation) → AreLines is → after_innermost_macro (is ++ js) p ≡ after_innermost_macro js p
 outside_lines [] js p h = refl
@@ -146,20 +146,20 @@ Out = Option (ℕ × List Item × SourceLocation)
 one_out : (m : Files) (r : InputStack) (p : SourceLocation) (b : Bool) → is_call r.top.source ≡ b → after_innermost_macro (remaining_of m r).items p ≡ (if b then Some (r.top.conditions, outer_items m r.outer.items, restored_location p r.top.return_location) else after_innermost_macro (outer_items m r.outer.items) (restored_location p r.top.return_location))
 one_out m r p b e = grind (arith, common_steps, own_split, outside_lines, lines_left)
 
--- an input that is no expansion is left, and others are outside
+-- an input that is no macro call is closed, and there are outer inputs
 pub goes_out : (m : Files) (old new : InputStack) (p q : SourceLocation) (x : Out) → is_call old.top.source ≡ false → (if true then (remaining_of m new).items else []) ≡ outer_items m old.outer.items → q ≡ restored_location p old.top.return_location → after_innermost_macro (remaining_of m old).items p ≡ x → after_innermost_macro (remaining_of m new).items q ≡ x
 goes_out m old new p q x c i e h = ap (λ l. after_innermost_macro l q) i ∙ ap (after_innermost_macro (outer_items m old.outer.items)) e ∙ sym (one_out m old p false c) ∙ h
 
--- none is outside
+-- there is no outer input
 pub none_out : (m : Files) (old : InputStack) (p : SourceLocation) (x : Out) → is_call old.top.source ≡ false → [] ≡ outer_items m old.outer.items → after_innermost_macro (remaining_of m old).items p ≡ x → x ≡ None
 none_out m old p x c i h = sym h ∙ one_out m old p false c ∙ ap (λ l. after_innermost_macro l (restored_location p old.top.return_location)) (sym i)
 
--- an expansion is left
+-- a macro call is closed
 pub is_out : (m : Files) (old new : InputStack) (p : SourceLocation) (x : Out) (more : Bool) → is_call old.top.source ≡ true → (if more then (remaining_of m new).items else []) ≡ outer_items m old.outer.items → new.location ≡ restored_location p old.top.return_location → after_innermost_macro (remaining_of m old).items p ≡ x → x ≡ Some (old.top.conditions, (if more then (remaining_of m new).items else []), new.location)
 is_out m old new p x more c i e h =
     sym h ∙ one_out m old p true c ∙ ap (λ l. Some (old.top.conditions, l, restored_location p old.top.return_location)) (sym i) ∙ ap (λ q. Some (old.top.conditions, (if more then (remaining_of m new).items else []), q)) (sym e)
 
--- ---- The next line of the innermost input, as a line that is taken of all that is left.
+-- ---- The next line of the innermost input is the next line of the remaining input.
 
 pub one_taken : (before after tail : List Item) (n : NextLine) (r : ℕ) (p : SourceLocation) (line : StoredLine) → HasNextLine before n → (n ≡ AtEnd → ⊥) → ReadsStoredLine before (Ok line) after → ReadsFirstItem (before ++ tail) (suc r) p (Ok (Some (tokens_in line), remaining_input (after ++ tail) r (location_after_next n p)))
 one_taken before after tail AtEnd r p line c h t = absurd (h refl)
@@ -194,9 +194,9 @@ one_refused before after tail n r p f c h t = by (is_system_error f) t
     by true k = tt
     by false k = go n c h k
 
--- ---- Of a reader.
+-- ---- The input stack.
 
--- all that is left, the innermost input's lines first
+-- the remaining items, with the lines of the innermost input first
 pub parted : (m : Files) (r : InputStack) → input_items m r.top ++ outer_items m r.outer.items ≡ remaining_in m r.top.source ++ (end_mark (end_mark_of r.top) ∷ outer_items m r.outer.items)
 parted m r = append_assoc (remaining_in m r.top.source) (end_mark (end_mark_of r.top) ∷ []) (outer_items m r.outer.items)
 

@@ -1,4 +1,4 @@
--- The turns of a repeat.
+-- The iterations of a repetition.
 use Rattle.std.proofs.lemmas.Grind.{common_steps}
 use Rattle.std.proofs.Common.{◌≡◌, ℕ, zero, suc, ◌+◌, ◌-◌, ◌<◌, ◌≤◌, List, [], ◌∷◌, ◌++◌, length, map, drop, refl, sym, ap, ◌∙◌, arith, ◌⊎◌, Result}
 use Rattle.std.proofs.lemmas.List.{length-map}
@@ -11,12 +11,12 @@ use Rattle.expand65.specs.Lines.{in_iteration, Substitution, iterations, Item, b
 use Rattle.expand65.specs.declared.line.StoredLine.{StoredLine}
 use Rattle.expand65.specs.declared.macro_replay.Replay.{Replay}
 
--- turns of no lines
+-- iterations without lines
 pub no_lines : (e : Substitution) (t n : ℕ) → iterations e [] t n ≡ []
 no_lines e t zero = refl
 no_lines e t (suc n) = no_lines e (t + 1) n
 
--- turns don't look at the number of the turn before
+-- iterations don't depend on the number of the iteration before
 pub same_turns : (e : Substitution) (s : ℕ) (body : List (List Lexeme)) (t n : ℕ) → iterations (in_iteration e s) body t n ≡ iterations e body t n
 same_turns e s body t zero = refl
 same_turns e s body t (suc n) = ap (λ l. map (body_line (in_iteration e t)) body ++ l) (same_turns e s body (t + 1) n)
@@ -39,7 +39,7 @@ next_turn old new next count e lt body at r =
     ∙ ap (iterations (substitution_of old) lines next) (sym more)
     ∙ ap (λ l. l ++ iterations (substitution_of old) lines next (count - next)) (sym e)
 
--- ---- What comes next.
+-- ---- The next line.
 
 some_at : (ls : List (List Lexeme)) (at : ℕ) → at < length ls → (t : List Lexeme) × (drop at ls ≡ t ∷ drop (at + 1) ls)
 some_at [] at h = absurd (omega arith)
@@ -60,11 +60,11 @@ turn_begins r next count h =
     let more = iterations (substitution_of r) (map tokens_in r.body.value.lines) next (count - next) in
     (c.0, (c.1.0, (c.1.1.0 ++ more, ap (λ l. l ++ more) c.1.1.1)))
 
--- a line that is taken before others
+-- a line that is read before further items
 pub takes_before : (before after more rest : List Item) (r : Result StoredLine ExpandFault) → ReadsStoredLine before r after → more ≡ rest → ReadsStoredLine (before ++ more) r (after ++ rest)
 takes_before before after more rest x y same = grind (arith, common_steps)
 
--- a line of a turn is taken
+-- a line of an iteration is read
 pub takes_in_turn : (old new : Replay) (next count : ℕ) (r : Result StoredLine ExpandFault) → ReadsStoredLine (remaining_replay old) r (remaining_replay new) → new.body ≡ old.body → substitution_of new ≡ substitution_of old → ReadsStoredLine (remaining_iterations old next count) r (remaining_iterations new next count)
 takes_in_turn old new next count r h body same =
     let n = count - next in

@@ -1,4 +1,4 @@
--- A line with a label.
+-- A line with a label is split into the label and the rest.
 use Rattle.std.proofs.lemmas.Grind.{common_steps}
 use Rattle.std.proofs.Common.{arith, ◌≡◌, ◌≢◌, ℕ, zero, suc, false, List, take, drop, refl}
 use Rattle.std.proofs.lemmas.List.{take-map, drop-map}

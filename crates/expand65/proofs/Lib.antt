@@ -18,6 +18,6 @@ pub mod SourceFile
 pub mod ExpansionFailures
 pub mod Tables
 pub mod Iterations
-pub mod Unique
+pub mod StepUniqueness
 pub mod CompleteExpressions
 pub mod StoredTokens

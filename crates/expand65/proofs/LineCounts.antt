@@ -1,4 +1,4 @@
--- How many lines begin in the bytes of a file that were read.
+-- The number of lines that begin in the bytes that were read of a file.
 use Rattle.std.specs.List.{prefix_len}
 use Rattle.std.proofs.Common.{◌≡◌, ℕ, ◌+◌, ◌<◌, ◌≤◌, ◌∙◌, List, [], ◌∷◌, ◌++◌, length, take, drop, refl, sym, ap, subst, arith, suc, true, append_assoc, false, Option, Some, None, IfSome, OnOk, Result, Ok, Err}
 use Rattle.std.specs.Prelude.{IfErr, IfOk, ⊤}
@@ -14,7 +14,7 @@ use Rattle.expand65.specs.declared.input.NextLine.{NextLine}
 use Rattle.expand65.specs.declared.input.NextLine.TheVariants.{AtEnd, Replayed}
 use Rattle.expand65.proofs.Lines.{IsPart, front_is_part, part_ends, part_is_last, stops}
 
--- ---- Lines behind which bytes are left.
+-- ---- Lines before the unread bytes.
 
 none_after : (bytes : List ℕ) → IsRestAfterLines bytes bytes 0
 none_after bytes = record { taken = []; whole = refl; count = λ pending following e. omega arith }
@@ -23,7 +23,7 @@ none_after bytes = record { taken = []; whole = refl; count = λ pending followi
 pub opens_after : (m : Files) (name buffer : List ℕ) → buffer ≡ [] → IsRestAfterLines (readable_bytes m name) (buffer ++ readable_bytes m name) 0
 opens_after m name buffer b = subst (λ l. IsRestAfterLines (readable_bytes m name) (l ++ readable_bytes m name) 0) (sym b) (none_after (readable_bytes m name))
 
--- one line more
+-- one further line
 pub line_after : (bytes rest after line : List ℕ) (b n : ℕ) → IsPart line → is_line_end b ≡ true → rest ≡ line ++ b ∷ after → IsRestAfterLines bytes rest n → IsRestAfterLines bytes after (n + 1)
 line_after bytes rest after line b n part at_end e h = record {
   taken = h.taken ++ (line ++ b ∷ []);
@@ -41,7 +41,7 @@ no_front : (pending following : List ℕ) → [] ≡ pending ++ following → pe
 no_front [] following e = refl
 no_front (b ∷ pending) following e = absurd cc
 
--- the last line, which doesn't end
+-- the last line, without a line end
 pub last_after : (bytes rest line : List ℕ) (n : ℕ) → IsPart line → (line ≡ [] → ⊥) → rest ≡ line → IsRestAfterLines bytes rest n → IsRestAfterLines bytes [] (n + 1)
 last_after bytes rest line n part some e h = record {
   taken = h.taken ++ line;
@@ -55,14 +55,14 @@ last_after bytes rest line n part some e h = record {
       subst P (sym (no_front pending following same)) (omega (arith, count, one, whole, none)));
 }
 
--- as many bytes were read as stand before those that weren't
+-- the number of lines that begin in the bytes before the offset
 begun_in : (bytes rest line : List ℕ) (next n : ℕ) → rest ≡ line ++ drop next bytes → IsRestAfterLines bytes rest n → length (lines_of (take next bytes)) ≡ n + length (lines_of line)
 begun_in bytes rest line next n e h =
     let all : take next bytes ++ drop next bytes ≡ (h.taken ++ line) ++ drop next bytes = take-append-drop next bytes ∙ h.whole ∙ ap (λ l. h.taken ++ l) e ∙ sym (append_assoc h.taken line (drop next bytes)) in
     let pending : take next bytes ≡ h.taken ++ line = append_cancel_right (take next bytes) (h.taken ++ line) (drop next bytes) all in
     ap (λ l. length (lines_of l)) pending ∙ h.count line (drop next bytes) e
 
--- ---- Where a file was being read when the store failed.
+-- ---- The location in a file after a store failure.
 
 reads_there : (m : Files) (last_failure : LastFailure) (p : SourceLocation) (name line rest : List ℕ) (next n : ℕ) → name ≡ p.file → p.line ≡ n + length (lines_of line) → FailedAt last_failure name next → next < 16777216 → rest ≡ line ++ drop next (readable_bytes m name) → IsRestAfterLines (readable_bytes m name) rest n → IsReadingAt m last_failure p
 reads_there m last_failure p name line rest next n same number asked less e h =
@@ -75,18 +75,18 @@ reads_there m last_failure p name line rest next n same number asked less e h =
       line = count ∙ ap (λ f. length (lines_of (take next (bytes_of m f)))) same;
     }
 
--- nothing is at hand of what is left
+-- no unread byte is buffered
 none_at_hand : (m : Files) (f : OpenFile) → length f.buffer.items ≤ f.at → rest_of m f ≡ drop f.next (readable_bytes m f.name)
 none_at_hand m f h = ap (λ l. l ++ drop f.next (readable_bytes m f.name)) (drop_all f.at f.buffer.items h)
 
--- before a line's first byte
+-- before the first byte of a line
 pub stops_before : (o : Option Files) (last_failure : LastFailure) (f : OpenFile) → FailedAtRefill f last_failure → IfSome o (λ m. (p : SourceLocation) → IsFileAt m f p → IsReadingAt m last_failure p)
 stops_before None last_failure f h = tt
 stops_before (Some m) last_failure f (asked, less, all) = λ p h.
     (let number : p.line ≡ f.line + length (lines_of []) = h.line ∙ omega arith in
     reads_there m last_failure p f.name [] (rest_of m f) f.next f.line h.name number asked less (none_at_hand m f all) h.following)
 
--- within a line, of which some was taken
+-- within a line, after its first byte
 pub stops_within : (o : Option Files) (last_failure : LastFailure) (first f : OpenFile) (line : List ℕ) → FailedAtRefill f last_failure → IsPart line → (line ≡ [] → ⊥) → f.name ≡ first.name → IfSome o (λ m. line ++ rest_of m f ≡ rest_of m first) → IfSome o (λ m. IsFileAfterLines m first first.line → IsReadingAt m last_failure (line_location first.name (first.line + 1)))
 stops_within None last_failure first f line h part some name so_far = tt
 stops_within (Some m) last_failure first f line (asked, less, all) part some name so_far = λ h.
@@ -96,9 +96,9 @@ stops_within (Some m) last_failure first f line (asked, less, all) part some nam
     let e' : rest_of m first ≡ line ++ drop f.next (readable_bytes m first.name) = e ∙ ap (λ s. line ++ drop f.next (readable_bytes m s)) name in
     reads_there m last_failure (line_location first.name (first.line + 1)) first.name line (rest_of m first) f.next first.line refl number (subst (λ s. FailedAt last_failure s f.next) name asked) less e' h)
 
--- ---- Lines that are taken of an open file.
+-- ---- Lines that are read from an open file.
 
--- the bytes of a line, its end, and what stands behind that
+-- the bytes of a line, its line end, and the rest
 pub split_line : (here : List ℕ) (n : ℕ) → n ≡ prefix_len is_within_line here → n < length here → IsTerminatedLine here (take n here) (drop (n + 1) here)
 split_line here n e lt = by (drop n here) refl
   where
@@ -115,7 +115,7 @@ piece_ends_line line here n e lt =
     let s = split_line here n e lt in
     (s.0, s.1, ap (λ l. line ++ l) s.2 ∙ sym (append_assoc line (take n here) (s.0 ∷ drop (n + 1) here)))
 
--- a line that ends in what is at hand
+-- a line that ends in the buffer
 pub ended_after : (o : Option Files) (first self new : OpenFile) (line after : List ℕ) → IfSome o (λ m. line ++ rest_of m self ≡ rest_of m first) → self.name ≡ first.name → new.name ≡ self.name → new.next ≡ self.next → IsPart after → IsTerminatedLine (line ++ drop self.at self.buffer.items) after (drop new.at new.buffer.items) → IfSome o (λ m. IsFileAfterLines m first first.line → IsFileAfterLines m new (first.line + 1))
 ended_after None first self new line after so_far a b c part ended = tt
 ended_after (Some m) first self new line after so_far a b c part (byte, at_end, is) = λ h.
@@ -128,12 +128,12 @@ ended_after (Some m) first self new line after so_far a b c part (byte, at_end, 
     let Q : List ℕ → Type 0 = λ s. IsRestAfterLines (readable_bytes m s) (rest_of m new) (first.line + 1) in
     subst Q (sym (b ∙ a)) (subst P same (line_after (readable_bytes m first.name) (rest_of m first) (left ++ tail) after byte first.line part at_end e h)))
 
--- a longer list has something
+-- a list that is longer than another isn't empty
 pub is_some : (l longer : List ℕ) → length l < length longer → longer ≡ [] → ⊥
 is_some l [] lt e = absurd (omega (arith, lt))
 is_some l (b ∷ longer) lt e = absurd cc
 
--- the last line, which doesn't end
+-- the last line, without a line end
 pub last_is_after : (o : Option Files) (first new : OpenFile) (after : List ℕ) → 0 < length after → IsPart after → new.name ≡ first.name → IfSome o (λ m. after ++ rest_of m new ≡ rest_of m first) → IfSome o (λ m. rest_of m new ≡ []) → IfSome o (λ m. IsFileAfterLines m first first.line → IsFileAfterLines m new (first.line + 1))
 last_is_after None first new after some part name so_far none = tt
 last_is_after (Some m) first new after some part name so_far none = λ h.
@@ -142,7 +142,7 @@ last_is_after (Some m) first new after some part name so_far none = λ h.
     let Q : List ℕ → Type 0 = λ s. IsRestAfterLines (readable_bytes m s) (rest_of m new) (first.line + 1) in
     subst Q (sym name) (subst P (sym none) (last_after (readable_bytes m first.name) (rest_of m first) after first.line part (is_some [] after some) e h)))
 
--- it is at the place of that line
+-- the file is at the location of that line
 pub taken_at : (o : Option Files) (old mid new : OpenFile) → mid.name ≡ old.name → new.name ≡ mid.name → new.line ≡ old.line + 1 → ((m : Files) → rest_of m new ≡ rest_of m mid) → IfSome o (λ m. IsFileAfterLines m old old.line → IsFileAfterLines m mid (old.line + 1)) → IfSome o (λ m. (p : SourceLocation) → IsFileAt m old p → IsFileAt m new (location_at p (p.line + 1)))
 taken_at None old mid new a b c rest following = tt
 taken_at (Some m) old mid new a b c rest following = λ p h.
@@ -155,7 +155,7 @@ taken_at (Some m) old mid new a b c rest following = λ p h.
       following = subst P (sym c) (subst R (sym b) (subst Q (sym (rest m)) (following h.following)));
     })
 
--- a line that ends in what is at hand, and is taken there
+-- a line that begins and ends in the buffer
 pub here_after : (m : Files) (f : OpenFile) (n k j : ℕ) → n ≡ prefix_len is_within_line (drop f.at f.buffer.items) → n < length (drop f.at f.buffer.items) → IsFileAfterLines m f j → IsFileAfterLines m (record { name = f.name; buffer = f.buffer; at = f.at + (n + 1); next = f.next; line = k; spare = f.spare }) (j + 1)
 here_after m f n k j e lt h =
     let here = drop f.at f.buffer.items in
@@ -174,7 +174,7 @@ here_at m f n k p e lt number h =
     let P : ℕ → Type 0 = λ i. IsFileAfterLines m new i in
     record { name = h.name; line = refl; following = subst P (sym number) (here_after m f n k f.line e lt h.following) }
 
--- what is left stays
+-- the unread bytes are unchanged
 pub reads_on_at : (o : Option Files) (old new : OpenFile) → new.name ≡ old.name → new.line ≡ old.line → IfSome o (λ m. rest_of m new ≡ rest_of m old) → IfSome o (λ m. (p : SourceLocation) → IsFileAt m old p → IsFileAt m new p)
 reads_on_at None old new a b kept = tt
 reads_on_at (Some m) old new a b kept = λ p h.
@@ -190,24 +190,24 @@ reads_on_at (Some m) old new a b kept = λ p h.
 cut_off : (bs : List ℕ) (limit at : ℕ) → limit ≤ at → drop at (take limit bs) ≡ []
 cut_off bs limit at h = drop_all at (take limit bs) (omega (arith, h, length-take limit bs))
 
--- nothing is left behind as many bytes as are read of a file
+-- no bytes are unread after the maximum size
 pub none_left : (o : Option Files) (f : OpenFile) → length f.buffer.items ≤ f.at → 16777216 ≤ f.next → IfSome o (λ m. false ≡ false → rest_of m f ≡ [])
 none_left None f all most = tt
 none_left (Some m) f all most = λ e. none_at_hand m f all ∙ cut_off (bytes_of m f.name) 16777216 f.next most
 
--- ---- As a call answers it.
+-- ---- By the results of calls.
 
--- where it was refused since the store failed
+-- after a rejection because of a store failure
 pub where_failed : (o : Option Files) (A B : Files → Type 0) (f : ExpandFault) → (is_failure f ≡ true → IfSome o (λ m. A m → B m)) → IfSome o (λ m. A m → is_failure f ≡ true → B m)
 where_failed None A B f h = tt
 where_failed (Some m) A B f h = λ a failed. h failed a
 
--- so of each place
+-- the same for each location
 pub where_failed_at : (o : Option Files) (A B : Files → SourceLocation → Type 0) (f : ExpandFault) → (is_failure f ≡ true → IfSome o (λ m. (p : SourceLocation) → A m p → B m p)) → IfSome o (λ m. (p : SourceLocation) → A m p → is_failure f ≡ true → B m p)
 where_failed_at None A B f h = tt
 where_failed_at (Some m) A B f h = λ p a failed. h failed p a
 
--- by the number of a file's line, and by a place in it
+-- by the line number of a file, and by a location in the file
 pub stops_in_line : (o : Option Files) (last_failure : LastFailure) (f : OpenFile) (e : ExpandFault) → IfSome o (λ m. IsFileAfterLines m f f.line → is_failure e ≡ true → IsReadingAt m last_failure (line_location f.name (f.line + 1))) → IfSome o (λ m. (p : SourceLocation) → IsFileAt m f p → is_failure e ≡ true → IsReadingAt m last_failure (location_at p (p.line + 1)))
 stops_in_line None last_failure f e h = tt
 stops_in_line (Some m) last_failure f e h = λ p at failed.
@@ -215,19 +215,19 @@ stops_in_line (Some m) last_failure f e h = λ p at failed.
     let Q : List ℕ → Type 0 = λ s. IsReadingAt m last_failure (line_location s (f.line + 1)) in
     subst P (sym at.line) (subst Q at.name (h at.following failed)))
 
--- what isn't the store's failure, whatever was asked
+-- an error that is no store failure
 pub never_at : {A : Type 0} (o : Option Files) (P Q : Files → SourceLocation → Type 0) (r : Result A ExpandFault) → IfErr r (λ e. is_failure e ≡ false) → IfSome o (λ m. (p : SourceLocation) → P m p → IfErr r (λ e. is_failure e ≡ true → Q m p))
 never_at None P Q r h = tt
 never_at (Some m) P Q (Ok x) h = λ p a. tt
 never_at (Some m) P Q (Err e) h = λ p a failed. absurd (let both : true ≡ false = sym failed ∙ h in cc)
 
--- nothing is to be said of what is no file
+-- a source of lines that is no file
 pub nothing_at : {A : Type 0} (o : Option Files) (P : Files → SourceLocation → Type 0) (r : Result A ExpandFault) → IfSome o (λ m. (p : SourceLocation) → P m p → OnOk r ⊤)
 nothing_at None P r = tt
 nothing_at (Some m) P (Ok x) = λ p a. tt
 nothing_at (Some m) P (Err e) = λ p a. tt
 
--- lines of bodies leave the place
+-- lines of bodies don't change the location
 pub played_on : (r : Result NextLine ExpandFault) (p : SourceLocation) → IfOk r (λ n. (n ≡ AtEnd → ⊥) → n ≡ Replayed) → IfOk r (λ n. (n ≡ AtEnd → ⊥) → location_after_next n p ≡ p)
 played_on (Ok n) p h = λ more. ap (λ x. location_after_next x p) (h more)
 played_on (Err e) p h = tt

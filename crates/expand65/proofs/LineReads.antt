@@ -1,4 +1,4 @@
--- Lines that are taken of files and bodies.
+-- Lines that are read from files and bodies.
 use Rattle.std.proofs.lemmas.Grind.{common_steps}
 use Rattle.std.proofs.Common.{◌≡◌, ℕ, ◌+◌, ◌<◌, ◌≤◌, Bool, true, false, List, [], ◌∷◌, ◌++◌, length, map, take, drop, refl, sym, ap, ◌∙◌, arith, Option, Some, None, IfSome, Result, Ok, Err, get_or, length-append}
 use Rattle.std.proofs.lemmas.List.{drop-map, drop-drop, length-drop, take_all}
@@ -20,7 +20,7 @@ use Rattle.expand65.specs.declared.line.StoredLine.{StoredLine}
 use Rattle.expand65.specs.declared.macro_replay.Replay.{Replay}
 use Rattle.expand65.proofs.Lines.{piece_ends, some_line}
 
--- a line without tokens
+-- a line with a lexical error
 pub not_read : (bytes : List ℕ) (e : LexFault) → Unless (is_lex_system_error e) (IsRead bytes (Err e)) → Unless (is_system_error (fault_of_lexing e)) ((q : Result (List Lexeme) LexFault) × IsRead bytes q × (Err (fault_of_lexing e) ≡ file_line_tokens q))
 not_read bytes lex.OutOfMemory h = tt
 not_read bytes lex.BadCharacter h = (Err lex.BadCharacter, h, refl)
@@ -62,7 +62,7 @@ file_refused (Some m) old new last bytes f h t = by (is_system_error f) t
     by true k = tt
     by false k = (file_line (old.line + 1) bytes, (file_lines_after (old.line + 1) (lines_of (rest_of m new)), ap (file_lines_after old.line) h, k))
 
--- a line that ends in what is at hand is the first
+-- a line that ends in the buffer is the first of the unread lines
 pub first_at_hand : (m : Files) (f : OpenFile) (n k : ℕ) → n ≡ prefix_len is_within_line (drop f.at f.buffer.items) → n < length (drop f.at f.buffer.items) → lines_of (rest_of m f) ≡ without_return (take n (drop f.at f.buffer.items)) ∷ lines_of (rest_of m (record { name = f.name; buffer = f.buffer; at = f.at + (n + 1); next = f.next; line = k; spare = f.spare }))
 first_at_hand m f n k e lt =
     let here = drop f.at f.buffer.items in
@@ -70,7 +70,7 @@ first_at_hand m f n k e lt =
     let gone : drop (n + 1) here ≡ drop (f.at + (n + 1)) f.buffer.items = drop-drop (n + 1) f.at f.buffer.items in
     piece_ends [] here following n refl e lt ∙ ap (λ l. without_return (take n here) ∷ lines_of (l ++ following)) gone
 
--- a line that is read where it stands
+-- a line that is read in the buffer
 pub file_peeked : (m : Files) (f : OpenFile) (n k : ℕ) (ts : List Lexeme) → IsFirstLine (drop f.at f.buffer.items) n ts → k ≡ f.line + 1 → ReadsFileLine (remaining_file_lines m f) k ts (remaining_file_lines m (record { name = f.name; buffer = f.buffer; at = f.at + (n + 1); next = f.next; line = k; spare = f.spare }))
 file_peeked m f n k ts (e, lt, read) number =
     let following = drop f.next (readable_bytes m f.name) in
@@ -79,7 +79,7 @@ file_peeked m f n k ts (e, lt, read) number =
 
 -- ---- Lines of bodies.
 
--- what is left of a body begins with the line at its place
+-- the remaining lines of a body begin with the line at the index
 played_at : (e : Substitution) (lines : List StoredLine) (at : ℕ) (x : StoredLine) → at < length lines → x ≡ get_or lines at x → map (body_line e) (drop at (map tokens_in lines)) ≡ body_line e (tokens_in x) ∷ map (body_line e) (drop (at + 1) (map tokens_in lines))
 played_at e lines at x h same = grind (arith, common_steps, drop-map)
 

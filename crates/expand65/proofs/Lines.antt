@@ -1,4 +1,4 @@
--- The first line of what an open file has.
+-- The first line of the unread bytes of an open file.
 use Rattle.std.proofs.lemmas.Grind.{common_steps}
 use Rattle.std.proofs.Common.{◌≡◌, ℕ, ◌+◌, ◌-◌, ◌<◌, ◌≤◌, List, [], ◌++◌, length, take, drop, min, refl, sym, ap, ◌∙◌, subst, arith, Option, Some, None, IfSome, Bool, true, false, nat_le, nat_lt, get_or, suc, ◌∷◌, length-append, append_assoc, add-one, one-add, length-drop, Ok}
 use Rattle.std.proofs.lemmas.Bool.Decides.{nat_tests}
@@ -13,9 +13,9 @@ use Rattle.memchr.specs.Find.{IsFirstByte, is_byte}
 use Rattle.std.proofs.Math.Seq.{drop-append-add}
 use Rattle.expand65.specs.declared.file.OpenFile.{OpenFile}
 
--- ---- What an open file has, once more of it is at hand.
+-- ---- The unread bytes after a refill of the buffer.
 
--- within the part of a file that is read
+-- a piece and the bytes after it are the unread bytes up to the maximum size
 within_limit : (bs : List ℕ) (at k n : ℕ) → n ≤ k → take n (drop at bs) ++ drop (at + n) (take (at + k) bs) ≡ drop at (take (at + k) bs)
 within_limit bs at k n h =
     let all : drop at (take (at + k) bs) ≡ take k (drop at bs) = drop-take at k bs in
@@ -40,7 +40,7 @@ next_piece bs limit at max_len n piece h p = rw p.pending (by (nat_le at limit) 
         let same : at + 0 ≡ at = omega arith in
         subst P none (ap (λ k. drop k (take limit bs)) same)
 
--- where nothing more comes
+-- an empty piece: no bytes are unread
 pub no_piece : (bs : List ℕ) (limit at max_len n : ℕ) (piece : List ℕ) → (at < limit → 0 < max_len) → IsPiece (drop at bs) max_len n piece → n ≡ 0 → drop (at + n) (take limit bs) ≡ []
 no_piece bs limit at max_len n piece h p e = drop_all (at + n) (take limit bs) (by (nat_lt at limit) refl)
   where
@@ -54,7 +54,7 @@ no_piece bs limit at max_len n piece h p e = drop_all (at + n) (take limit bs) (
         let more : limit ≤ at = grind (arith, nat_tests, ge) in
         omega (arith, more, length-take limit bs)
 
--- ---- As a store tells its files.
+-- ---- If the store's files are known.
 
 pub told_kept : (o : Option Files) (name old : List ℕ) (at next max_len n : ℕ) (piece : List ℕ) → length old ≤ at → max_len ≤ min 4096 (16777216 - next) → IfSome o (λ m. IsPiece (drop next (bytes_of m name)) max_len n piece) → IfSome o (λ m. drop 0 piece ++ drop (next + n) (readable_bytes m name) ≡ drop at old ++ drop next (readable_bytes m name))
 told_kept None name old at next max_len n piece h w r = tt
@@ -66,7 +66,7 @@ pub told_none : (o : Option Files) (name : List ℕ) (next max_len n : ℕ) (pie
 told_none None name next max_len n piece w l r = tt
 told_none (Some m) name next max_len n piece w l r = λ e. rw e (no_piece (bytes_of m name) 16777216 next max_len n piece w r (sym l ∙ ap length e))
 
--- ---- Where the first line ends.
+-- ---- The end of the first line.
 
 stays_inside : (b : ℕ) → (is_byte 10 b ≡ true → ⊥) → is_within_line b ≡ true
 stays_inside b h = grind (arith, common_steps)
@@ -74,7 +74,7 @@ stays_inside b h = grind (arith, common_steps)
 ends_line : (b : ℕ) → is_byte 10 b ≡ true → is_within_line b ≡ false
 ends_line b e = rw e refl
 
--- the first LF, or the end
+-- the index of the first LF, or the length
 pub line_end : (bs : List ℕ) (r : Option ℕ) → IsFirstByte (is_byte 10) bs r → prefix_len is_within_line bs ≡ unwrap_or r (length bs)
 line_end bs None h = prefix_len_is is_within_line bs (length bs) 0 (omega arith) (λ k l. stays_inside (get_or bs k 0) (h k (omega arith) l)) (λ l. absurd (omega (arith, l)))
 line_end bs (Some n) h = prefix_len_is is_within_line bs n 0 (omega (arith, h.0.high)) (λ k l. stays_inside (get_or bs k 0) (h.0.before k (omega arith) l)) (λ l. ends_line (get_or bs n 0) h.1)
@@ -102,7 +102,7 @@ prefix_end b bs e = rw e refl
 prefix_more : (b : ℕ) (bs : List ℕ) → is_line_end b ≡ false → prefix_len is_within_line (b ∷ bs) ≡ suc (prefix_len is_within_line bs)
 prefix_more b bs e = rw e (one-add (prefix_len is_within_line bs))
 
--- a line that doesn't end
+-- a line without a line end
 pub last_line : (b : ℕ) (bs : List ℕ) → prefix_len is_within_line (b ∷ bs) ≡ length (b ∷ bs) → lines_of (b ∷ bs) ≡ (b ∷ bs) ∷ []
 last_line b [] h = grind (arith, common_steps, prefix_end)
 last_line b (c ∷ bs) h = grind (arith, common_steps, (last_line c bs), prefix_end, prefix_more, lines_inside)
@@ -118,9 +118,9 @@ no_return_alone b r = rw r refl
 return_after : (b c : ℕ) (bs : List ℕ) → without_return (b ∷ c ∷ bs) ≡ b ∷ without_return (c ∷ bs)
 return_after b c bs = grind (arith, common_steps)
 
--- ---- The first line's end.
+-- ---- The first line and the rest.
 
--- what stands in front of the first line's end, and what behind it
+-- the bytes before the first line end, and the bytes after it
 front : List ℕ → List ℕ
 front bs = take (prefix_len is_within_line bs) bs
 
@@ -175,9 +175,9 @@ ended_line bs h = ended bs h
 pub ended_there : (bs : List ℕ) (n : ℕ) → n ≡ prefix_len is_within_line bs → n < length bs → lines_of bs ≡ without_return (take n bs) ∷ lines_of (drop (n + 1) bs)
 ended_there bs n e lt = let P : ℕ → Type 0 = λ k. lines_of bs ≡ without_return (take k bs) ∷ lines_of (drop (k + 1) bs) in subst P (sym e) (rw add-one (ended_line bs (omega arith)))
 
--- ---- A line that is gathered piece by piece.
+-- ---- A line that is read in pieces.
 
--- no line ends within these bytes
+-- these bytes contain no line end
 abbrev pub IsPart : List ℕ → Type 0
 IsPart bs = prefix_len is_within_line bs ≡ length bs
 
@@ -185,11 +185,11 @@ pub prefix_append : (front more : List ℕ) → IsPart front → prefix_len is_w
 prefix_append [] more h = omega arith
 prefix_append (b ∷ bs) more h = grind (arith, common_steps, (prefix_append bs more), prefix_end, prefix_more)
 
--- more of a line
+-- appending to a part of a line
 pub part_append : (front more : List ℕ) → IsPart front → IsPart more → IsPart (front ++ more)
 part_append front more h k = prefix_append front more h ∙ omega (arith, length-append front more, k)
 
--- the line's end
+-- at the end of the line
 pub part_ends : (front more : List ℕ) (b : ℕ) → IsPart front → is_line_end b ≡ true → lines_of (front ++ b ∷ more) ≡ without_return front ∷ lines_of more
 part_ends front more b h e =
     let n : length front ≡ prefix_len is_within_line (front ++ b ∷ more) = sym (prefix_append front (b ∷ more) h ∙ ap (λ k. length front + k) (prefix_end b more e) ∙ omega arith) in
@@ -197,7 +197,7 @@ part_ends front more b h e =
     let gone : drop (length front + 1) (front ++ b ∷ more) ≡ more = drop-append-add front (b ∷ more) 1 in
     ended_there (front ++ b ∷ more) (length front) n lt ∙ rw (take_at front (b ∷ more) (length front) refl, gone) refl
 
--- the file's end
+-- at the end of the file
 pub part_is_last : (front : List ℕ) → (front ≡ [] → ⊥) → IsPart front → lines_of front ≡ front ∷ []
 part_is_last [] some h = absurd (some refl)
 part_is_last (b ∷ bs) some h = last_line b bs h
@@ -213,7 +213,7 @@ whole : (bs : List ℕ) → 0 < length bs → prefix_len is_within_line bs ≡ l
 whole [] some h = absurd (omega arith)
 whole (b ∷ bs) some h = last_line b bs h
 
--- a line that has too many bytes, whatever follows
+-- a line that is too long, whatever follows
 pub part_is_long : (front more : List ℕ) → IsPart front → 4097 < length front → FirstLineIsTooLong (lines_of (front ++ more))
 part_is_long front more h long = by (nat_lt (prefix_len is_within_line (front ++ more)) (length (front ++ more))) refl
   where
@@ -233,14 +233,14 @@ part_is_long front more h long = by (nat_lt (prefix_len is_within_line (front ++
         let big : 4096 < length (front ++ more) = omega (arith, all, long) in
         (front ++ more, ([], whole (front ++ more) (omega (arith, big)) (omega (arith, ge, le)), big))
 
--- the bytes before a line's end
+-- the bytes before the first line end
 pub front_is_part : (bs : List ℕ) → IsPart (take (prefix_len is_within_line bs) bs)
 front_is_part [] = refl
 front_is_part (b ∷ bs) = grind (arith, common_steps, (front_is_part bs), prefix_end, prefix_more)
 
--- ---- A piece of a line at hand.
+-- ---- A buffered piece of a line.
 
--- it is too much
+-- the piece is too long
 pub piece_too_long : (line here following : List ℕ) (n : ℕ) → IsPart line → n ≡ prefix_len is_within_line here → n ≤ length here → 4097 < length line + n → FirstLineIsTooLong (lines_of (line ++ (here ++ following)))
 piece_too_long line here following n h e le long =
     let P : ℕ → Type 0 = λ k. IsPart (take k here) in
@@ -252,12 +252,12 @@ piece_too_long line here following n h e le long =
     let Q : List ℕ → Type 0 = λ l. FirstLineIsTooLong (lines_of l) in
     subst Q whole (part_is_long (line ++ take n here) (drop n here ++ following) (part_append line (take n here) h piece) more)
 
--- what stands behind the bytes before a line's end
+-- the byte after the bytes before the first line end is a line end
 pub stops : (bs : List ℕ) (b : ℕ) (cs : List ℕ) → drop (prefix_len is_within_line bs) bs ≡ b ∷ cs → is_line_end b ≡ true
 stops [] b cs e = absurd cc
 stops (a ∷ bs) b cs e = grind (arith, common_steps, (stops bs b cs), prefix_end, prefix_more)
 
--- it ends the line
+-- the piece ends the line
 pub piece_ends : (line here following : List ℕ) (n : ℕ) → IsPart line → n ≡ prefix_len is_within_line here → n < length here → lines_of (line ++ (here ++ following)) ≡ without_return (line ++ take n here) ∷ lines_of (drop (n + 1) here ++ following)
 piece_ends line here following n h e lt =
     by (drop n here) refl
@@ -278,7 +278,7 @@ piece_ends line here following n h e lt =
 pub piece_is_part : (line here : List ℕ) (n : ℕ) → IsPart line → n ≡ prefix_len is_within_line here → IsPart (line ++ take n here)
 piece_is_part line here n h e = let P : ℕ → Type 0 = λ k. IsPart (take k here) in part_append line (take n here) h (subst P (sym e) (front_is_part here))
 
--- bytes have a line
+-- nonempty bytes have a first line
 pub some_line : (b : ℕ) (bs : List ℕ) → (line : List ℕ) × ((others : List (List ℕ)) × (lines_of (b ∷ bs) ≡ line ∷ others))
 some_line b bs = by (nat_lt (prefix_len is_within_line (b ∷ bs)) (length (b ∷ bs))) refl
   where
@@ -291,7 +291,7 @@ some_line b bs = by (nat_lt (prefix_len is_within_line (b ∷ bs)) (length (b �
         let le : prefix_len is_within_line (b ∷ bs) ≤ length (b ∷ bs) = prefix_within (b ∷ bs) in
         (b ∷ bs, ([], whole (b ∷ bs) (omega arith) (omega (arith, ge, le))))
 
--- ---- A line that is gathered piece by piece from an open file.
+-- ---- A line of an open file that is read in pieces.
 
 pub moved_to : (P : Files → Type 0) (o p : Option Files) → p ≡ o → IfSome p P → IfSome o P
 moved_to P o p e w = let Q : Option Files → Type 0 = λ q. IfSome q P in subst Q e w

@@ -1,4 +1,4 @@
--- Lists of names with commas between them, and names each once.
+-- Lists of names separated by commas, and lists without repetitions.
 use Rattle.std.proofs.Common.{◌≡◌, ℕ, ◌+◌, ◌<◌, Bool, true, false, not, ◌||◌, nat_eq, List, [], ◌∷◌, ◌++◌, map, take, drop, length, get_or, refl, sym, ap, ◌∙◌, arith, Vec, Global, Bor, None, zero, suc, Option, Some, append_assoc, subst, ◌≤◌}
 use Rattle.std.specs.List.{list_any}
 use Rattle.std.specs.Prelude.{if◌then◌else◌, ◌==◌, ◌&&◌}
@@ -13,7 +13,7 @@ use Rattle.std.proofs.lemmas.Grind.{common_steps}
 use Rattle.syntax65.specs.Tokens.{Lexeme}
 use Rattle.expand65.specs.LineStart.{is_comma, names_from, ◌>=>◌}
 
--- ---- Names of which no two are alike, found one after another; and tables that take one more name.
+-- ---- Distinct names, and tables with one further name.
 
 number_sym : (a b : ℕ) → nat_eq a b ≡ nat_eq b a
 number_sym a b = grind (arith, nat_tests)
@@ -24,7 +24,7 @@ bytes_sym [] (y ∷ ys) = refl
 bytes_sym (x ∷ xs) [] = refl
 bytes_sym (x ∷ xs) (y ∷ ys) = rw (number_sym x y, bytes_sym xs ys) refl
 
--- one more name at the end, unlike those before
+-- appending a name that is unlike all names before it
 pub one_more : (xs : List (List ℕ)) (y : List ℕ) → are_distinct xs ≡ true → list_any (bytes_eq y) xs ≡ false → are_distinct (xs ++ y ∷ []) ≡ true
 one_more [] y d n = refl
 one_more (x ∷ xs) y d n = by (list_any (bytes_eq x) xs) refl (bytes_eq y x) refl (λ a b. one_more xs y a b)
@@ -38,7 +38,7 @@ one_more (x ∷ xs) y d n = by (list_any (bytes_eq x) xs) refl (bytes_eq y x) re
         let unlike : list_any (bytes_eq x) (xs ++ y ∷ []) ≡ false = list_any-append (bytes_eq x) xs (y ∷ []) ∙ rw (e, bytes_sym x y, f) refl in
         rw unlike (ih rest others)
 
--- a name that is like one before it
+-- a repeated name
 again : (xs ys : List (List ℕ)) (y : List ℕ) → list_any (bytes_eq y) xs ≡ true → are_distinct (xs ++ y ∷ ys) ≡ false
 again [] ys y h = absurd (cc)
 again (x ∷ xs) ys y h = by (list_any (bytes_eq x) (xs ++ y ∷ ys)) refl (bytes_eq y x) refl (λ k. again xs ys y k)
@@ -63,7 +63,7 @@ not_distinct ns i y e h =
     let no : are_distinct ns ≡ false = ap are_distinct (sym whole) ∙ again (take i ns) (drop (i + 1) ns) y h in
     rw no refl
 
--- ---- The names of a list, put into a set one after another.
+-- ---- The names of a list, added to a set in order.
 
 abbrev Named : Type 0
 Named = Bor (List ℕ)
@@ -92,34 +92,34 @@ names_more names i d value keys more is_new l v k a f h e =
       ap are_distinct further ∙ one_more (take i ns) value.items h (known value keys (take i ns) false k absent),
     )
 
--- ---- Lists of names with commas between them, read from a place on.
+-- ---- Names separated by commas, from an index on.
 
--- a name in front of others
+-- a name before others
 pub after_name : (o : Option (List (List ℕ))) (n : List ℕ) (found : List (List ℕ)) → ((o >=> (λ ns. Some (n ∷ ns))) >=> (λ ns. Some (found ++ ns))) ≡ (o >=> (λ ns. Some ((found ++ n ∷ []) ++ ns)))
 after_name x n found = grind (arith, common_steps)
 
--- where no name stands
+-- there is no name at the index
 pub no_name : (ts : List Lexeme) (at : ℕ) → name_at ts at ≡ None → names_from true (drop at ts) ≡ None
 no_name [] zero e = refl
 no_name [] (suc at) e = refl
 no_name (t ∷ ts) zero e = rw e refl
 no_name (t ∷ ts) (suc at) e = no_name ts at e
 
--- a name that is the last
+-- the name is the last token
 pub last_name : (ts : List Lexeme) (at : ℕ) (n : List ℕ) → name_at ts at ≡ Some n → at + 1 ≡ length ts → names_from true (drop at ts) ≡ Some (n ∷ [])
 last_name [] at n e h = absurd (omega arith)
 last_name (t ∷ []) zero n e h = rw e refl
 last_name (t ∷ u ∷ ts) zero n e h = absurd (omega arith)
 last_name (t ∷ ts) (suc at) n e h = last_name ts at n e (omega arith)
 
--- a name without a comma behind it, though more stands there
+-- a name followed by a token that is no comma
 pub name_alone : (ts : List Lexeme) (at : ℕ) (n : List ℕ) → name_at ts at ≡ Some n → at + 1 < length ts → is_comma_at ts (at + 1) ≡ false → names_from true (drop at ts) ≡ None
 name_alone [] at n e h f = absurd (omega arith)
 name_alone (t ∷ []) zero n e h f = absurd (omega arith)
 name_alone (t ∷ u ∷ ts) zero n e h f = let g : is_comma u ≡ false = f in rw (e, g) refl
 name_alone (t ∷ ts) (suc at) n e h f = name_alone ts at n e (omega arith) (let P : ℕ → Type 0 = λ k. is_comma_at (t ∷ ts) k ≡ false in let one : suc at + 1 ≡ suc (at + 1) = omega arith in subst P one f)
 
--- a name and a comma behind it
+-- a name followed by a comma
 pub name_and_comma : (ts : List Lexeme) (at : ℕ) (n : List ℕ) → name_at ts at ≡ Some n → is_comma_at ts (at + 1) ≡ true → names_from true (drop at ts) ≡ (names_from true (drop (at + 2) ts) >=> (λ ns. Some (n ∷ ns)))
 name_and_comma [] zero n e f = absurd cc
 name_and_comma [] (suc at) n e f = absurd cc
@@ -132,7 +132,7 @@ name_and_comma (t ∷ ts) (suc at) n e f =
     let Q : ℕ → Type 0 = λ k. names_from true (drop (suc at) (t ∷ ts)) ≡ (names_from true (drop k (t ∷ ts)) >=> (λ ns. Some (n ∷ ns))) in
     subst Q (sym two) (name_and_comma ts at n e (subst P one f))
 
--- ---- What was found so far, and what follows.
+-- ---- The names so far, and the names after them.
 
 pub found_none : (o p : Option (List (List ℕ))) (found : List (List ℕ)) → o ≡ (p >=> (λ ns. Some (found ++ ns))) → p ≡ None → None ≡ o
 found_none o p found e h = sym (e ∙ rw h refl)
@@ -143,12 +143,12 @@ found_last o p found n e h = sym (e ∙ rw h refl)
 pub found_next : (o p q : Option (List (List ℕ))) (found : List (List ℕ)) (n : List ℕ) → o ≡ (p >=> (λ ns. Some (found ++ ns))) → p ≡ (q >=> (λ ns. Some (n ∷ ns))) → o ≡ (q >=> (λ ns. Some ((found ++ n ∷ []) ++ ns)))
 found_next o p q found n e h = e ∙ rw h (after_name q n found)
 
--- ---- What stands between commas, part by part.
+-- ---- The parts between commas, in order.
 
 abbrev ends_part : ℕ → Lexeme → Bool
 ends_part d t = is_comma t && (d == 0)
 
--- a last part
+-- the last part
 pub last_part : (d : ℕ) (ts : List Lexeme) → length ts ≤ argument_len d ts → arguments_within d ts ≡ ts ∷ []
 last_part d [] h = refl
 last_part d (t ∷ ts) h = by (ends_part d t) refl (last_part (braces_after d t) ts)
@@ -157,12 +157,12 @@ last_part d (t ∷ ts) h = by (ends_part d t) refl (last_part (braces_after d t)
     by true e next = absurd (let z : argument_len d (t ∷ ts) ≡ 0 = rw e refl in omega arith)
     by false e next = let n : argument_len d (t ∷ ts) ≡ 1 + argument_len (braces_after d t) ts = rw e refl in rw e (ap (prepend_to_first t) (next (omega arith)))
 
--- a part and a comma behind it
+-- a part followed by a comma
 pub next_part : (d : ℕ) (ts : List Lexeme) → argument_len d ts < length ts → arguments_within d ts ≡ take (argument_len d ts) ts ∷ arguments_within 0 (drop (argument_len d ts + 1) ts)
 next_part d [] h = absurd (omega arith)
 next_part d (t ∷ ts) h = grind (arith, common_steps, (next_part (braces_after d t) ts))
 
--- ---- The parts so far, and one more.
+-- ---- The parts so far, and one further part.
 
 pub parts_end : (done all : List (List Lexeme)) (rest x : List Lexeme) (n : ℕ) → n ≡ argument_len 0 rest → length rest ≤ n → x ≡ without_braces (take n rest) → done ++ map without_braces (arguments_within 0 rest) ≡ all → done ++ x ∷ [] ≡ all
 parts_end done all rest x n e h same so_far = grind (arith, common_steps, last_part, take_all)

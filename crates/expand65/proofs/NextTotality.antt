@@ -1,4 +1,4 @@
--- From each state of a source something comes next: each step leads on, and leaves less.
+-- Each state of a source has a next statement, end or error: each step has a result and shrinks the input.
 use Rattle.std.proofs.Common.{◌≡◌, ℤ, pos, negsuc, ℕ, zero, suc, ◌+◌, ◌*◌, ◌<◌, ◌≤◌, Bool, true, false, not, List, [], ◌∷◌, ◌++◌, map, Option, Some, None, refl, sym, ap, subst, arith, if◌then◌else◌}
 use Rattle.std.specs.Prelude.{Result, Ok, Err, ⊤, length, drop, nat_le, ◌==◌}
 use Rattle.std.specs.Option.{option_map_or}
@@ -23,7 +23,7 @@ use Rattle.expand65.specs.State.{condition_step, defined_in, defined_tree, else_
 use Rattle.expand65.specs.Types.{ExprFault, ExpandFault, Nested, NotClosed, NotUnderstood, Directive, Macro, EndMacro, ExitMacro, Local, Repeat, EndRepeat, If, ElseIf, Else, EndIf, Include, Error, End, ConditionKind, True, Defined, NotDefined, Blank, NotBlank}
 use Rattle.expand65.proofs.BlockTotality.{AreFewer, IsBlockOf, IsTakenOf, some_block, some_taken}
 
--- ---- Lines that are put in front.
+-- ---- Pushed lines.
 
 -- lines without an end mark
 abbrev AreOpen : List Item → Type 0
@@ -68,7 +68,7 @@ no_weight (label_rest ts ∷ is) js h = absurd h
 no_weight (elseif_rest ts ∷ is) js h = absurd h
 no_weight (end_mark k ∷ is) js h = absurd h
 
--- ---- What is left behind an expansion, and with names of its own.
+-- ---- The input after a macro call, and with local names.
 
 localised_lines : (names : List (List ℕ)) (is : List Item) → AreLines is → AreLines (with_local_names names is)
 localised_lines names [] h = tt
@@ -114,7 +114,7 @@ stands (label_rest ts ∷ is) h = absurd h
 stands (elseif_rest ts ∷ is) h = absurd h
 stands (end_mark k ∷ is) h = h
 
--- ---- What is read.
+-- ---- Results of reading.
 
 understood_own : {A : Type 0} (o : Option A) → Own is_system_error (ok_or_not_understood o)
 understood_own None = bad _ refl
@@ -170,7 +170,7 @@ header_own ts (Ok (e, n)) = next (ok_or_not_understood (variable_of (drop n ts))
 repeat_own : (k : EnvironmentView) (ts : List Lexeme) (q : Result (Tree × ℕ) ExprFault) → Own is_system_error (repeat_of k ts q)
 repeat_own k ts q = next (repeat_header ts q) _ (header_own ts q) (λ h. next (iterations_of (k.value h.0)) _ (turns_own (k.value h.0)) (λ n. good _))
 
--- ---- A step that leads to less than this, whatever it reads.
+-- ---- Steps that lead to a smaller measure, whatever they read.
 
 abbrev IsLess : ℕ → StepResult → Type 0
 IsLess n (continues t) = IsOrdered t × (input_measure t < n)
@@ -194,7 +194,7 @@ some_led m n (reads_line l next) h = let t = some_taken l.items l.room l.place h
 some_led m n (reads_block k l next) h = let q = some_block k l h.0 in (and_then_result q.0 (λ b. next b.0 b.1), (q.0, q.1, refl), h.1 q.0 q.2)
 some_led m n (searches l names next) h = some_led m n (next (first_file m names)) (h (first_file m names) (file_own m names))
 
--- ---- Each step does.
+-- ---- Each step leads to a smaller measure.
 
 module _ (n : ℕ) where
   goes_on : (t : State) → AreLines t.left.items → input_measure t < n → IsLess n (continues t)
@@ -226,7 +226,7 @@ module _ (n : ℕ) where
       by (Err e) j = j
 
   module _ (s : State) (lines : AreLines s.left.items) (le : input_measure s + 2 ≤ n) where
-    -- fewer lines leave less, even with what stands before them
+    -- with a smaller budget the measure is at most `n - 5`, which suffices for a pushed line
     fewer : (x : RemainingInput) → AreFewer s.left.items s.left.room x → 3 * x.room + weight x.items + 5 ≤ n
     fewer x h = let less = h.room in let light = h.light in omega arith
 
@@ -316,7 +316,7 @@ module _ (n : ℕ) where
     acted_on k ts (Some d) = directed_on k d (drop 1 ts)
     acted_on k ts None = ordinary_on ts
 
-  -- ---- A line, or an end mark.
+  -- ---- A line or an end mark.
 
   split_on : (k : EnvironmentView) (s : State) (ts : List Lexeme) (d : Option Directive) (len : ℕ) → AreLines s.left.items → input_measure s + 3 ≤ n → LeadsOn n (label_step k s ts d len)
   split_on k s ts d zero lines le = acted_on s lines (omega arith) k ts d
@@ -358,7 +358,7 @@ some_step : (m : Files) (k : EnvironmentView) (s : State) → IsOrdered s → (r
 unfolding IsStep
 some_step m k s h = some_led m (input_measure s) (step_from k s s.left.items) (from_on k s s.left.items refl h)
 
--- ---- What comes next.
+-- ---- The next statement, end or error.
 
 abbrev HasNext : Files → EnvironmentView → State → Type 0
 HasNext m k s = (n : Next) × ReachesNext m k s n × DecreasesInput s n
@@ -381,7 +381,7 @@ next_within (suc n) m k s lt h = let r = some_step m k s h in led r.0 r.1 r.2 (�
     led (ends t) step j more = (nothing t, ended s t step, tt)
     led (raises e) step j more = (fault e, stopped s e step, j)
 
--- ---- A source's first state.
+-- ---- The first state of a source.
 
 abbrev last : InputEnd
 last = record { is_macro = false; conditions = 0; return_location = None }

@@ -1,4 +1,4 @@
--- Lines without a label and a directive, and what they do to blocks.
+-- Lines without a label and a directive, and their effect on blocks.
 use Rattle.std.proofs.lemmas.Grind.{common_steps}
 use Rattle.std.proofs.Common.{arith, ◌≡◌, ◌∙◌, ℕ, zero, suc, Bool, true, false, not, List, [], ◌∷◌, Option, None, Result, ap, refl, subst, sym}
 use Rattle.std.specs.Prelude.{if◌then◌else◌, ◌&&◌, slice_get}
@@ -31,7 +31,7 @@ right ts e = rw e refl
 none : (ts : List Lexeme) → IsPlain ts → line_directive ts ≡ None
 none ts (e, f) = rw e f
 
--- what a line does by its directive
+-- the effect of a line is the effect of its directive
 judged_is : (k : BlockKind) (d : ℕ) (ts : List Lexeme) (o : Option Directive) → is_mislabelled ts ≡ false → line_directive ts ≡ o → line_verdict k d ts ≡ block_verdict k d ts o
 judged_is k d ts o right e = rw (right, e) refl
 
@@ -53,7 +53,7 @@ judged_wrong k d ts e = rw e refl
 pub judged_by : (k self : BlockKind) (d : ℕ) (ts : List Lexeme) (o : Option Directive) (r : Result BlockStep ExpandFault) → self ≡ k → is_mislabelled ts ≡ false → line_directive ts ≡ o → RefinesVerdict r (block_verdict k d ts o) → RefinesVerdict r (line_verdict self d ts)
 judged_by k self d ts o r is right e h = subst (RefinesVerdict r) (sym (judged_is self d ts o right e ∙ ap (λ j. block_verdict j d ts o) is)) h
 
--- a plain line changes nothing but the lines that are kept
+-- a plain line leaves the block open
 pub plain_judged : (k : BlockKind) (d : ℕ) (ts : List Lexeme) → IsPlain ts → line_verdict k d ts ≡ still_open d
 plain_judged k d ts p = judged_none k d ts (right ts p.0) (none ts p)
 

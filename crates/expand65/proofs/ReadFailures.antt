@@ -1,4 +1,4 @@
--- Where lines were being read when the store failed.
+-- The location of reading after a store failure.
 use Rattle.std.proofs.lemmas.Grind.{common_steps}
 use Rattle.std.proofs.Common.{arith, ◌≡◌, ◌∙◌, ℕ, Bool, true, List, [], ◌∷◌, ◌++◌, refl, sym, ap, subst, Option, Some, None, IfSome, false, Ok}
 use Rattle.base65.specs.Store.{Files, LastFailure}
@@ -39,7 +39,7 @@ none_played : (n : ℕ) (lines : List (List ℕ)) (e : Substitution) (ts : List 
 none_played n [] e ts is h = absurd cc
 none_played n (line ∷ lines) e ts is h = absurd cc
 
--- the line of a file that comes next
+-- a failure within the next line of a file
 within_next : (m : Files) (last_failure : LastFailure) (s : LineSource) (tail : List Item) (n : NextLine) (l : RemainingInput) → IsFile s → HasNextLine (remaining_in m s) n → (n ≡ AtEnd → ⊥) → l.items ≡ remaining_in m s ++ tail → IsReadingAt m last_failure (location_after_next n l.place) → FailsAtLine m last_failure l (location_after_next n l.place)
 within_next m last_failure (source.File f) tail AtEnd l h c more same a = absurd (more refl)
 within_next m last_failure (source.File f) tail (Numbered n) l h (bytes, (others, e)) more same a = within n bytes (others ++ tail) (same ∙ ap (λ is. is ++ tail) e) a
@@ -55,13 +55,13 @@ fails_within (Some m) last_failure old mid location n h c s more p a =
     let P : SourceLocation → Type 0 = λ q. FailsAtLine m last_failure (remaining_of m old) q in
     subst P (sym p) (within_next m last_failure mid tail n (remaining_of m old) h c more items (subst (IsReadingAt m last_failure) p a))
 
--- a reader that stopped there
+-- the input stack after the failure
 pub stopped_so : (o : Option Files) (IsLocation : Files → SourceLocation → Type 0) (old new : InputStack) (f : ExpandFault) → end_mark_of new.top ≡ end_mark_of old.top → (is_failure f ≡ true → IfSome o (λ m. IsLocation m new.location)) → IfSome o (λ m. is_failure f ≡ true → IsAtFailure (IsLocation m) old new)
 stopped_so x y old new f k h = grind (arith, common_steps)
 
 -- ---- Blocks.
 
--- where the store fails in the rest of a block, it fails in the block
+-- a failure in the rest of a block is a failure in the block
 abbrev pub Fails : BlockKind → ℕ → InputStack → InputStack → Files → Type 0
 Fails k d reader first m = (last_failure : LastFailure) (p : SourceLocation) → FailsInBlock m last_failure k d (remaining_of m reader) p → FailsInBlock m last_failure k 0 (remaining_of m first) p
 
@@ -69,7 +69,7 @@ pub line_read : (k : BlockKind) (o : Option Files) (first reader new : InputStac
 line_read k None first reader new d c ts h t j = tt
 line_read k (Some m) first reader new d c ts h t j = λ last_failure p f. h last_failure p (after_line d c (remaining_of m reader) (remaining_of m new) ts p (some_line (remaining_of m reader) (remaining_of m new) ts t) j f)
 
--- lines that change nothing
+-- skipping plain lines
 over_plainly : (m : Files) (last_failure : LastFailure) (k : BlockKind) (d : ℕ) (l n : RemainingInput) (p : SourceLocation) → SkipsPlainLines l n → FailsInBlock m last_failure k d n p → FailsInBlock m last_failure k d l p
 over_plainly m last_failure k d _ _ p (no_line l) h = h
 over_plainly m last_failure k d _ _ p (a_line l i n passed (ts, taken, plain)) h = over_plainly m last_failure k d l i p passed (after_line d d i n ts p taken (plain_judged k d ts plain) h)
@@ -82,7 +82,7 @@ plainly_read k (Some m) first reader new d passed h = by (is_collected k) (passe
     by true same = λ last_failure p f. h last_failure p (subst (λ l. FailsInBlock m last_failure k d l p) same f)
     by false over = λ last_failure p f. h last_failure p (over_plainly m last_failure k d (remaining_of m reader) (remaining_of m new) p over f)
 
--- a reader that stopped at a line of a block
+-- the input stack after a failure in a line of the block
 pub stops_on : (last_failure : LastFailure) (k : BlockKind) (o : Option Files) (first reader new : InputStack) (d : ℕ) (f : ExpandFault) → IfSome o (Fails k d reader first) → end_mark_of reader.top ≡ end_mark_of first.top → IfSome o (λ m. is_failure f ≡ true → IsAtFailure (FailsAtLine m last_failure (remaining_of m reader)) reader new) → IfSome o (λ m. is_failure f ≡ true → IsAtFailure (FailsInBlock m last_failure k 0 (remaining_of m first)) first new)
 stops_on last_failure k None first reader new d f h e s = tt
 stops_on last_failure k (Some m) first reader new d f h e s = λ failed. (let so = s failed in record { is_location = h last_failure new.location (at_line d (remaining_of m reader) new.location so.is_location); mark = so.mark ∙ e })

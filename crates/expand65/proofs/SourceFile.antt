@@ -1,4 +1,4 @@
--- A source is the file of its name, which is a text.
+-- A source is the file with its name, if the name is UTF-8.
 use Rattle.std.proofs.Common.{◌≡◌, ℕ, true, List, Option, Some, None, Result, Ok, refl, sym, subst, IfSome}
 use Rattle.std.specs.FinMap as fmap
 use Rattle.std.specs.Str.{IsUtf8, is_utf8}

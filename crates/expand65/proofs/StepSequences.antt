@@ -1,4 +1,4 @@
--- What the first line that is left leads to, and steps one after another.
+-- Single steps, by the first item of the input, and sequences of steps.
 use Rattle.std.proofs.lemmas.Grind.{common_steps}
 use Rattle.std.proofs.Common.{arith, ◌≡◌, ℕ, Bool, true, false, List, [], ◌∷◌, ◌++◌, drop, Option, Some, None, IfSome, Result, Ok, Err, refl, sym, subst}
 use Rattle.base65.specs.Outcome.{Unless}
@@ -25,12 +25,12 @@ use Rattle.expand65.specs.declared.expander.PendingLine.{PendingLine}
 use Rattle.expand65.specs.declared.expander.PendingLine.TheVariants.{Nothing, Rest, Branch, End}
 use Rattle.expand65.specs.declared.expander.Statement.{Statement}
 
--- ---- What a call answers leads to a step of another word for it.
+-- ---- Line outcomes that refine equal steps.
 
 pub turns_so : (r : Result LineOutcome ExpandFault) (s : State) (P Q : StepResult → Type 0) → ((x : StepResult) → P x → Q x) → RefinesLineOutcome r s P → RefinesLineOutcome r s Q
 turns_so x s y z f h = grind (arith, common_steps)
 
--- the same step, by another word
+-- equal steps
 pub turns_by : (o : Option Files) (r : Result LineOutcome ExpandFault) (new : Preprocessor) (x y : Files → ExpansionStep) → ((m : Files) → x m ≡ y m) → IfSome o (λ m. RefinesLineOutcome r (state_of m new) (StepReaches m (x m))) → IfSome o (λ m. RefinesLineOutcome r (state_of m new) (StepReaches m (y m)))
 turns_by None r new x y e h = tt
 turns_by (Some m) r new x y e h = subst (λ z. RefinesLineOutcome r (state_of m new) (StepReaches m z)) (e m) h
@@ -51,7 +51,7 @@ no_call m r t ts h = grind (arith, common_steps)
 pub unlabelled : (k : EnvironmentView) (s : State) (ts : List Lexeme) → label_len ts ≡ 0 → unless_mislabelled k s ts (is_mislabelled ts) ≡ line_step k s ts (first_directive ts)
 unlabelled k s ts e = grind (arith, common_steps)
 
--- ---- The first line that is left of the inputs.
+-- ---- The first line of the remaining input.
 
 abbrev pub BeginsPlain : List Item → Type 0
 BeginsPlain (label_rest ts ∷ is) = ⊥
@@ -77,11 +77,11 @@ takes_first k s (label_rest ts ∷ is) b = absurd b
 takes_first k s (elseif_rest ts ∷ is) b = absurd b
 takes_first k s (end_mark x ∷ is) b = refl
 
--- a line or an end mark comes first in the state of a rewriter
+-- in the state of a preprocessor, the next item is a line or an end mark
 pub first_taken : (m : Files) (k : EnvironmentView) (r : Preprocessor) → step_from k (state_of m r) (remaining_of m r.stack).items ≡ reads_line (remaining_of m r.stack) (step_after k (state_of m r))
 first_taken m k r = takes_first k (state_of m r) (remaining_of m r.stack).items (begins_at_line m r)
 
--- the step of a state in which a line or an end mark comes first
+-- the step of a state whose next item is a line or an end mark
 pub step_taken : (m : Files) (k : EnvironmentView) (r : Preprocessor) (t : LineAndRest) (x : StepResult) → ReadsNextLine (remaining_of m r.stack) t → StepReaches m (step_after k (state_of m r) t) x → IsStep m k (state_of m r) x
 unfolding IsStep
 step_taken m k r t x h b = subst (λ z. StepReaches m z x) (sym (first_taken m k r)) (t, h, b)
@@ -100,7 +100,7 @@ refused_step m k r f p h = by (is_system_error f) h
 pub where_both : (o : Option Files) (P Q R : Files → Type 0) → ((m : Files) → P m → Q m → R m) → IfSome o P → IfSome o Q → IfSome o R
 where_both x y z u f h k = grind (arith, common_steps)
 
--- the file of a string is looked for
+-- `.include` searches the file that its string names
 pub include_is : (s : State) (ts : List Lexeme) (name : List ℕ) → string_of ts ≡ Some name → include_file s name ≡ and_then_step s (ok_or_not_understood (string_of ts)) (include_file s)
 include_is s ts name e = rw e refl
 
@@ -108,7 +108,7 @@ include_is s ts name e = rw e refl
 pub include_found : (m : Files) (s : State) (name beside file : List ℕ) (folders : List (List ℕ)) (x : StepResult) → beside ≡ s.left.place.file → folders ≡ s.folders → first_file m (candidate_names beside folders name) ≡ Ok (file_of m file) → x ≡ file_step s (file_of m file) → StepReaches m (include_file s name) x
 include_found m s name beside file folders x b f h e = grind (arith, common_steps)
 
--- ---- The step by what stands in front of the lines.
+-- ---- The step by the pending line.
 
 pub step_rest : (m : Files) (k : EnvironmentView) (e : Expander) (line : StoredLine) (x : StepResult) → e.pending ≡ Rest line → StepReaches m (line_step k (state_of m e.processor) (tokens_in line) (first_directive (tokens_in line))) x → IsStep m k (state_in m e) x
 unfolding IsStep
@@ -125,9 +125,9 @@ step_end m k (Rest line) s h = absurd (cc)
 step_end m k (Branch line) s h = absurd (cc)
 step_end m k End s h = (Ok (None, (with_pending End s).left), refl, refl)
 
--- ---- From a state to what comes next.
+-- ---- From a state to its next statement, end or error.
 
--- what is reached from e is reached from i
+-- all that expander `e` reaches is reached from `i`
 abbrev pub ReachesAll : EnvironmentView → Expander → Expander → Files → Type 0
 ReachesAll k i e m = (n : Next) → ReachesNext m k (state_in m e) n → ReachesNext m k (state_in m i) n
 
@@ -153,5 +153,3 @@ came_to_fault (Some m) k i e new f h s = by (is_system_error f) s
     by : (b : Bool) → Unless b (IsStep m k (state_in m e) (raises (f, location_of new))) → Unless b (ReachesNext m k (state_in m i) (fault (f, location_of new)))
     by true s = tt
     by false s = h (fault (f, location_of new)) (stopped (state_in m e) (f, location_of new) s)
-
--- ---- From what an expander stands for.

@@ -1,4 +1,4 @@
--- Tables of names: those of an expansion, and the macros.
+-- Tables of names: local names and macros.
 use Rattle.std.proofs.Common.{◌≡◌, ℕ, ◌+◌, ◌-◌, ◌<◌, ◌||◌, Bool, cond, List, [], ◌∷◌, ◌++◌, length, map, take, drop, get_or, reverse, Some, position, refl, sym, ap, ◌∙◌, arith, Bor, Vec, Global}
 use Rattle.std.specs.List.{list_any, position_from}
 use Rattle.std.specs.Map.{lookup}
@@ -26,19 +26,19 @@ from_mapped p f i (x ∷ xs) = ap (cond (p (f x)) (Some i)) (from_mapped p f (i 
 pub position_mapped : {A B : Type 0} (p : B → Bool) (f : A → B) (xs : List A) → position p (map f xs) ≡ position (λ x. p (f x)) xs
 position_mapped p f xs = position_from-zero p (map f xs) ∙ from_mapped p f 0 xs ∙ sym (position_from-zero (λ x. p (f x)) xs)
 
--- a table seen by other keys and values
+-- a lookup in a table whose keys and values are mapped
 pub lookup_mapped : {K L X Y : Type 0} (p : L → Bool) (f : K → L) (g : X → Y) (es : List (K × X)) → lookup p (map (λ e. (f e.0, g e.1)) es) ≡ option_map g (lookup (λ k. p (f k)) es)
 lookup_mapped p f g [] = refl
 lookup_mapped p f g (e ∷ es) = grind (arith, common_steps, (lookup_mapped p f g es))
 
--- the front of a list is what stands last in the list the other way round
+-- the reverse of a prefix is a suffix of the reverse
 pub reverse_take : {A : Type 0} (n : ℕ) (xs : List A) → reverse (take n xs) ≡ drop (length (reverse xs) - n) (reverse xs)
 reverse_take n xs =
     let whole : reverse xs ≡ reverse (drop n xs) ++ reverse (take n xs) = ap reverse (sym (take-append-drop n xs)) ∙ reverse-append (take n xs) (drop n xs) in
     let count : length (reverse (drop n xs)) ≡ length (reverse xs) - n = length-reverse (drop n xs) ∙ length-drop n xs ∙ ap (λ k. k - n) (sym (length-reverse xs)) in
     sym (ap (drop (length (reverse xs) - n)) whole ∙ std_drop_at (reverse (drop n xs)) (reverse (take n xs)) (length (reverse xs) - n) count)
 
--- what stands at a place of a list that is seen by a function
+-- a prefix of a mapped list, and one further element
 pub take_seen : {A B : Type 0} (f : A → B) (xs : List A) (i : ℕ) (d : A) → i < length xs → take (i + 1) (map f xs) ≡ take i (map f xs) ++ f (get_or xs i d) ∷ []
 take_seen f xs i d h = take-map f (i + 1) xs ∙ ap (map f) (take_more xs i d h) ∙ map-append f (take i xs) (get_or xs i d ∷ []) ∙ ap (λ l. l ++ f (get_or xs i d) ∷ []) (sym (take-map f i xs))
 
@@ -49,13 +49,13 @@ pub any_seen : {A B : Type 0} (p : B → Bool) (f : A → B) (xs : List A) → l
 any_seen p f [] = refl
 any_seen p f (x ∷ xs) = ap (λ b. p (f x) || b) (any_seen p f xs)
 
--- ---- Tables of names: an expansion's own, and the macros.
+-- ---- Tables of names: local names and macros.
 
--- whether two names are the same
+-- whether two names are equal
 abbrev pub same_name : Vec ℕ Global → Vec ℕ Global → Bool
 same_name a b = bytes_eq a.items b.items
 
--- a name of an expansion's own with what stands for it
+-- a local name with its replacement
 abbrev pub local_of : Vec ℕ Global × StoredLine → List ℕ × List Lexeme
 local_of e = (e.0.items, tokens_in e.1)
 
@@ -63,21 +63,21 @@ pub inserted : (es : List (Vec ℕ Global × StoredLine)) (k : Vec ℕ Global) (
 inserted [] k v = refl
 inserted (e ∷ es) k v = grind (arith, common_steps, (inserted es k v))
 
--- other names of an expansion's own
+-- the substitution with other local names
 abbrev pub own_locals : Substitution → List (List ℕ × List Lexeme) → Substitution
 own_locals r ls = record { params = r.params; arguments = r.arguments; count = r.count; locals = ls; number = r.number }
 
--- the names one after another
+-- adding one name after the others
 pub all_more : (n : ℕ) (names : List (List ℕ)) (name : List ℕ) (ls : List (List ℕ × List Lexeme)) → all_local n (names ++ name ∷ []) ls ≡ with_local (all_local n names ls) name (local_name_token n name ∷ [])
 all_more n [] name ls = refl
 all_more n (x ∷ names) name ls = all_more n names name (with_local ls x (local_name_token n x ∷ []))
 
--- more names for the lines up to the end mark
+-- adding local names to the lines up to the end mark
 pub localised_lines : (names : List (List ℕ)) (e : Substitution) (ls : List (List Lexeme)) (k : InputEnd) (is : List Item) → with_local_names names (map (body_line e) ls ++ end_mark k ∷ is) ≡ map (body_line (with_locals names e)) ls ++ end_mark k ∷ is
 localised_lines names e [] k is = refl
 localised_lines names e (l ∷ ls) k is = ap (λ x. body_line (with_locals names e) l ∷ x) (localised_lines names e ls k is)
 
--- ---- One more name of an expansion's own, and more.
+-- ---- One further local name, and then more.
 
 pub with_own : (old : Replay) (es : List (Vec ℕ Global × StoredLine)) (k : Vec ℕ Global) (v : StoredLine) (name : List ℕ) → es ≡ insert_entry same_name old.locals.entries k v → k.items ≡ name → tokens_in v ≡ local_name_token old.number name ∷ [] → own_locals (substitution_of old) (map local_of es) ≡ with_locals (name ∷ []) (substitution_of old)
 with_own old es k v name e n t =
@@ -90,7 +90,7 @@ more_names names i d init old new l h e =
     let name = (get_or names i d).now in
     h ∙ ap (with_locals (name ∷ [])) e ∙ ap (own_locals init) (sym (all_more init.number (take i ns) name init.locals)) ∙ ap (λ l. with_locals l init) (sym (take_seen (λ s. s.now) names i d l))
 
--- what is left of an expansion, with more names
+-- the remaining lines of a macro call with further local names
 pub left_localised : (m : Files) (old new : Replay) (names : List (List ℕ)) (k : InputEnd) (is : List Item) → substitution_of new ≡ with_locals names (substitution_of old) → new.body ≡ old.body → new.at ≡ old.at → remaining_replay new ++ end_mark k ∷ is ≡ with_local_names names (remaining_replay old ++ end_mark k ∷ is)
 left_localised m old new names k is r b a =
     let ls = drop old.at (map tokens_in old.body.value.lines) in

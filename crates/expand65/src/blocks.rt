@@ -84,7 +84,7 @@ fn macro_step(
 ) -> Result<BlockStep, ExpandFault>
     ensures step { RefinesVerdict result
         (block_verdict BlockKind.Macro depth (lexemes tokens.now) (Some directive)) }
-    ensures inside { IfErr result (λ e. is_failure e ≡ false) }
+    ensures no_failure { IfErr result (λ e. is_failure e ≡ false) }
 {
     match directive {
         Directive::EndMacro => closed_alone(tokens, BlockEnd::End),
@@ -101,7 +101,7 @@ fn repeat_step(
 ) -> Result<BlockStep, ExpandFault>
     ensures step { RefinesVerdict result
         (block_verdict BlockKind.Repeat depth (lexemes tokens.now) (Some directive)) }
-    ensures inside { IfErr result (λ e. is_failure e ≡ false) }
+    ensures no_failure { IfErr result (λ e. is_failure e ≡ false) }
 {
     match directive {
         Directive::Repeat => nested_block_step(depth),
@@ -115,8 +115,9 @@ fn repeat_step(
 /// conditions open.
 fn remaining_branches_step(directive: Directive, depth: u32) -> Result<BlockStep, ExpandFault>
     ensures step { (ts : List Lexeme) →
-        RefinesVerdict result (block_verdict BlockKind.RemainingBranches depth ts (Some directive)) }
-    ensures inside { IfErr result (λ e. is_failure e ≡ false) }
+        RefinesVerdict result (block_verdict BlockKind.RemainingBranches depth ts
+        (Some directive)) }
+    ensures no_failure { IfErr result (λ e. is_failure e ≡ false) }
 {
     match directive {
         Directive::If(_) => nested_block_step(depth),
@@ -134,7 +135,7 @@ fn branch_step(
 ) -> Result<BlockStep, ExpandFault>
     ensures step { RefinesVerdict result
         (block_verdict BlockKind.Skipped 0 (lexemes tokens.now) (Some directive)) }
-    ensures inside { IfErr result (λ e. is_failure e ≡ false) }
+    ensures no_failure { IfErr result (λ e. is_failure e ≡ false) }
 {
     match directive {
         Directive::If(_) => Ok(BlockStep::Open(1)),
@@ -157,7 +158,7 @@ fn skipped_step(
 ) -> Result<BlockStep, ExpandFault>
     ensures step { RefinesVerdict result
         (block_verdict BlockKind.Skipped depth (lexemes tokens.now) (Some directive)) }
-    ensures inside { IfErr result (λ e. is_failure e ≡ false) }
+    ensures no_failure { IfErr result (λ e. is_failure e ≡ false) }
 {
     if depth == 0 {
         return branch_step(alloc, directive, tokens);
@@ -185,7 +186,7 @@ impl BlockKind {
         depth: u32,
     ) -> Result<BlockStep, ExpandFault>
         ensures step { RefinesVerdict result (line_verdict self depth (lexemes tokens.now)) }
-        ensures inside { IfErr result (λ e. is_failure e ≡ false) }
+        ensures no_failure { IfErr result (λ e. is_failure e ≡ false) }
     {
         if is_mislabelled(tokens) {
             return Err(ExpandFault::NotUnderstood);
@@ -204,7 +205,7 @@ impl BlockKind {
     /// Returns the effect of a line on the block with `depth` nested blocks open.
     fn step(self, alloc: Global, line: &StoredLine, depth: u32) -> Result<BlockStep, ExpandFault>
         ensures step { RefinesVerdict result (line_verdict self depth (tokens_in line.now)) }
-        ensures inside { IfErr result (λ e. is_failure e ≡ false) }
+        ensures no_failure { IfErr result (λ e. is_failure e ≡ false) }
     {
         if line.is_plain() {
             return Ok(BlockStep::Open(depth));
@@ -232,10 +233,12 @@ impl BlockKind {
 impl InputStack {
     /// Skips plain lines, if lines of this kind aren't kept.
     fn skip_uncollected_lines(&mut self, kind: BlockKind)
-        ensures skipped { (m : Files) → SkipsUncollectedLines (is_collected kind) (remaining_of m self.old) (remaining_of m self.new) }
+        ensures skipped { (m : Files) →
+            SkipsUncollectedLines (is_collected kind) (remaining_of m self.old)
+            (remaining_of m self.new) }
         ensures budget { self.new.budget ≤ self.old.budget }
         ensures innermost { PreservesInnermost self.old self.new }
-        ensures stands { (m : Files) → IsStackPositioned m self.old → IsStackPositioned m self.new }
+        ensures stack_position { (m : Files) → IsStackPositioned m self.old → IsStackPositioned m self.new }
     {
         if !kind.is_collected() {
             self.skip_plain_lines();
@@ -250,15 +253,18 @@ impl InputStack {
         kind: BlockKind,
     ) -> Result<WholeBlock, ExpandFault>
         ensures read { IfSome (S.files store.old) (λ m.
-            RefinesLocated (λ b. ((map tokens_in b.lines, branch_of b.end), remaining_of m self.new))
+            RefinesLocated (λ b.
+            ((map tokens_in b.lines, branch_of b.end), remaining_of m self.new))
             self.new.location result (Block kind 0 [] (remaining_of m self.old))) }
-        ensures room { OnOk result (self.new.budget < self.old.budget) }
+        ensures remaining_budget { OnOk result (self.new.budget < self.old.budget) }
         ensures innermost { PreservesInnermost self.old self.new }
-        ensures stands { IsStackPositionedIfKnown (S.files store.old) self.old →
+        ensures stack_position { IsStackPositionedIfKnown (S.files store.old) self.old →
             OnOk result (IsStackPositionedIfKnown (S.files store.old) self.new) }
         ensures frame { ReadFrame S.files S.failures store.old store.new result }
-        ensures stopped { IsStackPositionedIfKnown (S.files store.old) self.old → IfSome (S.files store.old) (λ m.
-            HasFailureLocation (FailsInBlock m (S.last_failure store.new) kind 0 (remaining_of m self.old))
+        ensures stopped { IsStackPositionedIfKnown (S.files store.old) self.old →
+            IfSome (S.files store.old) (λ m.
+            HasFailureLocation (FailsInBlock m (S.last_failure store.new) kind 0
+            (remaining_of m self.old))
             self.old self.new result) }
     {
         let mut lines = ListVec::new(alloc);

@@ -23,7 +23,7 @@ pub fn parse_expression(alloc: Global, tokens: &[Token<'_>]) -> Result<Expr, Exp
     ensures value { RefinesRel is_system_error (λ x. x) result
         (λ r. (q : Result (Tree × ℕ) ExprFault) × IsParsed (lexemes tokens.now) q ×
         (r ≡ complete_expression (length (lexemes tokens.now)) q)) }
-    ensures inside { IfErr result (λ e. is_failure e ≡ false) }
+    ensures no_failure { IfErr result (λ e. is_failure e ≡ false) }
 {
     let (value, count) = read_expr(alloc, tokens)?;
     if count != tokens.len() {
@@ -36,7 +36,7 @@ pub fn parse_expression(alloc: Global, tokens: &[Token<'_>]) -> Result<Expr, Exp
 fn is_nonzero<K: Knows>(alloc: Global, knows: &K, tokens: &[Token<'_>]) -> Result<bool, ExpandFault>
     ensures value { RefinesRel is_system_error (λ b. b) result
         (IsCondition (K.meaning knows.now) ConditionKind.True (lexemes tokens.now)) }
-    ensures inside { IfErr result (λ e. is_failure e ≡ false) }
+    ensures no_failure { IfErr result (λ e. is_failure e ≡ false) }
 {
     let value = parse_expression(alloc, tokens)?;
     match knows.value(alloc, &value)? {
@@ -54,8 +54,9 @@ fn begins_parenthesis(tokens: &[Token<'_>]) -> bool
 
 /// Returns whether a name is that of a label or constant. Any other expression is an error.
 fn is_name_defined<K: Knows>(alloc: Global, knows: &K, expr: &Expr) -> Result<bool, ExpandFault>
-    ensures value { Refines is_system_error (λ b. b) result (defined_tree (K.meaning knows.now) expr.now) }
-    ensures inside { IfErr result (λ e. is_failure e ≡ false) }
+    ensures value { Refines is_system_error (λ b. b) result
+        (defined_tree (K.meaning knows.now) expr.now) }
+    ensures no_failure { IfErr result (λ e. is_failure e ≡ false) }
 {
     match expr.kind() {
         ExprKind::Plain(name) => Ok(knows.defined(&Name::of(alloc, name.as_slice())?)),
@@ -68,7 +69,7 @@ fn is_name_defined<K: Knows>(alloc: Global, knows: &K, expr: &Expr) -> Result<bo
 fn is_defined<K: Knows>(alloc: Global, knows: &K, tokens: &[Token<'_>]) -> Result<bool, ExpandFault>
     ensures value { RefinesRel is_system_error (λ b. b) result
         (IsCondition (K.meaning knows.now) ConditionKind.Defined (lexemes tokens.now)) }
-    ensures inside { IfErr result (λ e. is_failure e ≡ false) }
+    ensures no_failure { IfErr result (λ e. is_failure e ≡ false) }
 {
     let name = parse_expression(alloc, tokens)?;
     if begins_parenthesis(tokens) {
@@ -86,7 +87,7 @@ pub fn evaluate_condition<K: Knows>(
 ) -> Result<bool, ExpandFault>
     ensures value { RefinesRel is_system_error (λ b. b) result
         (IsCondition (K.meaning knows.now) test (lexemes tokens.now)) }
-    ensures inside { IfErr result (λ e. is_failure e ≡ false) }
+    ensures no_failure { IfErr result (λ e. is_failure e ≡ false) }
 {
     match test {
         ConditionKind::True => is_nonzero(alloc, knows, tokens),
@@ -135,7 +136,8 @@ impl Conditions {
 
     /// Removes and returns the innermost condition, if more than `bound` are open.
     pub fn pop_above(&mut self, bound: usize) -> Option<bool>
-        ensures pops { without_last_condition self.old bound ≡ option_map (λ b. (b, self.new)) result }
+        ensures pops { without_last_condition self.old bound ≡
+            option_map (λ b. (b, self.new)) result }
         ensures same { IfNone result (self.new ≡ self.old) }
     {
         if self.flags.len() <= bound {

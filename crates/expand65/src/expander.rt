@@ -90,7 +90,8 @@ impl Expander {
             RepresentsFirstState m result (first_state_in m file.now options.now.include)) }
         ensures files { S.files store.new ≡ S.files store.old }
         ensures size { IfOk result (λ e. measure_of e ≤ 3145729) }
-        ensures count { PropagatesIoError ExpandFault.FileError (S.failures store.old) (S.failures store.new) result }
+        ensures count { PropagatesIoError ExpandFault.FileError (S.failures store.old)
+            (S.failures store.new) result }
         ensures last_failure { IsErrOf result ExpandFault.FileError →
             FailedAt (S.last_failure store.new) file.now 16777216 }
         ensures at_last_count { FailsAtLastCount is_system_error (S.failures store.old) result }
@@ -132,13 +133,16 @@ impl Expander {
             IsPositioned m self.old → OnOk result (IsPositioned m self.new)) }
         // If the store fails, the location is that of the line read last.
         ensures stopped { IfSome (S.files store.old) (λ m.
-            HasFailureBetweenStatements m (S.last_failure store.new) (K.meaning knows.now) self.old result self.new) }
+            HasFailureBetweenStatements m (S.last_failure store.new)
+            (K.meaning knows.now) self.old result self.new) }
         ensures failed { OnErr result (self.new.failed ≡ true) }
         ensures before { self.old.failed ≡ true → result ≡ Err ExpandFault.FailedBefore }
         // Expansion terminates.
-        ensures size { IfOk result (λ o. IfSome o (λ _. measure_of self.new < measure_of self.old)) }
+        ensures size { IfOk result (λ o.
+            IfSome o (λ _. measure_of self.new < measure_of self.old)) }
         ensures files { S.files store.new ≡ S.files store.old }
-        ensures count { PropagatesIoError ExpandFault.FileError (S.failures store.old) (S.failures store.new) result }
+        ensures count { PropagatesIoError ExpandFault.FileError (S.failures store.old)
+            (S.failures store.new) result }
     {
         if self.failed {
             return Err(ExpandFault::FailedBefore);
@@ -155,7 +159,8 @@ impl Expander {
     #[inline(always)]
     pub fn peek<'a>(&'a self, tokens: &mut LineTokens<'a>) -> Option<Peeked>
         requires { HasNoTokens tokens.old }
-        ensures lookahead { IfSome result (λ p. IsPeekedLine self.now p (stored_lexemes tokens.new)) }
+        ensures lookahead { IfSome result (λ p.
+            IsPeekedLine self.now p (stored_lexemes tokens.new)) }
         ensures within { tokens.new.few.count ≤ 8 }
     {
         if self.failed || !matches!(self.pending, PendingLine::Nothing) {
@@ -169,7 +174,8 @@ impl Expander {
     /// preprocessor directive or calls a macro.
     #[inline(always)]
     pub fn unexpanded_label_len(&self, tokens: &[Token<'_>]) -> Option<usize>
-        ensures given { IfSome result (λ n. NeedsNoExpansion n self.now.processor (lexemes tokens.now)) }
+        ensures statements { IfSome result (λ n.
+            NeedsNoExpansion n self.now.processor (lexemes tokens.now)) }
         ensures within { IfSome result (λ n. n ≤ length tokens.now) }
     {
         let len = label_len(tokens);
@@ -186,10 +192,11 @@ impl Expander {
     /// Reads the line that `peek` returned.
     #[inline(always)]
     pub fn consume_peeked(&mut self, line: Peeked)
-        ensures given { (n : ℕ) (ts : List Lexeme) → IsPeekedLine self.old line ts →
+        ensures statements { (n : ℕ) (ts : List Lexeme) → IsPeekedLine self.old line ts →
             NeedsNoExpansion n self.old.processor ts →
             YieldsStatements self.old (line_statements (take n ts) (drop n ts)) self.new }
-        ensures current_location { location_of self.new ≡ location_at (location_of self.old) line.number }
+        ensures current_location { location_of self.new ≡
+            location_at (location_of self.old) line.number }
         ensures less { (ts : List Lexeme) → IsPeekedLine self.old line ts →
             measure_of self.new < measure_of self.old }
         ensures positioned { (m : Files) (ts : List Lexeme) → IsPeekedLine self.old line ts →
@@ -202,8 +209,9 @@ impl Expander {
     /// After a statement this is the location of the statement, and after an error that of the
     /// error.
     pub fn place(&self) -> (&str, u32)
-        ensures current_location { (result.0.now ≡ (location_of self.now).file) × (result.1 ≡ (location_of self.now).line) }
-        ensures stands { (m : Files) (s : State) →
+        ensures current_location { (result.0.now ≡ (location_of self.now).file) ×
+            (result.1 ≡ (location_of self.now).line) }
+        ensures stack_position { (m : Files) (s : State) →
             RepresentsState m self.now s → (result.0.now ≡ s.left.place.file) ×
             (result.1 ≡ s.left.place.line) }
     {
@@ -228,13 +236,17 @@ impl Expander {
         knows: &K,
     ) -> Result<Option<Statement>, ExpandFault>
         ensures next_item { IfSome (S.files store.old) (λ m.
-            RefinesNext m (K.meaning knows.now) (state_in m self.old) result (state_in m self.new)) }
-        ensures stands { IsStackPositionedIfKnown (S.files store.old) self.old.processor.stack →
+            RefinesNext m (K.meaning knows.now) (state_in m self.old) result
+            (state_in m self.new)) }
+        ensures stack_position { IsStackPositionedIfKnown (S.files store.old) self.old.processor.stack →
             OnOk result (IsStackPositionedIfKnown (S.files store.old) self.new.processor.stack) }
-        ensures stopped { IsStackPositionedIfKnown (S.files store.old) self.old.processor.stack → IfSome (S.files store.old) (λ m.
-            HasFailureWhileReading m (S.last_failure store.new) (K.meaning knows.now) (state_in m self.old) result
+        ensures stopped { IsStackPositionedIfKnown (S.files store.old) self.old.processor.stack →
+            IfSome (S.files store.old) (λ m.
+            HasFailureWhileReading m (S.last_failure store.new) (K.meaning knows.now)
+            (state_in m self.old) result
             (end_mark_of self.new.processor.stack.top) (location_of self.new)) }
-        ensures size { IfOk result (λ o. IfSome o (λ _. measure_of self.new < measure_of self.old)) }
+        ensures size { IfOk result (λ o.
+            IfSome o (λ _. measure_of self.new < measure_of self.old)) }
         ensures frame { ReadFrame S.files S.failures store.old store.new result }
     {
         'steps: loop {
@@ -256,15 +268,18 @@ impl Expander {
         knows: &K,
     ) -> Result<LineOutcome, ExpandFault>
         requires { is_end self.old.pending ≡ false }
-        ensures turns { IfSome (S.files store.old) (λ m.
+        ensures outcome { IfSome (S.files store.old) (λ m.
             RefinesLineOutcome result (state_of m self.new.processor)
             (IsStep m (K.meaning knows.now) (state_in m self.old))) }
-        ensures stands { IsStackPositionedIfKnown (S.files store.old) self.old.processor.stack →
+        ensures stack_position { IsStackPositionedIfKnown (S.files store.old) self.old.processor.stack →
             OnOk result (IsStackPositionedIfKnown (S.files store.old) self.new.processor.stack) }
-        ensures stopped { IsStackPositionedIfKnown (S.files store.old) self.old.processor.stack → IfSome (S.files store.old) (λ m.
-            HasFailureWhileReading m (S.last_failure store.new) (K.meaning knows.now) (state_in m self.old) result
+        ensures stopped { IsStackPositionedIfKnown (S.files store.old) self.old.processor.stack →
+            IfSome (S.files store.old) (λ m.
+            HasFailureWhileReading m (S.last_failure store.new) (K.meaning knows.now)
+            (state_in m self.old) result
             (end_mark_of self.new.processor.stack.top) (location_of self.new)) }
-        ensures size { IfOk result (λ t. size_of self.new.processor + weight_of t < measure_of self.old) }
+        ensures size { IfOk result (λ t. size_of self.new.processor + weight_of t <
+            measure_of self.old) }
         ensures front { OnErr result (self.new.pending ≡ PendingLine.Nothing) }
         ensures frame { ReadFrame S.files S.failures store.old store.new result }
     {
@@ -283,9 +298,10 @@ impl Expander {
     /// Stores the pending line of an outcome. Returns its statement, if any.
     #[inline(always)]
     fn apply_outcome(&mut self, line_outcome: LineOutcome) -> Option<Statement>
-        ensures led { (m : Files) →
-            outcome_of_line (state_of m self.old.processor) line_outcome ≡ step_of (state_in m self.new) result }
-        ensures stands { self.new.processor ≡ self.old.processor }
+        ensures pending { (m : Files) →
+            outcome_of_line (state_of m self.old.processor) line_outcome ≡
+            step_of (state_in m self.new) result }
+        ensures processor { self.new.processor ≡ self.old.processor }
         ensures size { measure_of self.new ≡ size_of self.old.processor + weight_of line_outcome }
     {
         let (pending, statement) = match line_outcome {
@@ -308,7 +324,7 @@ fn initial_input_stack(alloc: Global, file: &str) -> Result<InputStack, AllocErr
     ensures lines { IfOk result (λ r. (m : Files) →
         length (bytes_of m file.now) ≤ 16777216 → remaining_of m r ≡ initial_input file.now
         (bytes_of m file.now)) }
-    ensures stands { (m : Files) → IfOk result (IsStackPositioned m) }
+    ensures stack_position { (m : Files) → IfOk result (IsStackPositioned m) }
     ensures size { IfOk result (λ r. 3 * r.budget + length r.outer.items ≤ 3145728) }
 {
     let top = Input {

@@ -98,7 +98,8 @@ impl OpenFile {
     fn refill_buffer<S: Store>(&mut self, store: &mut S) -> Result<(), ExpandFault>
         requires all { length self.old.buffer.items ≤ self.old.at }
         requires more { self.old.next < 16777216 }
-        ensures kept { IfSome (S.files store.old) (λ m. OnOk result (rest_of m self.new ≡ rest_of m self.old)) }
+        ensures kept { IfSome (S.files store.old) (λ m.
+            OnOk result (rest_of m self.new ≡ rest_of m self.old)) }
         ensures front { OnOk result (self.new.at ≡ 0) }
         ensures none { IfSome (S.files store.old) (λ m.
             OnOk result (self.new.buffer.items ≡ [] → rest_of m self.new ≡ [])) }
@@ -124,7 +125,8 @@ impl OpenFile {
     /// Returns whether the file has more bytes, after filling the buffer.
     #[inline(always)]
     pub fn has_more<S: Store>(&mut self, store: &mut S) -> Result<bool, ExpandFault>
-        ensures kept { IfSome (S.files store.old) (λ m. OnOk result (rest_of m self.new ≡ rest_of m self.old)) }
+        ensures kept { IfSome (S.files store.old) (λ m.
+            OnOk result (rest_of m self.new ≡ rest_of m self.old)) }
         ensures more { IfOk result (λ b. IsTrue b → self.new.at < length self.new.buffer.items) }
         ensures none { IfSome (S.files store.old) (λ m.
             IfOk result (λ b. b ≡ false → rest_of m self.new ≡ [])) }
@@ -153,12 +155,15 @@ impl OpenFile {
         ensures read { (following : List ℕ) →
             AppendsPiece line.old.items (drop self.old.at self.old.buffer.items) following result
             line.new.items (drop self.new.at self.new.buffer.items) }
-        ensures part { OnOk result (prefix_len is_within_line line.new.items ≡ length line.new.items) }
+        ensures part { OnOk result (prefix_len is_within_line line.new.items ≡
+            length line.new.items) }
         ensures few { OnOk result (length line.new.items ≤ 4097) }
-        ensures inside { IfErr result (λ e. is_failure e ≡ false) }
-        ensures more { IfOk result (λ ended. ended ≡ false → length line.old.items < length line.new.items) }
+        ensures no_failure { IfErr result (λ e. is_failure e ≡ false) }
+        ensures more { IfOk result (λ ended. ended ≡ false →
+            length line.old.items < length line.new.items) }
         ensures ended { IfOk result (λ ended. ended ≡ true →
-            IsTerminatedLine (line.old.items ++ drop self.old.at self.old.buffer.items) line.new.items
+            IsTerminatedLine (line.old.items ++
+            drop self.old.at self.old.buffer.items) line.new.items
             (drop self.new.at self.new.buffer.items)) }
         ensures same { (self.new.name ≡ self.old.name) × (self.new.next ≡ self.old.next) ×
             (self.new.line ≡ self.old.line) }
@@ -188,9 +193,11 @@ impl OpenFile {
         requires { self.old.at < length self.old.buffer.items }
         ensures read { IfSome (S.files store.old) (λ m.
             ReadsLine (lines_of (rest_of m self.old)) result (lines_of (rest_of m self.new))) }
-        ensures following { IfSome (S.files store.old) (λ m. IsFileAfterLines m self.old self.old.line →
+        ensures following { IfSome (S.files store.old) (λ m.
+            IsFileAfterLines m self.old self.old.line →
             OnOk result (IsFileAfterLines m self.new (self.old.line + 1))) }
-        ensures last_failure { IfSome (S.files store.old) (λ m. IsFileAfterLines m self.old self.old.line →
+        ensures last_failure { IfSome (S.files store.old) (λ m.
+            IsFileAfterLines m self.old self.old.line →
             IfErr result (λ e. is_failure e ≡ true → IsReadingAt m (S.last_failure store.new)
             (line_location self.old.name (self.old.line + 1)))) }
         ensures line { self.new.line ≡ self.old.line }

@@ -145,7 +145,8 @@ fn find_in_folders<S: Store>(
     name: &[u8],
 ) -> Result<PathString, ExpandFault>
     ensures found { IfSome (S.files store.old) (λ m.
-        Refines is_system_error (file_of m) result (first_file m (map (path_in name.now) folders.now))) }
+        Refines is_system_error (file_of m) result
+        (first_file m (map (path_in name.now) folders.now))) }
     ensures last_failure { IsErrOf result ExpandFault.FileError →
         FailedOnOneOf (S.last_failure store.new) (map (path_in name.now) folders.now) }
     ensures frame { ReadFrame S.files S.failures store.old store.new result }
@@ -168,7 +169,8 @@ pub fn find_file<S: Store>(
     name: &[u8],
 ) -> Result<PathString, ExpandFault>
     ensures found { IfSome (S.files store.old) (λ m.
-        Refines is_system_error (file_of m) result (first_file m (candidate_names file.now folders.now name.now))) }
+        Refines is_system_error (file_of m) result
+        (first_file m (candidate_names file.now folders.now name.now))) }
     ensures last_failure { IsErrOf result ExpandFault.FileError →
         FailedOnOneOf (S.last_failure store.new) (candidate_names file.now folders.now name.now) }
     ensures frame { ReadFrame S.files S.failures store.old store.new result }

@@ -67,12 +67,13 @@ impl OpenFile {
         ensures more { IfOk result (λ n. (n ≡ NextLine.AtEnd →
             ⊥) → self.new.at < length self.new.buffer.items) }
         ensures system_errors { IfErr result (λ e. is_system_error e ≡ true) }
-        ensures onward { (p : SourceLocation) → p.line ≡ self.old.line → IfOk result (λ n.
+        ensures location_after { (p : SourceLocation) → p.line ≡ self.old.line → IfOk result (λ n.
             (n ≡ NextLine.AtEnd → ⊥) → location_after_next n p ≡ location_at p (p.line + 1)) }
         ensures line { self.new.line ≡ self.old.line }
         ensures at { IfSome (S.files store.old) (λ m. (p : SourceLocation) → IsFileAt m self.old p →
             OnOk result (IsFileAt m self.new p)) }
-        ensures last_failure { IfSome (S.files store.old) (λ m. (p : SourceLocation) → IsFileAt m self.old p →
+        ensures last_failure { IfSome (S.files store.old) (λ m. (p : SourceLocation) →
+            IsFileAt m self.old p →
             IfErr result (λ e. is_failure e ≡ true → IsReadingAt m (S.last_failure store.new) p)) }
         ensures frame { ReadFrame S.files S.failures store.old store.new result }
     {
@@ -90,10 +91,12 @@ impl OpenFile {
     fn read_buffered_line(&mut self, alloc: Global, len: usize) -> Result<StoredLine, ExpandFault>
         requires end { len ≡ prefix_len is_within_line (drop self.old.at self.old.buffer.items) }
         requires within { len < length (drop self.old.at self.old.buffer.items) }
-        ensures taken { (m : Files) → ReadsStoredLine (remaining_file_lines m self.old) result (remaining_file_lines m self.new) }
+        ensures next_line { (m : Files) →
+            ReadsStoredLine (remaining_file_lines m self.old) result
+            (remaining_file_lines m self.new) }
         ensures at { (m : Files) (p : SourceLocation) → IsFileAt m self.old p →
             OnOk result (IsFileAt m self.new (location_at p (p.line + 1))) }
-        ensures inside { IfErr result (λ e. is_failure e ≡ false) }
+        ensures no_failure { IfErr result (λ e. is_failure e ≡ false) }
     {
         let (_, rest) = self.buffer.split_at(self.at);
         let (bytes, _) = rest.split_at(len);
@@ -113,11 +116,13 @@ impl OpenFile {
         store: &mut S,
     ) -> Result<StoredLine, ExpandFault>
         requires { self.old.at < length self.old.buffer.items }
-        ensures taken { IfSome (S.files store.old) (λ m.
-            ReadsStoredLine (remaining_file_lines m self.old) result (remaining_file_lines m self.new)) }
+        ensures next_line { IfSome (S.files store.old) (λ m.
+            ReadsStoredLine (remaining_file_lines m self.old) result
+            (remaining_file_lines m self.new)) }
         ensures at { IfSome (S.files store.old) (λ m. (p : SourceLocation) → IsFileAt m self.old p →
             OnOk result (IsFileAt m self.new (location_at p (p.line + 1)))) }
-        ensures last_failure { IfSome (S.files store.old) (λ m. (p : SourceLocation) → IsFileAt m self.old p →
+        ensures last_failure { IfSome (S.files store.old) (λ m. (p : SourceLocation) →
+            IsFileAt m self.old p →
             IfErr result (λ e. is_failure e ≡ true → IsReadingAt m (S.last_failure store.new)
             (location_at p (p.line + 1)))) }
         ensures frame { ReadFrame S.files S.failures store.old store.new result }
@@ -150,8 +155,9 @@ impl Replay {
     /// Returns the kind of the body's next line.
     fn next_line(&self) -> NextLine
         ensures next_item { HasNextLine (remaining_replay self.now) result }
-        ensures ready { (result ≡ NextLine.AtEnd → ⊥) → self.now.at < length self.now.body.value.lines }
-        ensures played { (result ≡ NextLine.AtEnd → ⊥) → result ≡ NextLine.Replayed }
+        ensures ready { (result ≡ NextLine.AtEnd → ⊥) →
+            self.now.at < length self.now.body.value.lines }
+        ensures replayed { (result ≡ NextLine.AtEnd → ⊥) → result ≡ NextLine.Replayed }
     {
         if self.has_line() {
             NextLine::Replayed
@@ -163,10 +169,11 @@ impl Replay {
     /// Reads the next line.
     fn read_stored_line(&mut self, alloc: Global) -> Result<StoredLine, ExpandFault>
         requires { self.old.at < length self.old.body.value.lines }
-        ensures taken { ReadsStoredLine (remaining_replay self.old) result (remaining_replay self.new) }
+        ensures next_line { ReadsStoredLine (remaining_replay self.old) result
+            (remaining_replay self.new) }
         ensures body { self.new.body ≡ self.old.body }
         ensures same { substitution_of self.new ≡ substitution_of self.old }
-        ensures inside { IfErr result (λ e. is_failure e ≡ false) }
+        ensures no_failure { IfErr result (λ e. is_failure e ≡ false) }
     {
         let line = self.substitute_tokens(alloc, &self.body.lines.as_slice()[self.at])?;
         self.at += 1;
@@ -182,12 +189,14 @@ fn begin_iteration(
     next: &mut u32,
     count: u32,
 ) -> Result<NextLine, ExpandFault>
-    ensures same { OnOk result (remaining_iterations replay.new next.new count ≡ remaining_iterations replay.old next.old count) }
-    ensures next_item { IfOk result (λ n. HasNextLine (remaining_iterations replay.new next.new count) n) }
+    ensures same { OnOk result (remaining_iterations replay.new next.new count ≡
+        remaining_iterations replay.old next.old count) }
+    ensures next_item { IfOk result (λ n.
+        HasNextLine (remaining_iterations replay.new next.new count) n) }
     ensures ready { IfOk result (λ n. (n ≡ NextLine.AtEnd →
         ⊥) → replay.new.at < length replay.new.body.value.lines) }
-    ensures played { IfOk result (λ n. (n ≡ NextLine.AtEnd → ⊥) → n ≡ NextLine.Replayed) }
-    ensures inside { IfErr result (λ e. is_failure e ≡ false) }
+    ensures replayed { IfOk result (λ n. (n ≡ NextLine.AtEnd → ⊥) → n ≡ NextLine.Replayed) }
+    ensures no_failure { IfErr result (λ e. is_failure e ≡ false) }
     ensures system_errors { IfErr result (λ e. is_system_error e ≡ true) }
 {
     if replay.has_line() {
@@ -222,18 +231,22 @@ impl LineSource {
         alloc: Global,
         store: &mut S,
     ) -> Result<NextLine, ExpandFault>
-        ensures next_item { IfSome (S.files store.old) (λ m. IfOk result (λ n. HasNextLine (remaining_in m self.new) n)) }
-        ensures same { IfSome (S.files store.old) (λ m. OnOk result (remaining_in m self.new ≡ remaining_in m self.old)) }
+        ensures next_item { IfSome (S.files store.old) (λ m.
+            IfOk result (λ n. HasNextLine (remaining_in m self.new) n)) }
+        ensures same { IfSome (S.files store.old) (λ m.
+            OnOk result (remaining_in m self.new ≡ remaining_in m self.old)) }
         ensures ready { IfOk result (λ n. (n ≡ NextLine.AtEnd → ⊥) → IsReady self.new) }
         ensures call { is_call self.new ≡ is_call self.old }
         ensures file { IfErr result (λ e. is_failure e ≡ true → IsFile self.old) }
         ensures system_errors { IfErr result (λ e. is_system_error e ≡ true) }
         ensures kind { is_file self.new ≡ is_file self.old }
-        ensures onward { (p : SourceLocation) → IsLineOf self.old p → IfOk result (λ n.
+        ensures location_after { (p : SourceLocation) → IsLineOf self.old p → IfOk result (λ n.
             (n ≡ NextLine.AtEnd → ⊥) → location_after_next n p ≡ next_location self.new p) }
-        ensures at { IfSome (S.files store.old) (λ m. (p : SourceLocation) → IsSourceAt m self.old p →
+        ensures at { IfSome (S.files store.old) (λ m. (p : SourceLocation) →
+            IsSourceAt m self.old p →
             OnOk result (IsSourceAt m self.new p)) }
-        ensures last_failure { IfSome (S.files store.old) (λ m. (p : SourceLocation) → IsSourceAt m self.old p →
+        ensures last_failure { IfSome (S.files store.old) (λ m. (p : SourceLocation) →
+            IsSourceAt m self.old p →
             IfErr result (λ e. is_failure e ≡ true → IsReadingAt m (S.last_failure store.new) p)) }
         ensures frame { ReadFrame S.files S.failures store.old store.new result }
     {
@@ -251,14 +264,16 @@ impl LineSource {
         store: &mut S,
     ) -> Result<StoredLine, ExpandFault>
         requires { IsReady self.old }
-        ensures taken { IfSome (S.files store.old) (λ m.
+        ensures next_line { IfSome (S.files store.old) (λ m.
             ReadsStoredLine (remaining_in m self.old) result (remaining_in m self.new)) }
         ensures call { is_call self.new ≡ is_call self.old }
         ensures file { IfErr result (λ e. is_failure e ≡ true → IsFile self.old) }
         ensures kind { is_file self.new ≡ is_file self.old }
-        ensures at { IfSome (S.files store.old) (λ m. (p : SourceLocation) → IsSourceAt m self.old p →
+        ensures at { IfSome (S.files store.old) (λ m. (p : SourceLocation) →
+            IsSourceAt m self.old p →
             OnOk result (IsSourceAt m self.new (next_location self.old p))) }
-        ensures last_failure { IfSome (S.files store.old) (λ m. (p : SourceLocation) → IsSourceAt m self.old p →
+        ensures last_failure { IfSome (S.files store.old) (λ m. (p : SourceLocation) →
+            IsSourceAt m self.old p →
             IfErr result (λ e. is_failure e ≡ true → IsReadingAt m (S.last_failure store.new)
             (next_location self.old p))) }
         ensures frame { ReadFrame S.files S.failures store.old store.new result }

@@ -62,17 +62,19 @@ impl InputStack {
         store: &mut S,
     ) -> Result<Option<StoredLine>, ExpandFault>
         ensures read { IfSome (S.files store.old) (λ m.
-            RefinesLocated (λ l. (option_map tokens_in l, remaining_of m self.new)) self.new.location result
+            RefinesLocated (λ l.
+            (option_map tokens_in l, remaining_of m self.new)) self.new.location result
             (ReadsNextLine (remaining_of m self.old))) }
         ensures at_end { IfSome (S.files store.old) (λ m.
             IfOk result (λ l. IfNone l (remaining_in m self.new.top.source ≡ []))) }
-        ensures room { IfOk result (λ l. IfSome l (λ _. self.new.budget < self.old.budget)) }
+        ensures remaining_budget { IfOk result (λ l. IfSome l (λ _. self.new.budget < self.old.budget)) }
         ensures less { OnOk result (self.new.budget ≤ self.old.budget) }
         ensures innermost { PreservesInnermost self.old self.new }
-        ensures stands { IsStackPositionedIfKnown (S.files store.old) self.old →
+        ensures stack_position { IsStackPositionedIfKnown (S.files store.old) self.old →
             OnOk result (IsStackPositionedIfKnown (S.files store.old) self.new) }
         ensures frame { ReadFrame S.files S.failures store.old store.new result }
-        ensures stopped { IsStackPositionedIfKnown (S.files store.old) self.old → IfSome (S.files store.old) (λ m.
+        ensures stopped { IsStackPositionedIfKnown (S.files store.old) self.old →
+            IfSome (S.files store.old) (λ m.
             HasFailureLocation (FailsAtLine m (S.last_failure store.new) (remaining_of m self.old))
             self.old self.new result) }
     {
@@ -98,12 +100,13 @@ impl InputStack {
         ensures read { IfSome (S.files store.old) (λ m.
             RefinesLocated (λ l. (tokens_in l, remaining_of m self.new)) self.new.location result
             (ReadsBlockLine (remaining_of m self.old))) }
-        ensures room { OnOk result (self.new.budget < self.old.budget) }
+        ensures remaining_budget { OnOk result (self.new.budget < self.old.budget) }
         ensures innermost { PreservesInnermost self.old self.new }
-        ensures stands { IsStackPositionedIfKnown (S.files store.old) self.old →
+        ensures stack_position { IsStackPositionedIfKnown (S.files store.old) self.old →
             OnOk result (IsStackPositionedIfKnown (S.files store.old) self.new) }
         ensures frame { ReadFrame S.files S.failures store.old store.new result }
-        ensures stopped { IsStackPositionedIfKnown (S.files store.old) self.old → IfSome (S.files store.old) (λ m.
+        ensures stopped { IsStackPositionedIfKnown (S.files store.old) self.old →
+            IfSome (S.files store.old) (λ m.
             HasFailureLocation (FailsAtLine m (S.last_failure store.new) (remaining_of m self.old))
             self.old self.new result) }
     {
@@ -117,14 +120,17 @@ impl InputStack {
     pub fn push_input(&mut self, input: Input) -> Result<(), ExpandFault>
         ensures entered { (m : Files) →
             RefinesLocated (λ _. remaining_of m self.new) self.new.location result
-            (λ r. r ≡ with_lines (remaining_in m input.source) (end_mark_of input) (remaining_of m self.old)) }
-        ensures room { self.new.budget ≡ self.old.budget }
-        ensures outer { OnOk result (length self.new.outer.items ≡ length self.old.outer.items + 1) }
+            (λ r. r ≡ with_lines (remaining_in m input.source) (end_mark_of input)
+            (remaining_of m self.old)) }
+        ensures remaining_budget { self.new.budget ≡ self.old.budget }
+        ensures outer { OnOk result (length self.new.outer.items ≡
+            length self.old.outer.items + 1) }
         ensures current_location { self.new.location ≡ self.old.location }
-        ensures stands { (m : Files) (p : SourceLocation) → IsSourceAt m input.source p →
-            HasReturnLocation input.source input.return_location → restored_location p input.return_location ≡ self.old.location →
+        ensures stack_position { (m : Files) (p : SourceLocation) → IsSourceAt m input.source p →
+            HasReturnLocation input.source input.return_location →
+            restored_location p input.return_location ≡ self.old.location →
             IsStackPositioned m self.old → OnOk result (AreInputsAt m (open_inputs self.new) p) }
-        ensures inside { IfErr result (λ e. is_failure e ≡ false) }
+        ensures no_failure { IfErr result (λ e. is_failure e ≡ false) }
     {
         if self.outer.len() >= MAX_NESTING {
             return Err(ExpandFault::Nested);
@@ -137,11 +143,16 @@ impl InputStack {
     /// Pops the innermost input, unless it is the source, and keeps the location to restore.
     /// Returns whether any input remains.
     fn pop_input(&mut self, return_location: &mut Option<SourceLocation>) -> bool
-        ensures left { (m : Files) →
-            (if result then (remaining_of m self.new).items else []) ≡ outer_items m self.old.outer.items }
-        ensures back { (p : SourceLocation) → restored_location p return_location.new ≡ restored_location (restored_location p return_location.old) self.old.top.return_location }
+        ensures closed { (m : Files) →
+            (if result then (remaining_of m self.new).items else []) ≡
+            outer_items m self.old.outer.items }
+        ensures back { (p : SourceLocation) →
+            restored_location p return_location.new ≡
+            restored_location (restored_location p return_location.old)
+            self.old.top.return_location }
         ensures location { self.new.location ≡ self.old.location }
-        ensures stands { (m : Files) (p : SourceLocation) → AreInputsAt m (open_inputs self.old) (restored_location p return_location.old) →
+        ensures stack_position { (m : Files) (p : SourceLocation) →
+            AreInputsAt m (open_inputs self.old) (restored_location p return_location.old) →
             AreInputsAt m (open_inputs self.new) (restored_location p return_location.new) }
         ensures budget { self.new.budget ≡ self.old.budget }
         ensures outer { IsTrue result → length self.new.outer.items < length self.old.outer.items }
@@ -163,16 +174,18 @@ impl InputStack {
     /// Closes the innermost input, at whose end `conditions` conditions must be open. Returns
     /// whether any input remains.
     pub fn close_input(&mut self, conditions: usize) -> Result<bool, ExpandFault>
-        ensures left { (m : Files) →
+        ensures closed { (m : Files) →
             remaining_in m self.old.top.source ≡ [] → RefinesLocated
             (λ more. ((if more then (remaining_of m self.new).items else []), self.new.location))
-            self.new.location result (λ r. r ≡ without_end_mark conditions self.old.location (remaining_of m self.old).items) }
-        ensures stands { (m : Files) → IsStackPositioned m self.old → OnOk result (IsStackPositioned m self.new) }
-        ensures room { self.new.budget ≡ self.old.budget }
+            self.new.location result (λ r.
+            r ≡ without_end_mark conditions self.old.location (remaining_of m self.old).items) }
+        ensures stack_position { (m : Files) → IsStackPositioned m self.old →
+            OnOk result (IsStackPositioned m self.new) }
+        ensures remaining_budget { self.new.budget ≡ self.old.budget }
         ensures outer { IfOk result (λ more. IsTrue more →
             length self.new.outer.items < length self.old.outer.items) }
         ensures fewer { OnOk result (length self.new.outer.items ≤ length self.old.outer.items) }
-        ensures inside { IfErr result (λ e. is_system_error e ≡ false) }
+        ensures no_failure { IfErr result (λ e. is_system_error e ≡ false) }
     {
         if self.top.conditions != conditions {
             return Err(ExpandFault::NotClosed);
@@ -185,7 +198,7 @@ impl InputStack {
 
     /// Closes the innermost macro call and all inputs opened in it.
     pub fn close_macro_call(&mut self) -> Option<MacroEnd>
-        ensures left { (m : Files) →
+        ensures closed { (m : Files) →
             after_innermost_macro (remaining_of m self.old).items self.old.location ≡ option_map
             (λ e. (
               e.conditions,
@@ -193,8 +206,9 @@ impl InputStack {
               self.new.location,
             )) result }
         ensures none { IfNone result (self.new.location ≡ self.old.location) }
-        ensures stands { (m : Files) → IsStackPositioned m self.old → IfSome result (λ _. IsStackPositioned m self.new) }
-        ensures room { self.new.budget ≡ self.old.budget }
+        ensures stack_position { (m : Files) → IsStackPositioned m self.old →
+            IfSome result (λ _. IsStackPositioned m self.new) }
+        ensures remaining_budget { self.new.budget ≡ self.old.budget }
         ensures fewer { length self.new.outer.items ≤ length self.old.outer.items }
     {
         let mut return_location = None;
@@ -228,7 +242,8 @@ impl InputStack {
 impl InputStack {
     /// Restores the location of the including line if no line of the included file was read.
     pub fn restore_location_if_unread(&mut self)
-        ensures current_location { self.new.location ≡ last_read_location self.old.location self.old.top.return_location }
+        ensures current_location { self.new.location ≡
+            last_read_location self.old.location self.old.top.return_location }
     {
         if self.location.line == 0 {
             let return_location = self.top.return_location.take();
@@ -239,7 +254,9 @@ impl InputStack {
 
 /// Keeps the later of two locations to restore.
 fn replace_if_some(return_location: &mut Option<SourceLocation>, next: Option<SourceLocation>)
-    ensures { (p : SourceLocation) → restored_location p return_location.new ≡ restored_location (restored_location p return_location.old) next }
+    ensures { (p : SourceLocation) →
+        restored_location p return_location.new ≡
+        restored_location (restored_location p return_location.old) next }
 {
     if next.is_some() {
         *return_location = next;

@@ -5,7 +5,7 @@ ghost use Rattle.expand65.specs.Laws.{NextExists};
 
 /// Expansion is deterministic: from a state at most one thing comes next, a statement with the next
 /// state, the end, or an error with its location.
-#[tactic(auto, using(crate::proofs::Unique::one_next))]
+#[tactic(auto, using(crate::proofs::StepUniqueness::one_next))]
 pub fn next_is_unique()
     ensures { NextIsUnique }
 {}

@@ -77,8 +77,9 @@ impl StoredLine {
     #[inline(always)]
     pub fn read(alloc: Global, bytes: &[u8]) -> Result<StoredLine, ExpandFault>
         ensures tokens { RefinesRel is_system_error tokens_in result
-            (λ r. (q : Result (List Lexeme) LexFault) × IsRead bytes.now q × (r ≡ file_line_tokens q)) }
-        ensures inside { IfErr result (λ e. is_failure e ≡ false) }
+            (λ r. (q : Result (List Lexeme) LexFault) × IsRead bytes.now q ×
+            (r ≡ file_line_tokens q)) }
+        ensures no_failure { IfErr result (λ e. is_failure e ≡ false) }
     {
         // This capacity suffices for most lines. Lines of macros are kept, so it isn't larger.
         let mut spans = Vec::with_capacity(alloc, (bytes.len() / 2 + 1).min(8))?;
@@ -93,7 +94,8 @@ impl StoredLine {
 
     /// Appends the line's tokens.
     pub fn append_to<'a>(&'a self, tokens: &mut Vec<Token<'a>>) -> Result<(), AllocError>
-        ensures { OnOk result (lexemes tokens.new.items ≡ lexemes tokens.old.items ++ tokens_in self.now) }
+        ensures { OnOk result (lexemes tokens.new.items ≡
+            lexemes tokens.old.items ++ tokens_in self.now) }
     {
         let mut rest = self.bytes.as_slice();
         for span in self.spans.as_slice() {
@@ -181,7 +183,7 @@ impl StoredLine {
         alloc: Global,
     ) -> Result<Option<(StoredLine, StoredLine)>, ExpandFault>
         ensures parts { SplitsLabel (tokens_in self.now) result }
-        ensures inside { IfErr result (λ e. is_failure e ≡ false) }
+        ensures no_failure { IfErr result (λ e. is_failure e ≡ false) }
     {
         if self.is_unlabelled() {
             return Ok(None);
@@ -215,10 +217,11 @@ impl StoredLine {
 #[inline(always)]
 fn read_spans(bytes: &[u8], spans: &mut Vec<StoredToken>) -> Result<usize, ExpandFault>
     requires { spans.old.items ≡ [] }
-    ensures tokens { RefinesRel is_system_error (λ n. split_lexemes spans.new.items (take n bytes.now)) result
+    ensures tokens { RefinesRel is_system_error (λ n.
+        split_lexemes spans.new.items (take n bytes.now)) result
         (λ r. (q : Result (List Lexeme) LexFault) × IsRead bytes.now q × (r ≡ file_line_tokens q)) }
     ensures within { IfOk result (λ n. n ≤ length bytes.now) }
-    ensures inside { IfErr result (λ e. is_failure e ≡ false) }
+    ensures no_failure { IfErr result (λ e. is_failure e ≡ false) }
 {
     let mut lexer = Lexer::new(bytes)?;
     'tokens: loop {

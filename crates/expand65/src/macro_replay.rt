@@ -68,7 +68,8 @@ impl LineSource {
     pub fn add_locals(&mut self, alloc: Global, names: &[&[u8]]) -> Result<(), AllocError>
         requires { is_call self.old ≡ true }
         ensures added { (m : Files) (k : InputEnd) (is : List Item) →
-            OnOk result (remaining_in m self.new ++ end_mark k ∷ is ≡ with_local_names (map (λ s. s.now) names.now)
+            OnOk result (remaining_in m self.new ++ end_mark k ∷ is ≡
+            with_local_names (map (λ s. s.now) names.now)
             (remaining_in m self.old ++ end_mark k ∷ is)) }
         ensures call { is_call self.new ≡ is_call self.old }
     {
@@ -112,7 +113,8 @@ pub enum Replacement<'a> {
 impl Replay {
     /// Returns the argument of the parameter at an index.
     fn argument_at(&self, index: usize) -> Replacement<'_>
-        ensures { replacement_tokens result ≡ argument_at (substitution_of self.now).arguments (Some index) }
+        ensures { replacement_tokens result ≡
+            argument_at (substitution_of self.now).arguments (Some index) }
     {
         match self.arguments.as_slice().get(index) {
             Some(line) => Replacement::Tokens(line),
@@ -133,7 +135,8 @@ impl Replay {
 
     /// Returns the replacement of a local name.
     fn local_replacement(&self, name: &[u8]) -> Replacement<'_>
-        ensures { replacement_tokens result ≡ lookup (bytes_eq name.now) (substitution_of self.now).locals }
+        ensures { replacement_tokens result ≡
+            lookup (bytes_eq name.now) (substitution_of self.now).locals }
     {
         match self.locals.get(name) {
             Some(line) => Replacement::Tokens(line),
@@ -151,7 +154,8 @@ impl Replay {
     }
 
     fn directive_replacement(&self, text: &[u8]) -> Replacement<'_>
-        ensures { replacement_tokens result ≡ directive_replacement (substitution_of self.now) text.now }
+        ensures { replacement_tokens result ≡
+            directive_replacement (substitution_of self.now) text.now }
     {
         match &self.count {
             Some(line) if text.eq_ignore_ascii_case(b".paramcount") => Replacement::Tokens(line),
@@ -160,7 +164,8 @@ impl Replay {
     }
 
     fn replacement_for(&self, token: &Token<'_>) -> Replacement<'_>
-        ensures { replacement_tokens result ≡ replacement_for (substitution_of self.now) (lexeme_of token.now) }
+        ensures { replacement_tokens result ≡ replacement_for (substitution_of self.now)
+            (lexeme_of token.now) }
     {
         match token.kind {
             TokenKind::Identifier => self.name_replacement(token.text),
@@ -195,7 +200,7 @@ impl Replay {
     ) -> Result<StoredLine, ExpandFault>
         ensures value { Refines is_system_error tokens_in result
             (body_line_tokens (substituted_line (substitution_of self.now) (tokens_in line.now))) }
-        ensures inside { IfErr result (λ e. is_failure e ≡ false) }
+        ensures no_failure { IfErr result (λ e. is_failure e ≡ false) }
     {
         let tokens = line.tokens(alloc)?;
         let mut out = Vec::with_capacity(alloc, tokens.len())?;

@@ -29,7 +29,7 @@ use syntax65::{ExpandFault, Token, TokenKind};
 /// Returns the name at an index, if the token is one.
 pub fn name_at<'a>(tokens: &[Token<'a>], at: usize) -> Option<&'a [u8]>
     ensures name { option_map (λ s. s.now) result ≡ name_at (lexemes tokens.now) at }
-    ensures inside { IsSome result → at < length tokens.now }
+    ensures in_bounds { IsSome result → at < length tokens.now }
 {
     name_in(tokens.get(at)?)
 }
@@ -37,7 +37,7 @@ pub fn name_at<'a>(tokens: &[Token<'a>], at: usize) -> Option<&'a [u8]>
 /// Returns whether the token at an index is a comma.
 pub fn is_comma_at(tokens: &[Token<'_>], at: usize) -> bool
     ensures comma { result ≡ is_comma_at (lexemes tokens.now) at }
-    ensures inside { IsTrue result → at < length tokens.now }
+    ensures in_bounds { IsTrue result → at < length tokens.now }
 {
     matches!(tokens.get(at), Some(token) if is_comma(token))
 }
@@ -131,7 +131,8 @@ fn strip_braces<'a, 'b>(tokens: &'b [Token<'a>]) -> &'b [Token<'a>]
 
 /// Splits tokens at the commas outside braces.
 fn split_arguments(alloc: Global, tokens: &[Token<'_>]) -> Result<ListVec<StoredLine>, AllocError>
-    ensures { IfOk result (λ lines. map tokens_in lines ≡ map without_braces (arguments_within 0 (lexemes tokens.now))) }
+    ensures { IfOk result (λ lines.
+        map tokens_in lines ≡ map without_braces (arguments_within 0 (lexemes tokens.now))) }
 {
     let mut lines = ListVec::new(alloc);
     let mut at = 0;
@@ -169,7 +170,7 @@ pub struct Header {
 fn distinct_names(alloc: Global, names: &[&[u8]]) -> Result<IndexSet<Vec<u8>>, ExpandFault>
     ensures set { Refines is_system_error (λ s. map (λ k. k.items) s.keys) result
         (ok_or_not_understood (distinct_of (map (λ s. s.now) names.now))) }
-    ensures inside { IfErr result (λ e. is_failure e ≡ false) }
+    ensures no_failure { IfErr result (λ e. is_failure e ≡ false) }
 {
     let mut set = IndexSet::new(alloc);
     for name in names {
@@ -185,7 +186,7 @@ fn distinct_names(alloc: Global, names: &[&[u8]]) -> Result<IndexSet<Vec<u8>>, E
 fn params_of(alloc: Global, tokens: &[Token<'_>]) -> Result<IndexSet<Vec<u8>>, ExpandFault>
     ensures params { Refines is_system_error (λ s. map (λ k. k.items) s.keys) result
         (ok_or_not_understood (params_of (lexemes tokens.now))) }
-    ensures inside { IfErr result (λ e. is_failure e ≡ false) }
+    ensures no_failure { IfErr result (λ e. is_failure e ≡ false) }
 {
     if tokens.is_empty() {
         return Ok(IndexSet::new(alloc));
@@ -198,9 +199,10 @@ fn params_of(alloc: Global, tokens: &[Token<'_>]) -> Result<IndexSet<Vec<u8>>, E
 
 /// Parses the name and parameters of a macro.
 fn header_of(alloc: Global, tokens: &[Token<'_>]) -> Result<Header, ExpandFault>
-    ensures header { Refines is_system_error (λ h. (h.name.items, map (λ k. k.items) h.params.keys)) result
+    ensures header { Refines is_system_error (λ h.
+        (h.name.items, map (λ k. k.items) h.params.keys)) result
         (ok_or_not_understood (header_of (lexemes tokens.now))) }
-    ensures inside { IfErr result (λ e. is_failure e ≡ false) }
+    ensures no_failure { IfErr result (λ e. is_failure e ≡ false) }
 {
     let Some((first, following)) = tokens.split_first() else {
         return Err(ExpandFault::NotUnderstood);
@@ -220,11 +222,12 @@ impl Preprocessor {
         store: &mut S,
         tokens: &[Token<'_>],
     ) -> Result<LineOutcome, ExpandFault>
-        ensures turns { HasLineOutcome (S.files store.old) self.old self.new result (λ m s.
+        ensures outcome { HasLineOutcome (S.files store.old) self.old self.new result (λ m s.
             StepReaches m (macro_line s (lexemes tokens.now))) }
         ensures keeps { PreservesPositions (S.files store.old) self.old self.new result }
         ensures frame { ReadFrame S.files S.failures store.old store.new result }
-        ensures stopped { HasFailureLocationIfKnown (S.files store.old) self.old self.new result (λ m s.
+        ensures stopped { HasFailureLocationIfKnown
+            (S.files store.old) self.old self.new result (λ m s.
             StepFails m (S.last_failure store.new) (macro_line s (lexemes tokens.now))) }
     {
         let Header { name, params } = header_of(self.alloc, tokens)?;
@@ -276,10 +279,10 @@ impl Preprocessor {
 
     /// Calls a macro, given the tokens after its name.
     fn call(&mut self, body: Rc<Body>, tokens: &[Token<'_>]) -> Result<LineOutcome, ExpandFault>
-        ensures turns { HasLineOutcomeForAllFiles self.old self.new result (λ s.
+        ensures outcome { HasLineOutcomeForAllFiles self.old self.new result (λ s.
             call_result s (definition_of body.value) (arguments_of (lexemes tokens.now))) }
         ensures keeps { (files : Option Files) → PreservesPositions files self.old self.new result }
-        ensures inside { IfErr result (λ e. is_failure e ≡ false) }
+        ensures no_failure { IfErr result (λ e. is_failure e ≡ false) }
     {
         let arguments = arguments_of(self.alloc, tokens)?;
         if arguments.len() > body.params.len() {
@@ -295,10 +298,10 @@ impl Preprocessor {
         arguments: ListVec<StoredLine>,
     ) -> Result<LineOutcome, ExpandFault>
         requires { length arguments ≤ length body.value.params.keys }
-        ensures turns { HasLineOutcomeForAllFiles self.old self.new result (λ s.
+        ensures outcome { HasLineOutcomeForAllFiles self.old self.new result (λ s.
             call_result s (definition_of body.value) (map tokens_in arguments)) }
         ensures keeps { (files : Option Files) → PreservesPositions files self.old self.new result }
-        ensures inside { IfErr result (λ e. is_failure e ≡ false) }
+        ensures no_failure { IfErr result (λ e. is_failure e ≡ false) }
     {
         let Some(number) = self.expansions.checked_add(1) else {
             return Err(ExpandFault::OutOfMemory);
@@ -326,9 +329,10 @@ impl Preprocessor {
 
     /// Processes a line without preprocessor directive: an empty line, a macro call or a statement.
     pub fn execute_plain_line(&mut self, line: StoredLine) -> Result<LineOutcome, ExpandFault>
-        ensures turns { HasLineOutcomeForAllFiles self.old self.new result (λ s. plain_line_result s (tokens_in line)) }
+        ensures outcome { HasLineOutcomeForAllFiles self.old self.new result
+            (λ s. plain_line_result s (tokens_in line)) }
         ensures keeps { (files : Option Files) → PreservesPositions files self.old self.new result }
-        ensures inside { IfErr result (λ e. is_failure e ≡ false) }
+        ensures no_failure { IfErr result (λ e. is_failure e ≡ false) }
     {
         let Some(first) = line.first() else {
             return Ok(LineOutcome::Continue);

@@ -65,11 +65,12 @@ impl Preprocessor {
         test: ConditionKind,
         tokens: &[Token<'_>],
     ) -> Result<LineOutcome, ExpandFault>
-        ensures turns { HasLineOutcome (S.files store.old) self.old self.new result (λ m s.
+        ensures outcome { HasLineOutcome (S.files store.old) self.old self.new result (λ m s.
             StepReaches m (if_line (K.meaning knows.now) s test (lexemes tokens.now))) }
         ensures keeps { PreservesPositions (S.files store.old) self.old self.new result }
         ensures frame { ReadFrame S.files S.failures store.old store.new result }
-        ensures stopped { HasFailureLocationIfKnown (S.files store.old) self.old self.new result (λ m s.
+        ensures stopped { HasFailureLocationIfKnown
+            (S.files store.old) self.old self.new result (λ m s.
             StepFails m (S.last_failure store.new)
             (if_line (K.meaning knows.now) s test (lexemes tokens.now))) }
     {
@@ -93,9 +94,10 @@ impl Preprocessor {
 
     /// Executes the `.endif` of an open condition.
     pub fn end_if(&mut self) -> Result<LineOutcome, ExpandFault>
-        ensures turns { HasLineOutcomeForAllFiles self.old self.new result (λ s. endif_result s (last_condition s)) }
+        ensures outcome { HasLineOutcomeForAllFiles self.old self.new result
+            (λ s. endif_result s (last_condition s)) }
         ensures keeps { (files : Option Files) → PreservesPositions files self.old self.new result }
-        ensures inside { IfErr result (λ e. is_failure e ≡ false) }
+        ensures no_failure { IfErr result (λ e. is_failure e ≡ false) }
     {
         match self.conditions.pop_above(self.stack.top.conditions) {
             None => Err(ExpandFault::NotOpened),
@@ -108,11 +110,12 @@ impl Preprocessor {
         &mut self,
         store: &mut S,
     ) -> Result<LineOutcome, ExpandFault>
-        ensures turns { HasLineOutcome (S.files store.old) self.old self.new result (λ m s.
+        ensures outcome { HasLineOutcome (S.files store.old) self.old self.new result (λ m s.
             StepReaches m (else_line s (last_condition s))) }
         ensures keeps { PreservesPositions (S.files store.old) self.old self.new result }
         ensures frame { ReadFrame S.files S.failures store.old store.new result }
-        ensures stopped { HasFailureLocationIfKnown (S.files store.old) self.old self.new result (λ m s.
+        ensures stopped { HasFailureLocationIfKnown
+            (S.files store.old) self.old self.new result (λ m s.
             StepFails m (S.last_failure store.new) (else_line s (last_condition s))) }
     {
         match self.conditions.pop_above(self.stack.top.conditions) {
@@ -132,14 +135,17 @@ impl Preprocessor {
         store: &mut S,
         tokens: &[Token<'_>],
     ) -> Result<LineOutcome, ExpandFault>
-        ensures turns { HasLineOutcome (S.files store.old) self.old self.new result (λ m s.
+        ensures outcome { HasLineOutcome (S.files store.old) self.old self.new result (λ m s.
             StepReaches m
-            (and_then_step s (ok_or_not_understood (string_of (lexemes tokens.now))) (include_file s))) }
+            (and_then_step s (ok_or_not_understood (string_of (lexemes tokens.now)))
+            (include_file s))) }
         ensures keeps { PreservesPositions (S.files store.old) self.old self.new result }
         ensures frame { ReadFrame S.files S.failures store.old store.new result }
-        ensures stopped { HasFailureLocationIfKnown (S.files store.old) self.old self.new result (λ m s.
+        ensures stopped { HasFailureLocationIfKnown
+            (S.files store.old) self.old self.new result (λ m s.
             StepFails m (S.last_failure store.new)
-            (and_then_step s (ok_or_not_understood (string_of (lexemes tokens.now))) (include_file s))) }
+            (and_then_step s (ok_or_not_understood (string_of (lexemes tokens.now)))
+            (include_file s))) }
     {
         let Some(name) = string_of(tokens) else {
             return Err(ExpandFault::NotUnderstood);
@@ -151,11 +157,11 @@ impl Preprocessor {
 
     /// Pushes an existing file onto the input stack.
     fn enter_file(&mut self, file: PathString) -> Result<LineOutcome, ExpandFault>
-        ensures turns { (m : Files) →
+        ensures outcome { (m : Files) →
             length (bytes_of m file) ≤ 16777216 → RefinesLineOutcome result (state_of m self.new)
             (λ r. r ≡ file_step (state_of m self.old) (file_of m file)) }
         ensures keeps { (files : Option Files) → PreservesPositions files self.old self.new result }
-        ensures inside { IfErr result (λ e. is_failure e ≡ false) }
+        ensures no_failure { IfErr result (λ e. is_failure e ≡ false) }
     {
         let location = SourceLocation {
             file: PathString::copy_of(self.alloc, file.as_str())?,
@@ -179,13 +185,16 @@ impl Preprocessor {
         tokens: &[Token<'_>],
     ) -> Result<LineOutcome, ExpandFault>
         requires { has_no_operands directive ≡ true }
-        ensures turns { IfSome (S.files store.old) (λ m.
+        ensures outcome { IfSome (S.files store.old) (λ m.
             (k : EnvironmentView) → RefinesLineOutcome result (state_of m self.new)
-            (StepReaches m (directive_step k (state_of m self.old) directive (lexemes tokens.now)))) }
+            (StepReaches m (directive_step k (state_of m self.old) directive
+            (lexemes tokens.now)))) }
         ensures keeps { PreservesPositions (S.files store.old) self.old self.new result }
         ensures frame { ReadFrame S.files S.failures store.old store.new result }
-        ensures stopped { (k : EnvironmentView) → HasFailureLocationIfKnown (S.files store.old) self.old self.new result
-            (λ m s. StepFails m (S.last_failure store.new) (directive_step k s directive (lexemes tokens.now))) }
+        ensures stopped { (k : EnvironmentView) →
+            HasFailureLocationIfKnown (S.files store.old) self.old self.new result
+            (λ m s. StepFails m (S.last_failure store.new)
+            (directive_step k s directive (lexemes tokens.now))) }
     {
         if !tokens.is_empty() {
             return Err(ExpandFault::NotUnderstood);
@@ -208,11 +217,12 @@ impl Preprocessor {
         directive: Directive,
         tokens: &[Token<'_>],
     ) -> Result<LineOutcome, ExpandFault>
-        ensures turns { HasLineOutcome (S.files store.old) self.old self.new result (λ m s.
+        ensures outcome { HasLineOutcome (S.files store.old) self.old self.new result (λ m s.
             StepReaches m (directive_step (K.meaning knows.now) s directive (lexemes tokens.now))) }
         ensures keeps { PreservesPositions (S.files store.old) self.old self.new result }
         ensures frame { ReadFrame S.files S.failures store.old store.new result }
-        ensures stopped { HasFailureLocationIfKnown (S.files store.old) self.old self.new result (λ m s.
+        ensures stopped { HasFailureLocationIfKnown
+            (S.files store.old) self.old self.new result (λ m s.
             StepFails m (S.last_failure store.new)
             (directive_step (K.meaning knows.now) s directive (lexemes tokens.now))) }
     {
@@ -246,14 +256,17 @@ impl Preprocessor {
         knows: &K,
         line: StoredLine,
     ) -> Result<LineOutcome, ExpandFault>
-        ensures turns { HasLineOutcome (S.files store.old) self.old self.new result (λ m s.
+        ensures outcome { HasLineOutcome (S.files store.old) self.old self.new result (λ m s.
             StepReaches m
-            (line_step (K.meaning knows.now) s (tokens_in line) (first_directive (tokens_in line)))) }
+            (line_step (K.meaning knows.now) s (tokens_in line)
+            (first_directive (tokens_in line)))) }
         ensures keeps { PreservesPositions (S.files store.old) self.old self.new result }
         ensures frame { ReadFrame S.files S.failures store.old store.new result }
-        ensures stopped { HasFailureLocationIfKnown (S.files store.old) self.old self.new result (λ m s.
+        ensures stopped { HasFailureLocationIfKnown
+            (S.files store.old) self.old self.new result (λ m s.
             StepFails m (S.last_failure store.new)
-            (line_step (K.meaning knows.now) s (tokens_in line) (first_directive (tokens_in line)))) }
+            (line_step (K.meaning knows.now) s (tokens_in line)
+            (first_directive (tokens_in line)))) }
     {
         match line.directive() {
             Some(directive) => {
@@ -272,16 +285,19 @@ impl Preprocessor {
         knows: &K,
         line: StoredLine,
     ) -> Result<LineOutcome, ExpandFault>
-        ensures turns { HasLineOutcome (S.files store.old) self.old self.new result (λ m s.
+        ensures outcome { HasLineOutcome (S.files store.old) self.old self.new result (λ m s.
             StepReaches m
-            (unless_mislabelled (K.meaning knows.now) s (tokens_in line) (is_mislabelled (tokens_in line)))) }
-        ensures stands { IsStackPositionedIfKnown (S.files store.old) self.old.stack →
+            (unless_mislabelled (K.meaning knows.now) s (tokens_in line)
+            (is_mislabelled (tokens_in line)))) }
+        ensures stack_position { IsStackPositionedIfKnown (S.files store.old) self.old.stack →
             OnOk result (IsStackPositionedIfKnown (S.files store.old) self.new.stack) }
         ensures size { IfOk result (λ t. size_of self.new + weight_of t ≤ size_of self.old + 3) }
         ensures frame { ReadFrame S.files S.failures store.old store.new result }
-        ensures stopped { HasFailureLocationIfKnown (S.files store.old) self.old self.new result (λ m s.
+        ensures stopped { HasFailureLocationIfKnown
+            (S.files store.old) self.old self.new result (λ m s.
             StepFails m (S.last_failure store.new)
-            (unless_mislabelled (K.meaning knows.now) s (tokens_in line) (is_mislabelled (tokens_in line)))) }
+            (unless_mislabelled (K.meaning knows.now) s (tokens_in line)
+            (is_mislabelled (tokens_in line)))) }
     {
         match line.split_label(self.alloc)? {
             Some((label, rest)) => Ok(LineOutcome::LabelAndRest(label, rest)),
@@ -291,13 +307,14 @@ impl Preprocessor {
 
     /// Ends the innermost input.
     fn end_input(&mut self) -> Result<LineOutcome, ExpandFault>
-        ensures turns { (m : Files) →
-            remaining_in m self.old.stack.top.source ≡ [] → RefinesLineOutcome result (state_of m self.new)
+        ensures outcome { (m : Files) →
+            remaining_in m self.old.stack.top.source ≡ [] →
+            RefinesLineOutcome result (state_of m self.new)
             (λ r. r ≡ end_mark_step (state_of m self.old) (remaining_of m self.old.stack).items) }
-        ensures stands { (files : Option Files) → IsStackPositionedIfKnown files self.old.stack →
+        ensures stack_position { (files : Option Files) → IsStackPositionedIfKnown files self.old.stack →
             OnOk result (IsStackPositionedIfKnown files self.new.stack) }
         ensures size { IfOk result (λ t. size_of self.new + weight_of t < size_of self.old + 1) }
-        ensures inside { IfErr result (λ e. is_failure e ≡ false) }
+        ensures no_failure { IfErr result (λ e. is_failure e ≡ false) }
     {
         if self.stack.close_input(self.conditions.len())? {
             Ok(LineOutcome::Continue)
@@ -313,13 +330,14 @@ impl Preprocessor {
         store: &mut S,
         knows: &K,
     ) -> Result<LineOutcome, ExpandFault>
-        ensures turns { HasLineOutcome (S.files store.old) self.old self.new result (λ m s.
+        ensures outcome { HasLineOutcome (S.files store.old) self.old self.new result (λ m s.
             IsStep m (K.meaning knows.now) s) }
-        ensures stands { IsStackPositionedIfKnown (S.files store.old) self.old.stack →
+        ensures stack_position { IsStackPositionedIfKnown (S.files store.old) self.old.stack →
             OnOk result (IsStackPositionedIfKnown (S.files store.old) self.new.stack) }
         ensures size { IfOk result (λ t. size_of self.new + weight_of t < size_of self.old + 1) }
         ensures frame { ReadFrame S.files S.failures store.old store.new result }
-        ensures stopped { HasFailureLocationIfKnown (S.files store.old) self.old self.new result (λ m s.
+        ensures stopped { HasFailureLocationIfKnown
+            (S.files store.old) self.old self.new result (λ m s.
             StepFailsAt m (S.last_failure store.new) (K.meaning knows.now) s) }
     {
         match self.stack.next_line(self.alloc, store)? {

@@ -53,7 +53,7 @@ fn has_generated_name(names: &[&[u8]]) -> bool
 fn new_names<'a>(alloc: Global, tokens: &[Token<'a>]) -> Result<Vec<&'a [u8]>, ExpandFault>
     ensures names { Refines is_system_error (λ v. map (λ s. s.now) v.items) result
         (ok_or_not_understood (new_names (lexemes tokens.now))) }
-    ensures inside { IfErr result (λ e. is_failure e ≡ false) }
+    ensures no_failure { IfErr result (λ e. is_failure e ≡ false) }
 {
     let Some(names) = names_of(alloc, tokens)? else {
         return Err(ExpandFault::NotUnderstood);
@@ -67,9 +67,10 @@ fn new_names<'a>(alloc: Global, tokens: &[Token<'a>]) -> Result<Vec<&'a [u8]>, E
 impl Preprocessor {
     /// Executes `.local`, given the rest of its line.
     pub fn add_locals(&mut self, tokens: &[Token<'_>]) -> Result<LineOutcome, ExpandFault>
-        ensures turns { HasLineOutcomeForAllFiles self.old self.new result (λ s. local_line s (lexemes tokens.now)) }
+        ensures outcome { HasLineOutcomeForAllFiles self.old self.new result
+            (λ s. local_line s (lexemes tokens.now)) }
         ensures keeps { (files : Option Files) → PreservesPositions files self.old self.new result }
-        ensures inside { IfErr result (λ e. is_failure e ≡ false) }
+        ensures no_failure { IfErr result (λ e. is_failure e ≡ false) }
     {
         if !self.stack.top.source.is_call() {
             return Err(ExpandFault::NotUnderstood);
@@ -84,9 +85,9 @@ impl Preprocessor {
 
     /// Leaves the innermost macro call.
     pub fn exit_macro(&mut self) -> Result<LineOutcome, ExpandFault>
-        ensures turns { HasLineOutcomeForAllFiles self.old self.new result exit_macro }
+        ensures outcome { HasLineOutcomeForAllFiles self.old self.new result exit_macro }
         ensures keeps { (files : Option Files) → PreservesPositions files self.old self.new result }
-        ensures inside { IfErr result (λ e. is_failure e ≡ false) }
+        ensures no_failure { IfErr result (λ e. is_failure e ≡ false) }
     {
         let Some(end) = self.stack.close_macro_call() else {
             return Err(ExpandFault::NotOpened);
@@ -114,7 +115,7 @@ pub struct Header {
 fn variable_of(alloc: Global, tokens: &[Token<'_>]) -> Result<IndexSet<Vec<u8>>, ExpandFault>
     ensures variable { Refines is_system_error (λ s. map (λ k. k.items) s.keys) result
         (ok_or_not_understood (variable_of (lexemes tokens.now))) }
-    ensures inside { IfErr result (λ e. is_failure e ≡ false) }
+    ensures no_failure { IfErr result (λ e. is_failure e ≡ false) }
 {
     if tokens.is_empty() {
         return Ok(IndexSet::new(alloc));
@@ -135,7 +136,7 @@ fn header_of(alloc: Global, tokens: &[Token<'_>]) -> Result<Header, ExpandFault>
     ensures header { RefinesRel is_system_error (λ h. (h.count, map (λ k. k.items) h.variable.keys))
         result (λ r. (q : Result (Tree × ℕ) ExprFault) × IsParsed (lexemes tokens.now) q ×
         (r ≡ repeat_header (lexemes tokens.now) q)) }
-    ensures inside { IfErr result (λ e. is_failure e ≡ false) }
+    ensures no_failure { IfErr result (λ e. is_failure e ≡ false) }
 {
     let (count, len) = read_expr(alloc, tokens)?;
     let (_, following) = tokens.split_at(len);
@@ -157,7 +158,7 @@ fn iterations_of(value: Option<i64>) -> Result<u32, ExpandFault>
 fn evaluate_iterations<K: Knows>(alloc: Global, knows: &K, count: Expr) -> Result<u32, ExpandFault>
     ensures value { Refines is_system_error (λ n. n) result
         (iterations_of ((K.meaning knows.now).value count)) }
-    ensures inside { IfErr result (λ e. is_failure e ≡ false) }
+    ensures no_failure { IfErr result (λ e. is_failure e ≡ false) }
 {
     iterations_of(knows.value(alloc, &count)?)
 }
@@ -170,12 +171,14 @@ impl Preprocessor {
         knows: &K,
         tokens: &[Token<'_>],
     ) -> Result<LineOutcome, ExpandFault>
-        ensures turns { HasLineOutcome (S.files store.old) self.old self.new result (λ m s.
+        ensures outcome { HasLineOutcome (S.files store.old) self.old self.new result (λ m s.
             StepReaches m (repeat_line (K.meaning knows.now) s (lexemes tokens.now))) }
         ensures keeps { PreservesPositions (S.files store.old) self.old self.new result }
         ensures frame { ReadFrame S.files S.failures store.old store.new result }
-        ensures stopped { HasFailureLocationIfKnown (S.files store.old) self.old self.new result (λ m s.
-            StepFails m (S.last_failure store.new) (repeat_line (K.meaning knows.now) s (lexemes tokens.now))) }
+        ensures stopped { HasFailureLocationIfKnown
+            (S.files store.old) self.old self.new result (λ m s.
+            StepFails m (S.last_failure store.new)
+            (repeat_line (K.meaning knows.now) s (lexemes tokens.now))) }
     {
         let Header { count, variable } = header_of(self.alloc, tokens)?;
         let count = evaluate_iterations(self.alloc, knows, count)?;
@@ -189,12 +192,14 @@ impl Preprocessor {
         count: u32,
         variable: IndexSet<Vec<u8>>,
     ) -> Result<LineOutcome, ExpandFault>
-        ensures turns { HasLineOutcome (S.files store.old) self.old self.new result (λ m s.
+        ensures outcome { HasLineOutcome (S.files store.old) self.old self.new result (λ m s.
             StepReaches m (iterations_step s count (map (λ k. k.items) variable.keys))) }
         ensures keeps { PreservesPositions (S.files store.old) self.old self.new result }
         ensures frame { ReadFrame S.files S.failures store.old store.new result }
-        ensures stopped { HasFailureLocationIfKnown (S.files store.old) self.old self.new result (λ m s.
-            StepFails m (S.last_failure store.new) (iterations_step s count (map (λ k. k.items) variable.keys))) }
+        ensures stopped { HasFailureLocationIfKnown
+            (S.files store.old) self.old self.new result (λ m s.
+            StepFails m (S.last_failure store.new)
+            (iterations_step s count (map (λ k. k.items) variable.keys))) }
     {
         let block = self.stack.read_block(self.alloc, store, BlockKind::Repeat)?;
         let lines = block.lines;

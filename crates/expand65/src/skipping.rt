@@ -98,7 +98,8 @@ fn peek<'a>(alloc: Global, bytes: &'a [u8], tokens: &mut LineTokens<'a>) -> Opti
 impl OpenFile {
     /// Returns the next line if it is buffered whole and plain.
     fn peek_plain(&self) -> Option<Peeked>
-        ensures { IfSome result (λ p. (ts : List Lexeme) × IsFirstBufferedLine self.now p ts × IsPlain ts) }
+        ensures { IfSome result (λ p. (ts : List Lexeme) ×
+            IsFirstBufferedLine self.now p ts × IsPlain ts) }
     {
         if self.at >= self.buffer.len() {
             return None;
@@ -113,7 +114,8 @@ impl OpenFile {
     #[inline(always)]
     fn peek<'a>(&'a self, alloc: Global, tokens: &mut LineTokens<'a>) -> Option<Peeked>
         requires { HasNoTokens tokens.old }
-        ensures lookahead { IfSome result (λ p. IsFirstBufferedLine self.now p (stored_lexemes tokens.new)) }
+        ensures lookahead { IfSome result (λ p.
+            IsFirstBufferedLine self.now p (stored_lexemes tokens.new)) }
         ensures within { tokens.new.few.count ≤ 8 }
     {
         if self.at >= self.buffer.len() {
@@ -128,9 +130,11 @@ impl OpenFile {
     /// Reads the line that `peek` returned.
     #[inline(always)]
     fn consume_peeked(&mut self, line: Peeked)
-        ensures taken { (m : Files) (ts : List Lexeme) → IsFirstBufferedLine self.old line ts →
-            ReadsFileLine (remaining_file_lines m self.old) line.number ts (remaining_file_lines m self.new) }
-        ensures at { (m : Files) (ts : List Lexeme) (p : SourceLocation) → IsFirstBufferedLine self.old line ts →
+        ensures next_line { (m : Files) (ts : List Lexeme) → IsFirstBufferedLine self.old line ts →
+            ReadsFileLine (remaining_file_lines m self.old) line.number ts
+            (remaining_file_lines m self.new) }
+        ensures at { (m : Files) (ts : List Lexeme) (p : SourceLocation) →
+            IsFirstBufferedLine self.old line ts →
             IsFileAt m self.old p → IsFileAt m self.new (location_at p line.number) }
     {
         self.at = line.following;
@@ -141,7 +145,8 @@ impl OpenFile {
 impl LineSource {
     /// Returns the next line if it comes from a file, is buffered whole and is plain.
     fn peek_plain(&self) -> Option<Peeked>
-        ensures { IfSome result (λ p. (ts : List Lexeme) × IsBufferedLine self.now p ts × IsPlain ts) }
+        ensures { IfSome result (λ p. (ts : List Lexeme) ×
+            IsBufferedLine self.now p ts × IsPlain ts) }
     {
         match self {
             LineSource::File(file) => file.peek_plain(),
@@ -153,7 +158,8 @@ impl LineSource {
     #[inline(always)]
     fn peek<'a>(&'a self, alloc: Global, tokens: &mut LineTokens<'a>) -> Option<Peeked>
         requires { HasNoTokens tokens.old }
-        ensures lookahead { IfSome result (λ p. IsBufferedLine self.now p (stored_lexemes tokens.new)) }
+        ensures lookahead { IfSome result (λ p.
+            IsBufferedLine self.now p (stored_lexemes tokens.new)) }
         ensures within { tokens.new.few.count ≤ 8 }
     {
         match self {
@@ -165,9 +171,10 @@ impl LineSource {
     /// Reads the line that `peek` returned.
     #[inline(always)]
     fn consume_peeked(&mut self, line: Peeked)
-        ensures taken { (m : Files) (ts : List Lexeme) → IsBufferedLine self.old line ts →
+        ensures next_line { (m : Files) (ts : List Lexeme) → IsBufferedLine self.old line ts →
             ReadsFileLine (remaining_in m self.old) line.number ts (remaining_in m self.new) }
-        ensures at { (m : Files) (ts : List Lexeme) (p : SourceLocation) → IsBufferedLine self.old line ts →
+        ensures at { (m : Files) (ts : List Lexeme) (p : SourceLocation) →
+            IsBufferedLine self.old line ts →
             IsSourceAt m self.old p → IsSourceAt m self.new (location_at p line.number) }
         ensures kind { is_file self.new ≡ is_file self.old }
         ensures call { is_call self.new ≡ is_call self.old }
@@ -196,12 +203,12 @@ impl InputStack {
     /// Reads the line that `peek` returned.
     #[inline(always)]
     pub fn consume_peeked(&mut self, line: Peeked)
-        ensures taken { (m : Files) (ts : List Lexeme) → IsNextLine self.old line ts →
+        ensures next_line { (m : Files) (ts : List Lexeme) → IsNextLine self.old line ts →
             ReadsNextLine (remaining_of m self.old) (Ok (Some ts, remaining_of m self.new)) }
         ensures current_location { self.new.location ≡ location_at self.old.location line.number }
-        ensures room { self.new.budget ≡ self.old.budget - 1 }
+        ensures remaining_budget { self.new.budget ≡ self.old.budget - 1 }
         ensures innermost { PreservesInnermost self.old self.new }
-        ensures stands { (m : Files) (ts : List Lexeme) → IsNextLine self.old line ts →
+        ensures stack_position { (m : Files) (ts : List Lexeme) → IsNextLine self.old line ts →
             IsStackPositioned m self.old → IsStackPositioned m self.new }
     {
         self.top.source.consume_peeked(line);
@@ -212,11 +219,12 @@ impl InputStack {
     /// Skips the next line if it comes from a file, is buffered whole and is plain. Returns whether
     /// it did.
     fn skip_plain_line(&mut self) -> bool
-        ensures skipped { (m : Files) → IsTrue result → SkipsPlainLine (remaining_of m self.old) (remaining_of m self.new) }
+        ensures skipped { (m : Files) → IsTrue result →
+            SkipsPlainLine (remaining_of m self.old) (remaining_of m self.new) }
         ensures budget { IsTrue result → self.new.budget < self.old.budget }
         ensures innermost { PreservesInnermost self.old self.new }
         ensures none { result ≡ false → self.new ≡ self.old }
-        ensures stands { (m : Files) → IsStackPositioned m self.old → IsStackPositioned m self.new }
+        ensures stack_position { (m : Files) → IsStackPositioned m self.old → IsStackPositioned m self.new }
     {
         if self.budget == 0 {
             return false;
@@ -230,10 +238,11 @@ impl InputStack {
 
     /// Skips plain lines of a file, as far as they are buffered.
     pub fn skip_plain_lines(&mut self)
-        ensures skipped { (m : Files) → SkipsPlainLines (remaining_of m self.old) (remaining_of m self.new) }
-        ensures room { self.new.budget ≤ self.old.budget }
+        ensures skipped { (m : Files) →
+            SkipsPlainLines (remaining_of m self.old) (remaining_of m self.new) }
+        ensures remaining_budget { self.new.budget ≤ self.old.budget }
         ensures innermost { PreservesInnermost self.old self.new }
-        ensures stands { (m : Files) → IsStackPositioned m self.old → IsStackPositioned m self.new }
+        ensures stack_position { (m : Files) → IsStackPositioned m self.old → IsStackPositioned m self.new }
     {
         'lines: loop {
             if !self.skip_plain_line() {

@@ -151,8 +151,7 @@ not_at n h = grind (arith, nat_tests)
 
 -- ---- The loop, for all modules that the linker represents.
 
--- reading the records from offset `next` on, after those that the linker consumed, has the same result as reading all of
--- them
+-- reading the records from `next` on, after those that the linker consumed, has the same result as reading all records
 abbrev pub IsAt : Option Files → Input → ℕ × ℕ → ℕ → LinkerView → LinkerView → Type 0
 IsAt known i at next old now =
     (modules : List Module) (called : List ℕ) (entry : Option Listing) → RepresentsWithOpenModule old modules called entry (start at.0)

@@ -163,7 +163,8 @@ fn add_input<S: Store>(
     input: &NamedInput<'_>,
 ) -> Result<(), LinkCommandFault>
     requires { is_open linker.old ≡ false }
-    ensures added { AddsInput (S.files store.old) input.now.input_index input.now.name.now linker.old
+    ensures added { AddsInput
+        (S.files store.old) input.now.input_index input.now.name.now linker.old
         linker.new result }
     ensures frame { AddModulesFrame S.files S.failures S.last_failure
         (λ before b. NamesFailure (IsInputFailure (S.files store.old) linker.old.script before b

@@ -9,6 +9,6 @@ encode-push : (xs : List ℕ) (c : ℕ) → encode_utf8_all xs ++ encode_utf8 c 
 encode-push [] c = sym (append-nil (encode_utf8 c))
 encode-push (x ∷ xs) c = append_assoc (encode_utf8 x) (encode_utf8_all xs) (encode_utf8 c) ∙ ap (λ l. encode_utf8 x ++ l) (encode-push xs c)
 
--- one byte more
+-- one further byte
 pub encode-more : (name : List ℕ) (i c : ℕ) → i < length name → c ≡ get_or name i 0 → encode_utf8_all (take i name) ++ encode_utf8 c ≡ encode_utf8_all (take (i + 1) name)
 encode-more name i c lt e = grind (arith, common_steps, encode-push, take-suc)

@@ -1,4 +1,4 @@
--- Edits of a library, seen as a list of members.
+-- Edits of a library, in terms of its list of members.
 use Rattle.std.proofs.lemmas.Grind.{common_steps}
 use Rattle.std.proofs.Common.{arith, ◌≡◌, ◌∙◌, ℕ, Bool, true, false, not, ◌||◌, ◌&&◌, List, [], ◌∷◌, map, Ok, is_some, refl, ap, if◌then◌else◌}
 use Rattle.std.specs.Global.{Vec}
@@ -23,7 +23,7 @@ same_key a b = bytes_eq a.items b.items
 abbrev pub has_key : List ℕ → Vec ℕ → Bool
 has_key name k = bytes_eq name k.items
 
--- ---- What the list of members becomes.
+-- ---- The list of members after an edit.
 
 pub inserted : (es : Stock) (k : Vec ℕ) (v : StoredMember) → map member_of (insert_entry same_key es k v) ≡ with_member (map member_of es) k.items v.bytes.items
 inserted [] k v = refl
@@ -41,7 +41,7 @@ pub known : (es : Stock) (name : List ℕ) → is_some (lookup (has_key name) es
 known [] name = refl
 known (e ∷ es) name = grind (arith, common_steps, (known es name))
 
--- ---- The names stay good.
+-- ---- The members' names remain valid.
 
 pub and : (a b : Bool) → a ≡ true → b ≡ true → (a && b) ≡ true
 and true b e f = f
@@ -113,7 +113,7 @@ without_good (m ∷ ms) name all =
     step true g h = g.rest
     step false g h = names_good m.0 _ (record { good = g.good; new = without_absent ms name m.0 g.new; rest = h })
 
--- ---- What is kept stays so.
+-- ---- The stored contents remain correct.
 
 pub checked_good : (name bytes : List ℕ) (c : Contents) → member_contents name bytes ≡ Ok c → is_member_name name ≡ true
 unfolding member_contents

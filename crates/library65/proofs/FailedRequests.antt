@@ -1,4 +1,4 @@
--- Which bytes of a library's file the failed call of a reading asked for.
+-- The offsets that a failed call can have requested while a library's file was read.
 use Rattle.std.proofs.lemmas.Grind.{common_steps}
 use Rattle.std.proofs.Common.{◌≡◌, ◌∙◌, ◌<◌, ◌≤◌, ◌⊎◌, inl, inr, ℕ, zero, suc, ◌+◌, ◌-◌, ◌++◌, List, [], ◌∷◌, length, take, drop, get_or, map, true, cond, nat_lt, Option, Some, None, Ok, Err, refl, sym, ap, subst, arith}
 use Rattle.std.specs.Prelude.{IfSome, IsErrOf, ◌&&◌, not}
@@ -20,7 +20,7 @@ use Rattle.library65.proofs.Edits.{left, right}
 use Rattle.library65.proofs.ReadIndexes.{admits, bound, ended, passes}
 use Rattle.library65.proofs.Steps.{Leads, Reading}
 
--- ---- Where a reading ends.
+-- ---- The end of each part that is read.
 
 name_ends : (bytes : List ℕ) (at : ℕ) (x : List ℕ × ℕ) → name_at at bytes ≡ Ok x → (len : List ℕ) × (field_at 1 at bytes ≡ Ok len) × (x.1 ≡ at + 1 + get_or len 0 0) × (get_or len 0 0 ≡ 0 → length x.0 ≡ 0)
 unfolding name_at
@@ -62,7 +62,7 @@ counted_later bytes at x e =
     let a = bound (number_at at bytes) (λ n. symbols_at n [] (at + 4) bytes) x e in
     symbols_later a.0 bytes (at + 4) [] x a.2
 
--- a name that is a symbol's or a member's isn't empty
+-- the name of a symbol or a member isn't empty
 symbol_some : (name : List ℕ) → is_name name ≡ true → 0 < length name
 symbol_some name e = grind (arith, common_steps, left, right, nat_tests)
 
@@ -76,7 +76,7 @@ member_name_is bytes at names x e =
 member_some : (name : List ℕ) → is_member_name name ≡ true → 0 < length name
 member_some name e = grind (arith, common_steps, left, right, nat_tests)
 
--- the parts of what is said of a member
+-- the parts of an index entry that was read
 record Listed (bytes : List ℕ) (at : ℕ) (x : UnplacedEntry × ℕ) : Type 0 where
   name : List ℕ × ℕ
   named : name_at at bytes ≡ Ok name
@@ -119,7 +119,7 @@ listings_later (suc n) bytes at before x e =
     let a = bound (unplaced_entry_at names at bytes) (λ m. unplaced_entries_at n (before ++ m.0 ∷ []) m.1 bytes) x e in
     omega (arith, listing_later bytes at names a.0 a.1, listings_later n bytes a.0.1 (before ++ a.0.0 ∷ []) x a.2)
 
--- ---- Which place a step of a reading asks for.
+-- ---- The offset that each step of reading requests.
 
 module _ (bytes : List ℕ) (k : ℕ) where
   pub first_of_name : (at : ℕ) → k ≤ at → IsOffsetInName at bytes k
@@ -191,7 +191,7 @@ placed_first : (at : ℕ) (ms : List UnplacedEntry) (before : List Entry) (x : L
 placed_first at [] before x e = let same : ◌≡◌ {A = List Entry × ℕ} (before, at) x = cc e in omega (arith, ap (λ (y : List Entry × ℕ). y.1) same)
 placed_first at (m ∷ ms) before x e = let a = passes (nat_lt file_limit (at + m.size)) BadIndex (members_with_offsets (before ++ entry_at at m ∷ []) (at + m.size) ms) x e in omega (arith, placed_first (at + m.size) ms (before ++ entry_at at m ∷ []) x a.1)
 
--- entries that were placed go on
+-- the members begin at the offset of the first entry
 placed_after : (at : ℕ) (ms : List UnplacedEntry) (e : Entry) (before : List Entry) (x : List Entry × ℕ) → members_with_offsets (e ∷ before) at ms ≡ Ok x → (end : ℕ) → members_offset x.0 end ≡ e.place
 placed_after at [] e before x h end = let same : ◌≡◌ {A = List Entry × ℕ} (e ∷ before, at) x = cc h in ap (λ (y : List Entry × ℕ). members_offset y.0 end) (sym same)
 placed_after at (m ∷ ms) e before x h end = let a = passes _ _ _ x h in placed_after (at + m.size) ms e (before ++ entry_at at m ∷ []) x a.1 end
@@ -200,7 +200,7 @@ begins_at : (at : ℕ) (ms : List UnplacedEntry) (x : List Entry × ℕ) → mem
 begins_at at [] x e = let same : ◌≡◌ {A = List Entry × ℕ} ([], at) x = cc e in ap (λ (y : List Entry × ℕ). members_offset y.0 y.1) (sym same)
 begins_at at (m ∷ ms) x e = let a = passes _ _ _ x e in placed_after (at + m.size) ms (entry_at at m) [] x a.1 x.1
 
--- the parts of an index
+-- the parts of an index that was read
 pub record Indexed (bytes : List ℕ) (es : List Entry) : Type 0 where
   pub list : List UnplacedEntry × ℕ
   pub listed : member_entries_at bytes ≡ Ok list
@@ -237,9 +237,9 @@ module _ (bytes : List ℕ) (k : ℕ) where
       last (inl h) end = inr (omega arith)
       last (inr h) end = inl (omega arith)
 
--- ---- The same of a store.
+-- ---- The same for a store.
 
--- what is so of a file's bytes is so of a place
+-- if `P` implies `Q` for every offset, it does for the requested offset
 module _ (m : Files) (file bytes : List ℕ) (P Q : List ℕ → ℕ → Type 0) (so : (k : ℕ) → P bytes k → Q bytes k) where
   told : (last_failure : LastFailure) → IfSome last_failure (λ c. (at : ℕ) × (c.at ≡ Some at) × P bytes at) → IfSome last_failure (λ c. (at : ℕ) × (c.at ≡ Some at) × Q bytes at)
   told None h = tt
@@ -256,7 +256,7 @@ asks_on known now last_failure file P Q same so asks = go known refl (subst (λ 
     go None is asks = tt
     go (Some m) is asks = of m is (get m file) refl asks
 
--- the place lies between these
+-- the offset is between `begin` and `end`, or one of them
 abbrev pub IsBetween : ℕ → ℕ → List ℕ → ℕ → Type 0
 IsBetween begin end bytes at = (begin ≤ at) × (at ≤ end)
 
@@ -275,7 +275,7 @@ asks_between known last_failure file begin end h = go known
     go None = tt
     go (Some m) = of (get m file)
 
--- what was read of a file that is told
+-- the result of reading a file is the result of reading its bytes, if they are known
 pub read_at : {A : Type 0} (known : Option Files) (file : List ℕ) (read : Reading A) (y : A) → IfSome known (λ m. in_file (get m file) read ≡ Ok y) → (m : Files) (bytes : List ℕ) → known ≡ Some m → get m file ≡ Some bytes → read bytes ≡ Ok y
 read_at {A} known file read y h m bytes is there =
     let known_m : in_file (get m file) read ≡ Ok y = subst (λ (f : Option Files). IfSome f (λ m. in_file (get m file) read ≡ Ok y)) is h in
@@ -286,11 +286,11 @@ leads_at {A} known file rest all h m bytes is there =
     let known_m : IfSome (get m file) (λ bytes. rest bytes ≡ all bytes) = subst (λ (f : Option Files). IfSome f (λ m. IfSome (get m file) (λ bytes. rest bytes ≡ all bytes))) is h in
     subst (λ (b : Option (List ℕ)). IfSome b (λ bytes. rest bytes ≡ all bytes)) there known_m
 
--- what is left to read ends where the whole does
+-- if the rest is read as the whole, an offset before the end of the rest is before the end of the whole
 pub leads_before : {A : Type 0} (rest all : Reading (A × ℕ)) (bytes : List ℕ) (k : ℕ) → rest bytes ≡ all bytes → IsOffsetInPart rest bytes k → IsOffsetInPart all bytes k
 leads_before rest all bytes k same within x e = within x (same ∙ e)
 
--- a refusal of a step is that of the whole
+-- a failure of the store in a step is the failure of the whole
 pub fault_of : {T U : Type 0} (e : LibraryFault) → IsErrOf {T = T} (Err e) FileError → IsErrOf {T = U} (Err e) FileError
 fault_of e h = let is : e ≡ FileError = cc h in ap Err is
 

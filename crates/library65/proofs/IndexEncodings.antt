@@ -1,4 +1,4 @@
--- The encoding of an index is read as that index.
+-- Reading the encoding of an index returns that index.
 use Rattle.std.proofs.lemmas.Grind.{common_steps}
 use Rattle.std.proofs.Common.{◌≡◌, ◌∙◌, ◌<◌, ◌≤◌, ◌^◌, ℕ, ◌+◌, Bool, true, false, ◌||◌, nat_eq, nat_lt, List, [], ◌∷◌, ◌++◌, length, map, Ok, refl, sym, ap, subst, arith, append_assoc, length-append}
 use Rattle.std.specs.Prelude.{sum_by}
@@ -20,7 +20,7 @@ use Rattle.library65.specs.Reading.{counted_names_at, end_at, head_at, entry_at,
 use Rattle.library65.proofs.Edits.{good_names, left, right}
 use Rattle.library65.proofs.WrittenLibraries.{entry_size}
 
--- this part is at an offset, within the size limit of a file
+-- the part is in the bytes at offset `at`, and ends within the file size limit
 pub record Stands (bytes : List ℕ) (at : ℕ) (part : List ℕ) : Type 0 where
   pub front : List ℕ
   pub rest : List ℕ
@@ -103,7 +103,7 @@ listing_again bytes at names e good new fit s =
     rw (member_name_again bytes at names e.name good new s0, number_again bytes p e.size fit.size s1, counted_again bytes (p + 4) e.exports fit.exports fit.export_count s2, counted_again bytes (p + 4 + length x) e.imports fit.imports fit.import_count r2)
     (ap (λ k. Ok (listing_of e, k)) total)
 
--- no name of these is among those
+-- no entry's name is among these names
 abbrev pub Fresh : List (List ℕ) → List Entry → Type 0
 Fresh names es = AllByRecursion (λ (e : Entry). is_among names e.name ≡ false) es
 
@@ -175,7 +175,7 @@ list_again bytes es x =
     ∙ ap (λ r. r >>= (λ n. unplaced_entries_at n [] 9 bytes)) (number_again bytes 5 (length es) x.count (first_part bytes 5 number listed s1))
     ∙ listings_again bytes 9 [] es x.names (fresh_none es) x.entries s2
 
--- the encoding of an index is read
+-- the encoding of an index is read as that index
 pub index_again : (bytes : List ℕ) (es : List Entry) → IsIndex bytes es → index_at bytes ≡ Ok es
 unfolding index_at
 index_again bytes es x =

@@ -1,4 +1,4 @@
--- No fault of bytes or of edits comes from outside: an index and a library are read of any bytes, or a fault of their own.
+-- Reading any bytes as an index or a library, and any edit, succeeds or returns an error that isn't a system error.
 use Rattle.std.proofs.Common.{◌+◌, ◌++◌, ℕ, zero, suc, List, [], ◌∷◌, map, get_or, Result, Ok, Err, refl}
 use Rattle.base65.proofs.SystemErrors.{Own, bad, choice, good, next}
 use Rattle.object65.specs.declared.fault.ObjectFault.{ObjectFault}

@@ -1,4 +1,4 @@
--- Bytes that are loaded as a library encode it, and edits leave members of a library.
+-- Bytes that are loaded as a library are its encoding, and edits preserve lists of members that can form a library.
 use Rattle.std.proofs.lemmas.Grind.{common_steps}
 use Rattle.std.proofs.Common.{◌≡◌, ◌∙◌, ◌≤◌, ℕ, true, false, nat_lt, List, [], ◌∷◌, ◌++◌, length, take, drop, map, Ok, Err, refl, sym, ap, subst, arith, append_assoc, length-append, if◌then◌else◌, ◌-◌, Result}
 use Rattle.std.specs.Str.{bytes_eq}
@@ -172,7 +172,7 @@ library_taken bytes ms is h =
     let all = all_take bytes [] i.0 ms is x.names (fresh_none i.0) i.2 in
     record { index = i.0; is_index = x; members = subst (λ ns. AreMembers bytes i.0 ns) (sym all.members) all.are }
 
--- ---- Members that make a library.
+-- ---- Members that can form a library.
 
 with_objects : (ms : List Member) (name bytes : List ℕ) → AllByRecursion HasObject ms → HasObject (name, bytes) → AllByRecursion HasObject (with_member ms name bytes)
 with_objects [] name bytes all one = (one, tt)

@@ -1,4 +1,4 @@
--- The members of an index are contiguous in the file, after the index.
+-- The members of an index are contiguous, up to the end of the file.
 use Rattle.std.proofs.Common.{◌≡◌, ◌∙◌, ◌<◌, ◌≤◌, ℕ, zero, suc, ◌+◌, ◌++◌, List, [], ◌∷◌, length, nat_lt, Some, slice_get, Ok, refl, sym, ap, subst, arith, append_assoc}
 use Rattle.std.proofs.lemmas.List.{append-nil}
 use Rattle.object65.specs.Reading.{file_limit}
@@ -10,7 +10,7 @@ use Rattle.library65.specs.Reading.{entry_at, index_at, members_with_offsets}
 use Rattle.library65.proofs.FailedRequests.{count_of_list, indexed}
 use Rattle.library65.proofs.ReadIndexes.{passes}
 
--- from a place on up to another
+-- the entries are contiguous from offset `at` to offset `end`
 abbrev pub IsRow : ℕ → List Entry → ℕ → Type 0
 IsRow at [] end = at ≡ end
 IsRow at (e ∷ es) end = (e.place ≡ at) × IsRow (at + e.size) es end
@@ -33,7 +33,7 @@ begins : (at : ℕ) (es : List Entry) (end : ℕ) → IsRow at es end → member
 begins at [] end row = sym row
 begins at (e ∷ es) end row = row.0
 
--- the members follow the index, up to the end of the file
+-- the members begin after offset 8 and are contiguous up to the end of the file
 pub record StandAfter (bytes : List ℕ) (es : List Entry) : Type 0 where
   pub following : 8 < members_offset es (length bytes)
   pub row : IsRow (members_offset es (length bytes)) es (length bytes)
@@ -54,7 +54,7 @@ row_rises : (at : ℕ) (es : List Entry) (end : ℕ) → IsRow at es end → at 
 row_rises at [] end row = omega (arith, row)
 row_rises at (e ∷ es) end row = omega (arith, row_rises (at + e.size) es end row.1)
 
--- each stands in the row
+-- each member is between the two offsets
 pub stands_within : (at : ℕ) (es : List Entry) (end i : ℕ) (e : Entry) → IsRow at es end → slice_get es i ≡ Some e → (at ≤ e.place) × (e.place + e.size ≤ end)
 stands_within at [] end i e row there = absurd cc
 stands_within at (x ∷ es) end zero e row there =
@@ -64,7 +64,7 @@ stands_within at (x ∷ es) end (suc i) e row there =
     let rest = stands_within (at + x.size) es end i e row.1 there in
     (omega (arith, rest.0), rest.1)
 
--- and one after those before it
+-- each member begins at or after the end of every member before it
 pub stand_apart : (at : ℕ) (es : List Entry) (end i j : ℕ) (e f : Entry) → IsRow at es end → slice_get es i ≡ Some e → slice_get es j ≡ Some f → i < j → e.place + e.size ≤ f.place
 stand_apart at [] end i j e f row one other less = absurd cc
 stand_apart at (x ∷ es) end i zero e f row one other less = absurd (omega arith)

@@ -1,4 +1,4 @@
--- The objects in members' bytes, and what they export and import.
+-- The objects in members' bytes, and their exports and imports.
 use Rattle.std.proofs.lemmas.Grind.{common_steps}
 use Rattle.std.proofs.Common.{arith, ◌≡◌, ◌∙◌, ◌<◌, ℕ, Bool, true, false, not, List, length, drop, take, get_or, Ok, Err, refl, sym, ap, []}
 use Rattle.std.specs.Str.{bytes_eq}
@@ -25,7 +25,7 @@ use Rattle.library65.proofs.WrittenLibraries.{all_names}
 
 -- ---- The objects in members' bytes.
 
--- two names that stand at one place differ
+-- if two names at the same index differ, so do the lists
 pub differ : (names others : List (List ℕ)) (i : ℕ) (x y : List ℕ) → i < length names → i < length others → x ≡ get_or names i x → y ≡ get_or others i y → bytes_eq x y ≡ false → are_same (drop i names) (drop i others) ≡ false
 differ names others i x y lt lt2 at at2 e = grind (arith, common_steps)
 
@@ -33,7 +33,7 @@ pub turned : (b : Bool) → not b ≡ true → b ≡ false
 turned true e = cc
 turned false e = refl
 
--- ---- No fault of a store comes from a member's bytes.
+-- ---- A member's bytes never have the error `FileError`.
 
 not_a_file : (name bytes : List ℕ) → member_contents name bytes ≡ Err library.FileError → ⊥
 unfolding member_contents contents_in
@@ -51,13 +51,13 @@ pub trailing : (name bytes : List ℕ) (version first end : ℕ) (c : Contents) 
 unfolding member_contents contents_in object_at
 trailing name bytes version first end c named head ends less = grind (arith, common_steps, following)
 
--- ---- Records that are scanned one after another for what they export and import.
+-- ---- Records are scanned in order for the exports and imports of their object.
 
 unless : (b : Bool) {P Q : Type 0} → (P → Q) → Unless b P → Unless b Q
 unless true h p = tt
 unless false h p = h p
 
--- what was scanned is an object in the making that exports and imports these
+-- the records up to `next` were scanned, and the object in their state has these exports and imports
 pub record IsTaken (v : ℕ) (bytes : List ℕ) (at next : ℕ) (scan : Outline) (c : Contents) : Type 0 where
   pub state : State
   pub goes : Goes v bytes (length bytes) at next state

@@ -1,4 +1,4 @@
--- Bytes that are read as an index encode this index.
+-- Bytes that are read as an index are its encoding.
 use Rattle.std.proofs.lemmas.Grind.{common_steps}
 use Rattle.std.proofs.Common.{◌≡◌, ◌∙◌, ◌<◌, ◌≤◌, ◌^◌, ℕ, zero, suc, ◌+◌, Bool, true, false, cond, nat_lt, List, [], ◌∷◌, ◌++◌, length, take, drop, get_or, Result, Ok, Err, refl, sym, ap, subst, arith, append_assoc, if◌then◌else◌, not, ◌||◌, ◌&&◌, nat_eq, map, length-drop}
 use Rattle.std.specs.List.{flat_map, list_all, AllByRecursion}
@@ -39,7 +39,7 @@ pub admits : {A : Type 0} (b : Bool) (f : LibraryFault) (x y : A) → cond b (Ok
 admits true f x y e = (refl, cc)
 admits false f x y e = cc
 
--- a part was read between two offsets, within the size limit of a file
+-- the bytes from `at` to `next` are `part`, and end within the file size limit
 pub record Takes (bytes : List ℕ) (at next : ℕ) (part : List ℕ) : Type 0 where
   pub split : drop at bytes ≡ part ++ drop next bytes
   pub next_is : next ≡ at + length part
@@ -201,7 +201,7 @@ listing_takes bytes at names x is e =
       fits = record { exports = exports.good; imports = imports.good; size = size.1; export_count = exports.count; import_count = imports.count };
     })
 
--- none of these names is among those
+-- no entry's name is among these names
 abbrev Apart : List (List ℕ) → List UnplacedEntry → Type 0
 Apart names ms = AllByRecursion (λ (m : UnplacedEntry). is_among names m.name ≡ false) ms
 
@@ -209,7 +209,7 @@ or_none : (a b : Bool) → (a || b) ≡ false → (a ≡ false) × (b ≡ false)
 or_none true b e = cc
 or_none false b e = (refl, e)
 
--- names that aren't among those and one more
+-- if no entry's name is among `names ++ name`, none is among `names`, and none is `name`
 parted : (names : List (List ℕ)) (name : List ℕ) (ms : List UnplacedEntry) → Apart (names ++ name ∷ []) ms → Apart names ms × (is_among (map (λ (m : UnplacedEntry). m.name) ms) name ≡ false)
 parted names name [] apart = (tt, refl)
 parted names name (m ∷ ms) apart =
@@ -250,7 +250,7 @@ listings_take (suc n) bytes at before x is le e =
       fits = (m.fits, rest.fits);
     }
 
--- ---- Places.
+-- ---- Offsets.
 
 abbrev placed_from : ℕ → List UnplacedEntry → List Entry
 placed_from at [] = []
@@ -297,7 +297,7 @@ all_sizes : (at : ℕ) (ms : List UnplacedEntry) → sum_by entry_size (placed_f
 all_sizes at [] = refl
 all_sizes at (m ∷ ms) = sum_by-cons entry_size (entry_at at m) (placed_from (at + m.size) ms) ∙ ap (λ n. m.size + n) (all_sizes (at + m.size) ms) ∙ sym (sum_by-cons (λ (m : UnplacedEntry). m.size) m ms)
 
--- ---- The whole.
+-- ---- The whole index.
 
 head_takes : (bytes : List ℕ) (u : Unit {0}) → head_at bytes ≡ Ok u → Takes bytes 0 5 library_head
 head_takes bytes u e = grind (arith, common_steps)

@@ -1,4 +1,4 @@
--- What is wanted of a library has a selection: the search for it ends.
+-- Every list of wanted names has a selection, because the search for it terminates.
 use Rattle.std.proofs.Common.{◌≡◌, ◌∙◌, ◌<◌, ◌≤◌, ℕ, zero, suc, ◌+◌, Bool, true, false, not, nat_lt, List, [], ◌∷◌, ◌++◌, length, get_or, slice_get, Option, Some, None, refl, sym, ap, subst, arith, append_assoc, length-append}
 use Rattle.std.specs.Prelude.{count_by, replicate, slice_set}
 use Rattle.std.proofs.lemmas.Bool.Decides.{nat_tests}
@@ -17,7 +17,7 @@ set_length [] i b = refl
 set_length (m ∷ ms) zero b = refl
 set_length (m ∷ ms) (suc i) b = ap suc (set_length ms i b)
 
--- a mark for each member that was found, and so there are no more of these than members
+-- a mark for each member that was found; so no more members are found than there are
 record Marked (es : List Entry) (found : List ℕ) : Type 0 where
   marks : List Bool
   marked : (i : ℕ) → get_or marks i false ≡ has_index found i

@@ -1,4 +1,4 @@
--- Selections: the search gives one, there is but one, and it grows with what is wanted.
+-- The search returns the selection, which is unique and grows with the wanted names.
 use Rattle.std.proofs.lemmas.Grind.{common_steps}
 use Rattle.std.specs.Global.{Vec}
 use Rattle.std.specs.Vec.{with_item}
@@ -18,7 +18,7 @@ use Rattle.object65.specs.Objects.{is_among}
 use Rattle.std.specs.Cmp.Lexicographic.{pointwise}
 use Rattle.std.proofs.lemmas.Slice.Eq.{bytes_eq-Decides}
 
--- ---- Places that are marked and listed.
+-- ---- Cases of a disjunction.
 
 pub either : {A : Type 0} (b : Bool) → (b ≡ true → A) → (b ≡ false → A) → A
 either true f g = f refl
@@ -36,7 +36,7 @@ pub or_right : (a b : Bool) → b ≡ true → (a || b) ≡ true
 or_right true b e = refl
 or_right false b e = e
 
--- ---- An item that passes a test.
+-- ---- An item that satisfies a predicate.
 
 pub any_at : {X : Type 0} (p : X → Bool) (xs : List X) → list_any p xs ≡ true → (k : ℕ) × (x : X) × (k < length xs) × (slice_get xs k ≡ Some x) × (p x ≡ true)
 any_at p [] e = cc
@@ -56,7 +56,7 @@ same_place i j e = grind (arith, nat_tests)
 pub place_same : (i : ℕ) → nat_eq i i ≡ true
 place_same i = grind (arith, nat_tests)
 
--- a place of a list is somewhere in it
+-- an element of a list is at some index of it
 pub place_at : (is : List ℕ) (i : ℕ) → has_index is i ≡ true → (k : ℕ) × (k < length is) × (slice_get is k ≡ Some i)
 place_at is i e = let r = any_at (nat_eq i) is e in (r.0, r.2, r.3 ∙ ap (λ j. Some j) (sym (same_place i r.1 r.4)))
 
@@ -98,7 +98,7 @@ marks_added marks indices index within marked i = grind (arith, common_steps)
 pub count_added : (marks : List Bool) (index : ℕ) → index < length marks → get_or marks index false ≡ false → count_by not (slice_set marks index true) + 1 ≡ count_by not marks
 count_added marks index within new = grind (arith, common_steps)
 
--- ---- The places that are marked.
+-- ---- The indices that are marked.
 
 pub marked_places : (i j : ℕ) (marks : List Bool) → i ≤ j → has_index (marked_indices_from i marks) j ≡ get_or marks (j - i) false
 marked_places i j [] le = refl
@@ -137,7 +137,7 @@ marked_below n i [] le = tt
 marked_below n i (true ∷ marks) le = (omega arith, marked_below n (i + 1) marks (omega arith))
 marked_below n i (false ∷ marks) le = marked_below n (i + 1) marks (omega arith)
 
--- ---- Selections: the search gives one, there is but one, and it grows with what is wanted.
+-- ---- Lists of names.
 
 abbrev pub Names : Type 0
 Names = List (List ℕ)
@@ -157,7 +157,7 @@ position_below p i (x ∷ xs) k e =
 pub exporter_below : (es : List Entry) (name : List ℕ) (index : ℕ) → first_exporter es name ≡ Some index → index < length es
 exporter_below es name index e = let below = position_below (λ (x : Entry). is_among x.exports name) 0 es index e in omega arith
 
--- ---- Tests.
+-- ---- Conjunction and negation.
 
 both : (a b : Bool) → (a && b) ≡ true → (a ≡ true) × (b ≡ true)
 both true b e = (refl, e)
@@ -171,10 +171,10 @@ not_true : (b : Bool) → not b ≡ true → b ≡ false
 not_true true e = absurd cc
 not_true false e = refl
 
--- ---- The search gives the selection.
+-- ---- The search returns the selection.
 
 module _ (es : List Entry) (wanted defined : Names) (found : List ℕ) where
-  -- what is wanted or imported by a member that was found
+  -- the names that aren't defined, and that are wanted or imported by a member that was found
 
   abbrev has : List ℕ → Bool
   has name = not (is_among defined name) && (is_among wanted name || list_any (λ i. is_among (imports_at es i) name) found)
@@ -182,7 +182,7 @@ module _ (es : List Entry) (wanted defined : Names) (found : List ℕ) where
   free : (name : List ℕ) → is_among defined name ≡ false → not (is_among defined name) ≡ true
   free name e = rw e refl
 
-  -- the first exporter of a name of the set was found
+  -- the first exporter of each name in this set was found
   exporter_found : IsSearchState es wanted defined found (length found) → (name : List ℕ) (index : ℕ) → has name ≡ true → first_exporter es name ≡ Some index → has_index found index ≡ true
   exporter_found done name index in_set first = grind (arith, common_steps, both, not_true, or_true, any_at)
 
@@ -207,13 +207,13 @@ module _ (es : List Entry) (wanted defined : Names) (found : List ℕ) where
   pub searched_selected : (marks : List Bool) (indices : List ℕ) → IsSearchState es wanted defined found (length found) → ((i : ℕ) → get_or marks i false ≡ has_index found i) → indices ≡ marked_indices_from 0 marks → IsSelection es wanted defined indices
   searched_selected marks indices done marked listed = grind (arith, common_steps, marked_places, set_closed, set_least, exporter_found, marked_rising)
 
--- ---- Selections.
+-- ---- Selections are unique and grow with the wanted names.
 
 above : (i j : ℕ) (is : List ℕ) → AllByRecursion (λ k. i < k) is → has_index is j ≡ true → i < j
 above i j [] all e = cc
 above i j (k ∷ is) all e = or_true (nat_eq j k) (has_index is j) e (λ h. let same = same_place j k h in omega (arith, all.0)) (λ h. above i j is all.1 h)
 
--- rising lists of the same places are one
+-- ascending lists with the same elements are equal
 one_list : (a b : List ℕ) → IsAscending a → IsAscending b → ((i : ℕ) → has_index a i ≡ true → has_index b i ≡ true) → ((i : ℕ) → has_index b i ≡ true → has_index a i ≡ true) → a ≡ b
 one_list [] [] ra rb f g = refl
 one_list [] (j ∷ b) ra rb f g = cc (g j (or_left (nat_eq j j) (has_index b j) (place_same j)))
@@ -239,14 +239,14 @@ selection_grows es wanted more defined a b grown first second index there =
 pub one_selection : SelectionIsUnique
 one_selection es wanted defined a b first second = grind (arith, common_steps, one_list, selection_grows)
 
--- ---- The search for the members that a link needs: what it has found is the selection.
+-- ---- Steps of the search for the members that a link needs.
 
 module _ (es : List Entry) (defined : Names) where
-  -- nothing is wanted
+  -- the case of no wanted name
   pub finds_none : (old : List ℕ) → MarksExporters es defined [] old old
   finds_none old = grind (arith, common_steps)
 
-  -- names one after the other
+  -- further names, one at a time
   pub finds_more : (names : Names) (name : List ℕ) (old mid new : List ℕ) → MarksExporters es defined names old mid → MarksExporters es defined (name ∷ []) mid new → MarksExporters es defined (names ++ name ∷ []) old new
   finds_more names name old mid new first last = grind (arith, common_steps)
 
@@ -256,7 +256,7 @@ module _ (es : List Entry) (defined : Names) where
   its_own : (name : List ℕ) → is_among (name ∷ []) name ≡ true
   its_own name = or_left (pointwise nat_eq name name) false ((bytes_eq-Decides name name).1 refl)
 
-  -- a name that is defined
+  -- the case of a name that is defined
   pub finds_defined : (name : List ℕ) (old : List ℕ) → is_among defined name ≡ true → MarksExporters es defined (name ∷ []) old old
   finds_defined name old is = record {
     following = [];
@@ -265,7 +265,7 @@ module _ (es : List Entry) (defined : Names) where
     only = λ i e. absurd cc;
   }
 
-  -- a name that no member exports
+  -- the case of a name that no member exports
   pub finds_nobody : (name : List ℕ) (old : List ℕ) → first_exporter es name ≡ None → MarksExporters es defined (name ∷ []) old old
   finds_nobody name old none = record {
     following = [];
@@ -274,7 +274,7 @@ module _ (es : List Entry) (defined : Names) where
     only = λ i e. absurd cc;
   }
 
-  -- a name whose first exporter was found before
+  -- the case of a name whose first exporter was found before
   pub finds_again : (name : List ℕ) (index : ℕ) (old : List ℕ) → first_exporter es name ≡ Some index → has_index old index ≡ true → MarksExporters es defined (name ∷ []) old old
   finds_again name index old first there = record {
     following = [];
@@ -285,7 +285,7 @@ module _ (es : List Entry) (defined : Names) where
     only = λ i e. absurd cc;
   }
 
-  -- a name whose first exporter is new
+  -- the case of a name whose first exporter is new
   pub finds_new : (name : List ℕ) (index : ℕ) (old new : List ℕ) → first_exporter es name ≡ Some index → is_among defined name ≡ false → new ≡ old ++ index ∷ [] → MarksExporters es defined (name ∷ []) old new
   finds_new name index old new first free more = record {
     following = index ∷ [];
@@ -299,11 +299,11 @@ module _ (es : List Entry) (defined : Names) where
   }
 
 module _ (es : List Entry) (wanted defined : Names) where
-  -- what is wanted was found
+  -- the state after the first exporters of the wanted names were found
   pub search_begins : (found : List ℕ) → MarksExporters es defined wanted [] found → IsSearchState es wanted defined found 0
   search_begins found finds = grind (arith, common_steps)
 
-  -- what one member more imports was found
+  -- the state after the first exporters of one further member's imports were found
   pub search_goes_on : (found new : List ℕ) (next index : ℕ) → next < length found → slice_get found next ≡ Some index → IsSearchState es wanted defined found next → MarksExporters es defined (imports_at es index) found new → IsSearchState es wanted defined new (next + 1)
   search_goes_on found new next index lt at so_far finds = record {
     needed = λ i there. or_true (has_index found i) (has_index finds.following i) (sym (list_any-append (nat_eq i) found finds.following) ∙ subst (λ (js : List ℕ). has_index js i ≡ true) finds.more there)
@@ -325,7 +325,7 @@ module _ (es : List Entry) (wanted defined : Names) where
       grown : (i : ℕ) → has_index found i ≡ true → has_index new i ≡ true
       grown i e = subst (λ (js : List ℕ). has_index js i ≡ true) (sym finds.more) (place_kept found finds.following i e)
 
--- one more that wasn't found before is marked
+-- marking a member that wasn't found before preserves `IsWellFormedSearch`
 pub mark_sound : (f : FoundMembers) (index : ℕ) (indices : Vec ℕ) → IsWellFormedSearch f → get_or f.marks.items index false ≡ false → index < length f.marks.items → indices.items ≡ f.indices.items ++ index ∷ [] → IsWellFormedSearch (record { marks = with_item f.marks index true; indices = indices })
 mark_sound f index indices sound clear within more = record {
   marks = λ i. grind (arith, common_steps);

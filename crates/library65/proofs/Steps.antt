@@ -1,4 +1,4 @@
--- What is read of a file in steps.
+-- The bytes of a library's file are read in steps.
 use Rattle.std.proofs.lemmas.Grind.{common_steps}
 use Rattle.std.proofs.Common.{◌≡◌, ◌∙◌, ◌<◌, arith, ℕ, List, Bool, true, false, Option, Some, None, Result, Ok, Err, refl, sym, ap, subst, drop, length, suc, ◌+◌, ◌-◌, ◌≤◌, [], ◌∷◌, ◌++◌, map, nat_le, take, min}
 use Rattle.std.specs.Prelude.{IfSome, if◌then◌else◌}
@@ -18,41 +18,41 @@ use Rattle.std.proofs.lemmas.Bool.Decides.{nat_tests}
 use Rattle.base65.specs.Reading.{ReadsChunk}
 use Rattle.base65.proofs.BufferFill.{take-add}
 
--- ---- Something read of a file in steps, where the file may not be there and the files may not be known.
+-- ---- A file is read in steps; it may not exist, and the files may not be known.
 
 abbrev pub Reading : Type 0 → Type 0
 Reading A = List ℕ → Result A LibraryFault
 
--- what is left to read gives what the whole gives
+-- reading the rest has the same result as reading the whole
 abbrev pub Leads : {A : Type 0} → Option Files → List ℕ → Reading A → Reading A → Type 0
 Leads known name rest all = IfSome known (λ m. IfSome (finmap.get m name) (λ bytes. rest bytes ≡ all bytes))
 
 module _ {A Y : Type 0} (name : List ℕ) (all rest : Reading A) (step : Reading Y) (k : Y → Reading A) (same : (bytes : List ℕ) → rest bytes ≡ (step bytes >>= (λ y. k y bytes))) where
-  -- a step that is taken
+  -- the case of a step that succeeds
   pub goes_on : (known now : Option Files) (y : Y) → now ≡ known → Leads known name rest all → IfSome now (λ m. in_file (finmap.get m name) step ≡ Ok y) → Leads known name (k y) all
   goes_on x now y files leads read = grind (arith, common_steps)
 
-  -- a step that is refused
+  -- the case of a step that fails
   pub stops : (known now : Option Files) (e : LibraryFault) → now ≡ known → Leads known name rest all → IfSome now (λ m. RefinesErr is_system_error e (in_file (finmap.get m name) step)) → IfSome known (λ m. RefinesErr is_system_error e (in_file (finmap.get m name) all))
   stops x now e files leads refused = grind (arith, common_steps)
 
-  -- a step that succeeds, after which the result is rejected
+  -- the case of a step that succeeds and whose value is rejected
   pub fails : (known now : Option Files) (y : Y) (e : LibraryFault) → now ≡ known → Leads known name rest all → IfSome now (λ m. in_file (finmap.get m name) step ≡ Ok y) → ((bytes : List ℕ) → k y bytes ≡ Err e) → IfSome known (λ m. RefinesErr is_system_error e (in_file (finmap.get m name) all))
   fails x now y e files leads read refused = grind (arith, common_steps)
 
--- at the beginning all is left to read
+-- at the beginning the rest is the whole
 pub begins : {A : Type 0} (known : Option Files) (name : List ℕ) (all : Reading A) → Leads known name all all
 begins x name all = grind (arith, common_steps)
 
--- a call that answered left the count of failures as it was
+-- a call that returned a value preserves the count of failures
 pub kept_count : {T : Type 0} (old now : ℕ) (x : T) → PropagatesIoError {E = LibraryFault} FileError old now (Ok x) → now ≡ old
 kept_count old now x passes = grind (arith, common_steps)
 
--- a refusal for another cause passes nothing on
+-- if no call failed, an error other than `FileError` satisfies `PropagatesIoError`
 none_passed : {T : Type 0} (old now : ℕ) (e : LibraryFault) → now ≡ old → (e ≡ FileError → ⊥) → PropagatesIoError {T = T} FileError old now (Err e)
 none_passed old now e same other = grind (arith, common_steps)
 
--- it leaves what the answered call before it left
+-- the frame of a successful call is the frame of an error that follows it, if that isn't `FileError`
 pub kept_on : {X T U : Type 0} {files_of : X → Option Files} {failures_of : X → ℕ} {last_failure_of : X → LastFailure} {name : List ℕ} {old new : X} (x : T) (e : LibraryFault) → StoreFrame files_of failures_of last_failure_of FileError name old new (Ok x) → (e ≡ FileError → ⊥) → StoreFrame {T = U} files_of failures_of last_failure_of FileError name old new (Err e)
 kept_on x e kept other = record {
   files = kept.files;
@@ -66,7 +66,7 @@ pub counted_begins : (at : ℕ) (bytes : List ℕ) → counted_names_at at bytes
 unfolding counted_names_at
 counted_begins at bytes = grind (arith, common_steps)
 
--- what is read is tested before it goes on
+-- a check and the next step are one conditional step
 tested : {X A : Type 0} (is_good : X → Bool) (r : Result X LibraryFault) (k : X → Result A LibraryFault) → (r >>= (λ x. if is_good x then Ok x else Err BadIndex) >>= k) ≡ (r >>= (λ x. if is_good x then k x else Err BadIndex))
 tested is_good (Err e) k = refl
 tested is_good (Ok x) k = by (is_good x)
@@ -79,7 +79,7 @@ pub symbols_more : (n i : ℕ) (names : List (List ℕ)) (at : ℕ) → i < n �
 unfolding symbol_at
 symbols_more n i names at less bytes = let one : n - i ≡ suc (n - (i + 1)) = omega arith in rw one (tested (λ s. is_name s.0) (name_at at bytes) (λ s. symbols_at (n - (i + 1)) (names ++ s.0 ∷ []) s.1 bytes))
 
--- ---- What is said of the members.
+-- ---- The entries of members.
 
 pub list_begins : (bytes : List ℕ) → member_entries_at bytes ≡ (count_at bytes >>= (λ n. unplaced_entries_at (n - 0) [] 9 bytes))
 unfolding member_entries_at
@@ -88,7 +88,7 @@ list_begins bytes = grind (arith, common_steps)
 pub listings_more : (n i : ℕ) (ms : List UnplacedEntry) (names : List (List ℕ)) (at : ℕ) → names ≡ map (λ m. m.name) ms → i < n → (bytes : List ℕ) → unplaced_entries_at (n - i) ms at bytes ≡ (unplaced_entry_at names at bytes >>= (λ m. unplaced_entries_at (n - (i + 1)) (ms ++ m.0 ∷ []) m.1 bytes))
 listings_more n i ms names at named less bytes = let one : n - i ≡ suc (n - (i + 1)) = omega arith in rw (one, named) refl
 
--- the names of the members so far, with one more
+-- the names of the members so far, with one further name
 pub name_pushed : (ms : List UnplacedEntry) (m : UnplacedEntry) (after : List UnplacedEntry) (names : List (List ℕ)) (name : List ℕ) → names ≡ map (λ x. x.name) ms → name ≡ m.name → after ≡ ms ++ m ∷ [] → names ++ name ∷ [] ≡ map (λ x. x.name) after
 name_pushed ms m after names name named same pushed = grind (arith, common_steps)
 
@@ -98,13 +98,13 @@ pub library_begins : (bytes : List ℕ) → library_at bytes ≡ (index_at bytes
 unfolding library_at
 library_begins bytes = refl
 
--- ---- The bytes of a member, read chunk by chunk: the front of what a file has from a place on.
+-- ---- The bytes of a member, read in chunks: a prefix of the file's bytes from an offset on.
 
--- the bytes are the first of what a file has from a place on
+-- the bytes are a prefix of the file's bytes from `at` on
 abbrev pub IsPieceFront : Option (List ℕ) → ℕ → List ℕ → Type 0
 IsPieceFront file at bytes = IfSome file (λ b. bytes ≡ take (length bytes) (drop at b))
 
--- a chunk further on in the file is one further on in its rest
+-- a chunk of a file is a chunk of the file's bytes from `at` on
 moved : (file : List ℕ) (at len want n : ℕ) (old new : List ℕ) → ReadsChunk (Some file) (at + len) want old new (Ok n) → ReadsChunk (Some (drop at file)) len want old new (Ok n)
 moved file at len want n old new read = grind (arith, common_steps)
 
@@ -118,7 +118,7 @@ last true file want n most old new test front within is short read =
     longer file want n old new front read ∙ ap (λ k. take k file) all
 last false file want n most old new test front within is short read = grind (arith, common_steps, nat_tests, length-take, longer, take_all)
 
--- the file is there, and the bytes are all that it has for the member
+-- the file exists, and the bytes are its next `size` bytes from `at` on, or as many as there are
 abbrev pub IsPiece : Option (List ℕ) → ℕ → ℕ → List ℕ → Type 0
 IsPiece None at size bytes = ⊥
 IsPiece (Some file) at size bytes = bytes ≡ take size (drop at file)

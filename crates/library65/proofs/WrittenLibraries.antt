@@ -1,4 +1,4 @@
--- What is written is a library.
+-- The bytes that are written for members encode a library of these members.
 use Rattle.std.proofs.lemmas.Grind.{common_steps}
 use Rattle.std.proofs.Common.{◌≡◌, ◌∙◌, ◌<◌, ℕ, true, not, ◌&&◌, List, [], ◌∷◌, length, get_or, map, refl, sym, ap, subst, arith, zero, suc, ◌≤◌, ◌+◌, ◌++◌, Ok, Err, length-append, append_assoc, ◌-◌, take, drop}
 use Rattle.std.proofs.lemmas.Bool.Decides.{nat_tests}
@@ -24,7 +24,7 @@ use Rattle.object65.proofs.Encodings.{object_is_read}
 use Rattle.library65.specs.declared.index.Entry.{Entry}
 use Rattle.library65.specs.Laws.{LibraryEncodingIsUnique, WrittenBytesAreLibrary}
 
--- ---- The names in an object are good.
+-- ---- The names in an object are valid.
 
 pub all_names : (names : List (List ℕ)) → are_names names ≡ true → list_all is_name names ≡ true
 all_names [] e = refl
@@ -33,13 +33,13 @@ all_names (n ∷ ns) e = grind (arith, common_steps, (all_names ns (right (is_na
 pub symbols_good : (o : Object) (exports : List (List ℕ)) → is_well_formed_object o ≡ true → exports ≡ map (λ (e : Export). e.name) o.exports → HasValidSymbols (record { exports = exports; imports = o.imports })
 symbols_good o exports good same = grind (arith, common_steps, parts, all_names)
 
--- a good name's length is a byte
+-- the length of a valid name is below 256
 pub name_short : (names : List (List ℕ)) (i : ℕ) (name : List ℕ) → list_all is_name names ≡ true → i < length names → name ≡ get_or names i name → length name < 256
 name_short [] i name all lt at = absurd (omega arith)
 name_short (n ∷ ns) zero name all lt at = grind (arith, common_steps, left, right, nat_tests)
 name_short (n ∷ ns) (suc i) name all lt at = name_short ns i name (right (is_name n) (list_all is_name ns) all) (omega arith) at
 
--- ---- What is written of a library, part by part.
+-- ---- The parts of a library that are written.
 
 pub many_names : (names : List (List ℕ)) → length names ≤ length (flat_map name_bytes names)
 many_names [] = omega arith
@@ -82,7 +82,7 @@ size_next all k v es total split le = grind (arith, common_steps)
 pub size_first : (all : Stock) (k : Vec ℕ) (v : StoredMember) (es : Stock) (name : List ℕ) (total : ℕ) → all ≡ (k, v) ∷ es → HasMatchingContents (k, v) → name ≡ k.items → written_len all ≤ total → length (index_entry_bytes name (length v.bytes.items) v.contents.exports v.contents.imports) + length v.bytes.items ≤ total
 size_first all k v es name total split is same le = grind (arith, common_steps, its_listing, length-append)
 
--- a part that would pass the limit makes the whole pass it
+-- if a part exceeds the size limit of a file, so does the whole
 pub passed_on : (e : LibraryFault) (part whole old base new after : List ℕ) (n total : ℕ) → AppendsBytes part n old new (Err e) → n ≤ total → AppendsBytes whole total base after (Err e)
 passed_on x part whole old base new after n total put le = grind (arith, common_steps)
 
@@ -103,7 +103,7 @@ pub object_there : (bytes : List ℕ) (o : Object) → length bytes ≤ file_lim
 unfolding contents_in
 object_there bytes o short is = grind (arith, common_steps, all_room, object_is_read)
 
--- what an entry and its member have in common
+-- an entry has the size, name, exports and imports of a member
 pub record Fits (e : Entry) (m : Member) : Type 0 where
   pub name : m.0 ≡ e.name
   pub size : length m.1 ≡ e.size
@@ -136,12 +136,12 @@ same_count [] (m ∷ ms) f = absurd f
 same_count (e ∷ es) [] f = absurd f
 same_count (e ∷ es) (m ∷ ms) f = let rest = same_count es ms f.1 in omega arith
 
--- ---- Where members stand.
+-- ---- The offsets of members.
 
 piece_in : (front members : List ℕ) (at size : ℕ) → at ≡ length front → take size (drop at (front ++ members)) ≡ take size members
 piece_in front members at size is = ap (take size) (drop_at front members at (sym is))
 
--- contiguous members are all of these bytes
+-- contiguous members are all of these bytes, and fit their entries
 pub stand : (front members : List ℕ) (es : List Entry) (ms : List Member) → AreContiguous (length front) es → length members ≡ sum_by entry_size es → AreMembers (front ++ members) es ms → (members ≡ bodies ms) × AllFit es ms
 stand front members [] [] stands sizes are = grind (arith, common_steps)
 stand front members [] (m ∷ ms) stands sizes are = absurd are
@@ -159,7 +159,7 @@ stand front members (e ∷ es) (m ∷ ms) stands sizes are =
       (record { name = are.0.name; size = len; object = are.0.object; is_object = are.0.is_object; exports = are.0.exports; imports = are.0.imports }, rest.1),
     )
 
--- a library's bytes are those of its members
+-- the bytes of a library are `library_bytes` of its members
 pub library_is : (a : List ℕ) (ms : List Member) → IsLibrary a ms → a ≡ library_bytes ms
 library_is a ms is =
     let x = is.is_index in
@@ -173,7 +173,7 @@ library_is a ms is =
 pub one_library : LibraryEncodingIsUnique
 one_library a b ms first second = library_is a ms first ∙ sym (library_is b ms second)
 
--- ---- What is written is a library.
+-- ---- The bytes that are written are a library.
 
 abbrev pub HasObject : Member → Type 0
 HasObject m = (o : Object) × IsObject m.1 o
@@ -181,7 +181,7 @@ HasObject m = (o : Object) × IsObject m.1 o
 abbrev entry_for : ℕ → Member → Object → Entry
 entry_for at m o = record { name = m.0; place = at; size = length m.1; exports = map (λ x. x.name) o.exports; imports = o.imports }
 
--- the entries of members from a place on
+-- the entries of members from an offset on
 abbrev entries : ℕ → (ms : List Member) → AllByRecursion HasObject ms → List Entry
 entries at [] os = []
 entries at (m ∷ ms) os = entry_for at m os.0.0 ∷ entries (at + length m.1) ms os.1

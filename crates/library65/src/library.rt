@@ -95,7 +95,7 @@ pub fn insert_member(
     requires sound { LibraryInvariant members.old }
     requires checked { member_contents name.items stored.bytes.items ≡ Ok stored.contents }
     requires symbols { HasValidSymbols stored.contents }
-    ensures put { OnOk result (members_of members.new ≡
+    ensures inserted { OnOk result (members_of members.new ≡
         with_member (members_of members.old) name.items stored.bytes.items) }
     ensures unchanged { OnErr result (members_of members.new ≡ members_of members.old) }
     ensures sound { LibraryInvariant members.new }

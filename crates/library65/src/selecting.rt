@@ -152,13 +152,13 @@ pub fn find_all(
     defined: &Names,
     found: &mut FoundMembers,
 ) -> Result<(), AllocError>
-    requires stands { SearchInvariant exporters.now found.old }
+    requires invariant { SearchInvariant exporters.now found.old }
     requires none { found.old.indices.items ≡ [] }
     ensures found { OnOk result (IsSearchState exporters.now.entries.now
         (map (λ n. n.items) wanted.now.keys)
         (map (λ n. n.items) defined.now.keys) found.new.indices.items
         (length found.new.indices.items)) }
-    ensures stands { OnOk result (SearchInvariant exporters.now found.new) }
+    ensures invariant { OnOk result (SearchInvariant exporters.now found.new) }
 {
     find_wanted(exporters, defined, found, wanted.as_slice())?;
     let mut next = 0;

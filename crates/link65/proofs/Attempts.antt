@@ -1,4 +1,4 @@
--- An attempt at a form and the result of the form, and exports that need one another.
+-- The result of an attempt to evaluate a form determines the form's result, and exports that need each other are circular.
 use Rattle.std.proofs.lemmas.Grind.{common_steps}
 use Rattle.std.proofs.Common.{◌≡◌, ℕ, zero, suc, ◌+◌, refl, sym, ◌∙◌, ap, subst, arith, ◌⊎◌, inl, inr, Result, Ok, Err, List, slice_get, Option, Some, None, [], ◌∷◌, ◌++◌}
 use Rattle.std.specs.Prelude.{ℤ, ⊤, ◌+ℤ◌}
@@ -18,12 +18,12 @@ use Rattle.link65.specs.declared.parts.Provider.{Provider}
 use Rattle.link65.specs.declared.parts.Provider.TheVariants.{ByModule, ByScript, Nobody}
 use Rattle.link65.specs.Placed.{AreCorrect, known_result, import_attempt, circular_if_active, form_attempt}
 
--- ---- Results that are found at some depth of nested exports, and stay.
+-- ---- Results at increasing depths of nested exports: a result that isn't circular is final.
 
 abbrev pub Answer : Type 0
 Answer = Result ℤ ValueFault
 
--- an answer that isn't circular stays
+-- `s` equals `r`, unless `r` is circular
 abbrev pub Known : Answer → Answer → Type 0
 Known (Err Circular) s = ⊤
 Known r s = s ≡ r
@@ -34,7 +34,7 @@ known_same x = grind (arith, common_steps)
 pub known_trans : (r s t : Answer) → Known r s → Known s t → Known r t
 known_trans x s t h k = grind (arith, common_steps)
 
--- answers in turn, each of which stays
+-- a sequence of results, each equal to the one before it unless that one is circular
 abbrev pub Grows : (ℕ → Answer) → Type 0
 Grows at = (n : ℕ) → Known (at n) (at (suc n))
 
@@ -42,7 +42,7 @@ pub further : (at : ℕ → Answer) → Grows at → (j n : ℕ) → Known (at n
 further at g zero n = let same : zero + n ≡ n = omega arith in rw same (known_same (at n))
 further at g (suc j) n = grind (arith, common_steps, (further at g j n), known_trans)
 
--- an answer that isn't circular, and is found at some number
+-- a result that isn't circular, and an index at which the sequence reaches it
 pub record Reaches (at : ℕ → Answer) (r : Answer) : Type 0 where
   pub turns : ℕ
   pub found : at turns ≡ r
@@ -51,13 +51,13 @@ pub record Reaches (at : ℕ → Answer) (r : Answer) : Type 0 where
 known_or : (r s : Answer) → Known r s → (r ≡ s) ⊎ (r ≡ Err Circular)
 known_or x s h = grind (arith, common_steps)
 
--- such an answer stands from there on
+-- from that index on the sequence is constant
 pub stands : (at : ℕ → Answer) (r : Answer) → Grows at → (h : Reaches at r) → (j : ℕ) → at (j + h.turns) ≡ r
 stands at r g h j =
     let P : Answer → Type 0 = λ x. Known x (at (j + h.turns)) in
     h.firm (at (j + h.turns)) (subst P h.found (further at g j h.turns))
 
--- before, it was circular
+-- at every index the result is `r` or circular
 pub stands_or : (at : ℕ → Answer) (r : Answer) → Grows at → Reaches at r → (n : ℕ) → (at n ≡ r) ⊎ (at n ≡ Err Circular)
 stands_or at r g h n = go (known_or (at n) (at (h.turns + n)) (further at g h.turns n))
   where
@@ -77,14 +77,14 @@ reaches_no_value at (n, e) = record { turns = n; found = e; firm = λ s h. h }
 pub reaches_unresolved : (at : ℕ → Answer) → ConvergesTo at (Err Unresolved) → Reaches at (Err Unresolved)
 reaches_unresolved at (n, e) = record { turns = n; found = e; firm = λ s h. h }
 
--- a result that is circular is circular at smaller depths
+-- a result before a circular one is circular
 known_circular : (r s : Answer) → Known r s → s ≡ Err Circular → r ≡ Err Circular
 known_circular x s h e = grind (arith, common_steps)
 
 pub circular_before : (at : ℕ → Answer) → Grows at → (j n : ℕ) → at (j + n) ≡ Err Circular → at n ≡ Err Circular
 circular_before at g j n e = known_circular (at n) (at (j + n)) (further at g j n) e
 
--- a result is always circular if it is at first, and some turns after each at which it is
+-- a sequence is circular at every index if it is at 0, and if circular at `n` implies circular at `c + n + 1`
 pub loops : (at : ℕ → Answer) → Grows at → at zero ≡ Err Circular → (c : ℕ) → ((n : ℕ) → at n ≡ Err Circular → at (suc (c + n)) ≡ Err Circular) → (n : ℕ) → at n ≡ Err Circular
 loops at g start c h zero = start
 loops at g start c h (suc n) =
@@ -92,7 +92,7 @@ loops at g start c h (suc n) =
     let P : ℕ → Type 0 = λ k. at k ≡ Err Circular in
     circular_before at g c (suc n) (subst P same (h n (loops at g start c h n)))
 
--- ---- one answer
+-- ---- A sequence converges to at most one result.
 
 two_reach : (at : ℕ → Answer) (r q : Answer) → Grows at → Reaches at r → Reaches at q → r ≡ q
 two_reach at r q g h k =
@@ -120,7 +120,7 @@ settles_once at (Err Unresolved) (Ok w) g h k = two_reach at (Err Unresolved) (O
 settles_once at (Err Unresolved) (Err NoValue) g h k = two_reach at (Err Unresolved) (Err NoValue) g (reaches_unresolved at h) (reaches_no_value at k)
 settles_once at (Err Unresolved) (Err Unresolved) g h k = refl
 
--- ---- More is known of exports with each turn, and so of forms.
+-- ---- The results of exports and forms at greater depths preserve those at smaller depths.
 
 bind_known : (r s : Answer) (f h : ℤ → Answer) → Known r s → ((v : ℤ) → Known (f v) (h v)) → Known (r >>= f) (s >>= h)
 bind_known x s f h e k = grind (arith, common_steps)
@@ -151,17 +151,17 @@ form_grows l owner f n = value_known l (exports_to_depth l n) (exports_to_depth 
 
 -- ---- Attempts.
 
--- where an export is circular, so is this
+-- if export `x` is circular at depth `n`, so is `at n`
 abbrev pub Follows : Linkage → (ℕ → Answer) → ℕ → Type 0
 Follows l at x = (n : ℕ) → exports_to_depth l n x ≡ Err Circular → at n ≡ Err Circular
 
--- an export that is being evaluated, and is needed
+-- an export that is being evaluated, and that `at` follows
 pub record Meets (l : Linkage) (states : List ExportState) (at : ℕ → Answer) : Type 0 where
   pub export : ℕ
   pub is : slice_get states export ≡ Some BeingEvaluated
   pub follows : Follows l at export
 
--- what an attempt says
+-- the result of an attempt determines the limit of `at`, or an export that `at` follows
 abbrev pub Tells : Linkage → List ExportState → (ℕ → Answer) → Result ℤ EvalBlocked → Type 0
 Tells l states at (Ok v) = Reaches at (Ok v)
 Tells l states at (Err (Fault Circular)) = ConvergesTo at (Err Circular) ⊎ Meets l states at
@@ -176,7 +176,7 @@ at_once r h = record { turns = 0; found = refl; firm = h }
 found_tells : (l : Linkage) (states : List ExportState) (x : ℕ) (r : Answer) → ExportEvaluatesTo l x r → Tells l states (λ n. exports_to_depth l n x) (known_result r)
 found_tells l states x y h = grind (arith, common_steps)
 
--- no mark, no export
+-- an index without a state has no export
 abbrev pub AreLong : Linkage → List ExportState → Type 0
 AreLong l states = (x : ℕ) → slice_get states x ≡ None → slice_get l.exports x ≡ None
 
@@ -194,7 +194,7 @@ import_tells l states h long (ByModule x) = marked_tells l states h long x (slic
 import_tells l states h long (ByScript v) = at_once (Ok v) (λ s k. k)
 import_tells l states h long Nobody = at_once (Err Unresolved) (λ s k. k)
 
--- ---- An attempt at a part and then at what follows.
+-- ---- An attempt at a first operand and then at the rest.
 
 first_refuses : (at : ℕ → Answer) (b : ℕ → ℤ → Answer) (e : ValueFault) → (firm : (s : Answer) → Known (Err e) s → s ≡ Err e) → Reaches at (Err e) → Reaches (λ n. at n >>= b n) (Err e)
 first_refuses at b e firm h = record { turns = h.turns; found = rw h.found refl; firm = firm }
@@ -248,13 +248,13 @@ form_tells l states h long owner (binary op f g) =
     (form_tells l states h long owner f)
     (λ v. bind_tells l states (λ n. value_of_form l (exports_to_depth l n) owner g) (λ n b. or_none NoValue (value2 op v b)) (form_attempt (slice_get l.modules owner) states g) (λ b. or_none (Fault NoValue) (value2 op v b)) (form_grows l owner g) (λ b n. known_same (or_none NoValue (value2 op v b))) (form_tells l states h long owner g) (λ b. operation_tells l states (value2 op v b)))
 
--- ---- Exports that need one another.
+-- ---- Exports that need each other.
 
--- x is circular one turn after y
+-- if `y` is circular at depth `n`, `x` is circular at depth `n + 1`
 abbrev pub Leads : Linkage → ℕ → ℕ → Type 0
 Leads l x y = (n : ℕ) → exports_to_depth l n y ≡ Err Circular → exports_to_depth l (suc n) x ≡ Err Circular
 
--- root waits for the first, and so on to top
+-- a chain from `root` through the exports of the list to `top`: each leads to the next
 abbrev pub IsChain : Linkage → ℕ → List ℕ → ℕ → Type 0
 IsChain l root [] top = root ≡ top
 IsChain l root (w ∷ ws) top = (next : ℕ) × (root ≡ w) × Leads l w next × IsChain l next ws top
@@ -267,7 +267,7 @@ pub chain_less : (l : Linkage) (root : ℕ) (ws : List ℕ) (below top : ℕ) �
 chain_less l root [] below top (n, e, u, c) = e
 chain_less l root (w ∷ ws) below top (n, e, u, c) = (n, e, u, chain_less l n ws below top c)
 
--- x is circular c turns after y
+-- if `y` is circular at depth `n`, `x` is circular at depth `c + n`
 abbrev pub After : Linkage → ℕ → ℕ → ℕ → Type 0
 After l c x y = (n : ℕ) → exports_to_depth l n y ≡ Err Circular → exports_to_depth l (c + n) x ≡ Err Circular
 
@@ -283,7 +283,7 @@ chain_after l root (w ∷ ws) top (n, e, u, c) =
     let (d, a) = chain_after l n ws top c in
     (suc d, (let P : ℕ → Type 0 = λ z. After l (suc d) z top in subst P (sym e) (after_next l d w n top u a)))
 
--- x is among the list
+-- `x` is in the list
 abbrev pub Among : ℕ → List ℕ → Type 0
 Among x [] = ⊥
 Among x (w ∷ ws) = (x ≡ w) ⊎ Among x ws
@@ -298,12 +298,12 @@ chain_among l x root (w ∷ ws) top (n, e, u, c) (inr z) = chain_among l x n ws 
 again_after : (l : Linkage) (root : ℕ) (ws : List ℕ) (top next : ℕ) → IsChain l root ws top → (Among next ws ⊎ (next ≡ top)) → (c : ℕ) × After l c next top
 again_after l root ws top next c x = grind (arith, common_steps, chain_among, after_self)
 
--- an export that needs one which waits for it is circular
+-- if the top of a chain leads to an export of the chain or to itself, the top is circular at every depth
 pub met_again : (l : Linkage) (root : ℕ) (ws : List ℕ) (top next : ℕ) → IsChain l root ws top → Leads l top next → (Among next ws ⊎ (next ≡ top)) → (n : ℕ) → exports_to_depth l n top ≡ Err Circular
 met_again l root ws top next c h again =
     let (d, a) = again_after l root ws top next c again in
     loops (λ n. exports_to_depth l n top) (λ n. exports_grow l n top) refl d (λ n e. h (d + n) (a n e))
 
--- an export whose form follows another leads to that
+-- an export leads to each export that its form follows
 pub leads_to : (l : Linkage) (top next : ℕ) (e : ModuleExport) → slice_get l.exports top ≡ Some e → Follows l (λ n. value_of_form l (exports_to_depth l n) e.owner e.form) next → Leads l top next
 leads_to l top next e is h n c = rw is (h n c)

@@ -1,4 +1,4 @@
--- Checks in turn, refusals that pass through, and the bytes of rows that are checked.
+-- Checks in order, the propagation of their errors, and the bytes of the rows that are checked.
 use Rattle.std.proofs.lemmas.Grind.{common_steps}
 use Rattle.std.proofs.Common.{arith, ◌≡◌, ◌<◌, ℕ, zero, suc, ◌+◌, map, Bool, true, false, List, [], ◌∷◌, ◌++◌, length, drop, get_or, refl, sym, ap, ◌∙◌, Result, Ok, Err, Option, Some, append_assoc, if◌then◌else◌}
 use Rattle.std.specs.List.{flat_map}
@@ -16,9 +16,9 @@ use Rattle.link65.specs.Programs.{Cell, known, filled, Segment}
 use Rattle.link65.specs.Faults.{is_memory}
 use Rattle.link65.specs.Values.{cell_bytes, Exports, Linkage}
 
--- ---- Checks in turn, and refusals that pass through.
+-- ---- Checks in order, and the propagation of errors.
 
--- a refusal that is the first one of another reading too
+-- if the error of `r` is the error of `q`, an error that refines `r` refines `q`
 pub refuses_by : {A B : Type 0} (e : LinkFault) (r : Result A LinkFault) (q : Result B LinkFault) → (r ≡ Err e → q ≡ Err e) → RefinesErr is_memory e r → RefinesErr is_memory e q
 refuses_by e r q h k = grind (arith, common_steps)
 
@@ -35,7 +35,7 @@ pub passes_append : {A : Type 0} (check : Check A) (xs ys : List A) → check_ea
 passes_append check [] ys = refl
 passes_append check (x ∷ xs) ys = grind (arith, common_steps, (passes_append check xs ys))
 
--- ---- Checks of what each item has.
+-- ---- Checks of the elements of each item.
 
 module _ {A B : Type 0} (check : Check B) (f : A → List B) where
   flat_front : (xs : List A) (i : ℕ) (x : A) → i < length xs → x ≡ get_or xs i x → check_each check (flat_map f (drop i xs)) ≡ (check_each check (f x) >>= (λ u. check_each check (flat_map f (drop (i + 1) xs))))
@@ -50,7 +50,7 @@ module _ {A B : Type 0} (check : Check B) (f : A → List B) where
       refuses_by e (check_each check (f x)) whole
       (λ q. sym inv ∙ flat_front xs i x lt at ∙ ap (λ r. r >>= (λ z. check_each check (flat_map f (drop (i + 1) xs)))) q) k
 
--- ---- Values that wait in pieces.
+-- ---- Fixups in pieces.
 
 known_waits : (bytes : List ℕ) → flat_map fixups_in (map known bytes) ≡ []
 known_waits [] = refl
@@ -74,7 +74,7 @@ known_passes check p bytes is = rw is (ap (check_each check) (known_waits bytes)
 pub filled_passes : (check : Check ValueFixup) (p : SegmentPiece) (n : ℕ) → p ≡ Filled n → check_each check (piece_fixups p) ≡ Ok tt
 filled_passes check p n is = rw is (ap (check_each check) (filled_waits n))
 
--- those of a segment are those of its pieces
+-- the fixups of a segment are the fixups of its pieces
 pub content_waits : (check : Check ValueFixup) (o : Option Segment) (c : SegmentContent) (pieces : List SegmentPiece) → Some (segment_from c) ≡ o → pieces ≡ c.pieces → check_each check (fixups_of o) ≡ check_each check (flat_map piece_fixups pieces)
 content_waits check o c pieces there same = ap (λ r. check_each check (fixups_of r)) (sym there) ∙ ap (check_each check) (cells_wait c.pieces ∙ ap (flat_map piece_fixups) (sym same))
 
@@ -104,7 +104,7 @@ module _ (l : Linkage) (exports : Exports) (fill : ℕ) where
 pub next_mapped : {A B : Type 0} (f : A → B) (xs : List A) (i : ℕ) (x : A) (y : B) (old new whole : List B) → i < length xs → x ≡ get_or xs i x → new ≡ old ++ y ∷ [] → y ≡ f x → old ++ map f (drop i xs) ≡ whole → new ++ map f (drop (i + 1) xs) ≡ whole
 next_mapped f xs i x y old new whole lt at e is inv = grind (arith, common_steps)
 
--- a row without a segment
+-- a row without a segment has no bytes, whether or not it is written
 pub nothing_written : (w : Bool) → ◌≡◌ {A = List ℕ} [] (if w then [] else [])
 nothing_written true = refl
 nothing_written false = refl

@@ -1,4 +1,4 @@
--- Names that are defined, none twice, and names that nobody defines.
+-- Names that are defined, none of them twice, and names that nothing defines.
 use Rattle.std.proofs.lemmas.Grind.{common_steps}
 use Rattle.std.proofs.Common.{arith, ◌≡◌, ◌∙◌, ℕ, Bool, true, false, not, List, [], ◌∷◌, ◌++◌, Result, Ok, Err, append_assoc, refl, sym, ap, map, length, drop, get_or, ◌+◌, ◌<◌, ◌||◌, filter, Option, if◌then◌else◌}
 use Rattle.base65.specs.Outcome.{◌>>=◌}
@@ -24,7 +24,7 @@ use Rattle.std.specs.Str.{bytes_eq}
 use Rattle.link65.specs.declared.parts.LinkedModule.{LinkedModule}
 use Rattle.link65.specs.Internal.Fields.{missing_after}
 
--- ---- Names of which none is given twice.
+-- ---- Names without duplicates.
 
 abbrev Names : Type 0
 Names = List (List ℕ)
@@ -37,7 +37,7 @@ each_step : (before : Names) (name : List ℕ) (names : Names) (b : Bool) → is
 each_step before name names true is rest = rw is refl
 each_step before name names false is rest = grind (arith, common_steps, append_assoc)
 
--- name by name, or all at once
+-- adding names one at a time has the same result as adding all of them
 pub each_once_all : (names before : Names) → with_new_names before names ≡ names_or_duplicate before names
 each_once_all [] before = let made : Names → Result Names LinkFault = λ ns. Ok ns in ap made (sym (nil before))
 each_once_all (name ∷ names) before = each_step before name names (is_among before name) refl (each_once_all names (before ++ name ∷ []))
@@ -58,7 +58,7 @@ refused_again before name copy is same = let made : List ℕ → Result Names Li
 pub taken_new : (before after : Names) (name : List ℕ) → is_among before name ≡ false → after ≡ before ++ name ∷ [] → with_new_name before name ≡ Ok after
 taken_new before after name is same = let made : Names → Result Names LinkFault = λ ns. Ok ns in rw is (ap made (sym same))
 
--- ---- Names that are given behind others, none twice.
+-- ---- Names added after other names, without duplicates.
 
 after_one : (r : Result Names LinkFault) (xs ys : Names) → ((all : Names) → with_new_names all (xs ++ ys) ≡ (with_new_names all xs >>= (λ more. with_new_names more ys))) → (r >>= (λ all. with_new_names all (xs ++ ys))) ≡ ((r >>= (λ all. with_new_names all xs)) >>= (λ more. with_new_names more ys))
 after_one x xs ys h = grind (arith, common_steps)
@@ -67,7 +67,7 @@ each_after : (before xs ys : Names) → with_new_names before (xs ++ ys) ≡ (wi
 each_after before [] ys = refl
 each_after before (x ∷ xs) ys = after_one (with_new_name before x) xs ys (λ all. each_after all xs ys)
 
--- names added after others that are defined are added as if alone
+-- if `xs` has no duplicate, checking `xs ++ ys` is checking `ys` after `xs`
 pub once_after : (provided xs ys : Names) → names_or_duplicate [] xs ≡ Ok provided → names_or_duplicate [] (xs ++ ys) ≡ names_or_duplicate provided ys
 once_after provided xs ys h =
     sym (each_once_all (xs ++ ys) []) ∙ each_after [] xs ys
@@ -83,7 +83,7 @@ map_after f g (y ∷ old) xs = ap (λ ys. f y ∷ ys) (map_after f g old xs)
 pub module_gives : (s : Script) (p : Program) (m : Module) → strong_names s (with_module p m) ≡ strong_names s p ++ map (λ e. e.name) m.object.exports
 module_gives s p m = grind (arith, common_steps, map_after, append_assoc)
 
--- ---- A name goes behind others, if it isn't among them.
+-- ---- A name is appended if it isn't in the list.
 
 flipped : (name : List ℕ) (names : List (List ℕ)) → list_any (bytes_eq name) names ≡ is_among names name
 flipped name [] = refl
@@ -93,7 +93,7 @@ any_map : {A B : Type 0} (p : B → Bool) (f : A → B) (xs : List A) → list_a
 any_map p f [] = refl
 any_map p f (x ∷ xs) = ap (λ b. p (f x) || b) (any_map p f xs)
 
--- names among keys
+-- membership of a name in the list of the keys' names
 pub among_keys : {A : Type 0} (f : A → List ℕ) (keys : List A) (name : List ℕ) → list_any (λ k. bytes_eq name (f k)) keys ≡ is_among (map f keys) name
 among_keys f keys name = any_map (bytes_eq name) f keys ∙ flipped name (map f keys)
 
@@ -109,11 +109,11 @@ inserted f keys key =
 again_none : (o : Option (List ℕ)) (names provided : Names) → (none_duplicate o >>= (λ u. Ok names)) ≡ Ok provided → provided ≡ names
 again_none o names provided h = grind (arith, common_steps)
 
--- what is given, none of it twice
+-- names without a duplicate are returned unchanged
 pub given_all : (names provided : Names) → names_or_duplicate [] names ≡ Ok provided → provided ≡ names
 given_all names provided h = again_none (first_duplicate [] names) names provided h
 
--- ---- Names that nobody gives, each once.
+-- ---- Names that nothing defines, each once.
 
 pub missing_append : (provided xs before ys : Names) → missing_after provided (missing_after provided before xs) ys ≡ missing_after provided before (xs ++ ys)
 missing_append provided [] before ys = refl
@@ -130,7 +130,7 @@ kept_step : (q : List ℕ → Bool) (x y : List ℕ) (ys : List (List ℕ)) (b :
 kept_step q x y ys true passes is rest = rw is (ap (λ b. bytes_eq y x || b) rest)
 kept_step q x y ys false passes is rest = rw (is, other_name q x y (bytes_eq y x) passes is refl) rest
 
--- what passes is among what passes
+-- a filter that a name passes doesn't change whether the name is in a list
 kept_among : (q : List ℕ → Bool) (x : List ℕ) (ys : List (List ℕ)) → q x ≡ true → is_among (filter q ys) x ≡ is_among ys x
 kept_among q x [] passes = refl
 kept_among q x (y ∷ ys) passes = kept_step q x y ys (q y) passes refl (kept_among q x ys passes)
@@ -157,7 +157,7 @@ wanted symbols members = symbol_imports symbols ++ flat_map (λ m. m.imports) me
 pub open_missing : (s : Script) (p : Program) (provided : Names) (members : List LinkedModule) → provided ≡ strong_names s p → p.members ≡ members → missing_after provided [] (wanted s.symbols members) ≡ open_names s p
 open_missing s p provided members e f = rw (e, ← f) (sym (once_missing (strong_names s p) (wanted s.symbols p.members) []))
 
--- ---- Weak names behind those that are given.
+-- ---- Weak names after the names that are defined.
 
 among_too : (before : Names) (x y : List ℕ) (b : Bool) → bytes_eq x y ≡ b → is_among before x ≡ true → is_among before y ≡ (is_among before y || b)
 among_too before x y true same is = ap (is_among before) (sym (same_name x y same)) ∙ is ∙ sym (ap (λ b. b || true) (ap (is_among before) (sym (same_name x y same)) ∙ is))
@@ -182,7 +182,7 @@ filter_same : (f g : List ℕ → Bool) → ((x : List ℕ) → f x ≡ g x) →
 filter_same f g same [] = refl
 filter_same f g same (x ∷ xs) = rw (same x, filter_same f g same xs) refl
 
--- the names that are imported and that nobody defines, not even as weak names
+-- the names that are imported and that nothing defines, not even a weak name
 pub none_gives : (s : Script) (p : Program) (provided : Names) (members : List LinkedModule) → provided ≡ strong_names s p → p.members ≡ members → missing_after (distinct_names provided (map (λ d. d.name) (weak_symbols s.symbols))) [] (wanted s.symbols members) ≡ unresolved_names s p
 none_gives s p provided members e f =
     let weak = map (λ (d : ScriptSymbol). d.name) (weak_symbols s.symbols) in
@@ -190,9 +190,9 @@ none_gives s p provided members e f =
     (sym (once_missing (distinct_names (strong_names s p) weak) (wanted s.symbols p.members) [])
     ∙ filter_same (λ n. not (is_among (distinct_names (strong_names s p) weak) n)) (λ n. not (is_defined_name s p n)) (λ n. ap not (once_among weak (strong_names s p) n)) (references s p))
 
--- ---- Weak names, one after another.
+-- ---- Weak names, one at a time.
 
--- a name more, where its symbol is weak
+-- the names with one further name, if its symbol is weak and the name isn't in the list
 abbrev pub with_weak : SymbolKind → Names → List ℕ → Names
 with_weak (kind.Weak n) before name = if is_among before name then before else before ++ name ∷ []
 with_weak (kind.Export n) before name = before
@@ -218,7 +218,7 @@ weak_next symbols i s before after target lt at new inv =
     ∙ sym (ap (λ ss. distinct_names before (names ss)) (drop_item symbols i s lt at))
     ∙ inv
 
--- ---- The names left that nobody defines.
+-- ---- The error of undefined names.
 
 pub left_none : (names : Names) → length names ≡ 0 → none_unresolved names ≡ Ok tt
 left_none [] h = refl

@@ -1,4 +1,4 @@
--- What holds on the walk from export to export, and how a step keeps it.
+-- The invariant of the evaluation of exports, which follows needed exports depth first, and the steps that preserve it.
 use Rattle.std.proofs.Common.{◌≡◌, ◌≢◌, ℕ, zero, suc, ◌+◌, ◌<◌, get_or, refl, sym, ◌∙◌, ap, subst, arith, List, [], ◌∷◌, ◌++◌, length, slice_get, Option, Some, None, Bool, true, false, nat_eq, Result, Ok, Err, ◌⊎◌, inl, inr, length-append}
 use Rattle.std.specs.Prelude.{ℤ, slice_set, sum_by}
 use Rattle.std.proofs.lemmas.Grind.{common_steps}
@@ -26,7 +26,7 @@ pub record IsWalk (l : Linkage) (old states : List ExportState) (waiting : List 
   pub evaluated : (x : ℕ) → slice_get states x ≡ Some BeingEvaluated → Among x waiting ⊎ (x ≡ top)
   pub kept : PreservesResults old states
 
--- ---- Lists of marks.
+-- ---- Lists of export states.
 
 get_set_same : (states : List ExportState) (x : ℕ) (m : ExportState) → x < length states → slice_get (slice_set states x m) x ≡ Some m
 get_set_same states x m h = grind (arith, common_steps, gets)
@@ -81,7 +81,7 @@ among_cases x w [] (inr h) = absurd h
 among_cases x w (v ∷ ws) (inl e) = inl (inl e)
 among_cases x w (v ∷ ws) (inr h) = grind (arith, common_steps, (among_cases x w ws h))
 
--- ---- What an attempt at the top gives.
+-- ---- The attempt at the top export.
 
 attempt_settled : (t : Result ℤ EvalBlocked) (r : Result ℤ ValueFault) → attempt_of t ≡ attempt.Completed r → ((v : ℤ) × (t ≡ Ok v) × (r ≡ Ok v)) ⊎ ((e : ValueFault) × (t ≡ Err (Fault e)) × (r ≡ Err e))
 attempt_settled x r e = grind (arith, common_steps)
@@ -89,7 +89,7 @@ attempt_settled x r e = grind (arith, common_steps)
 attempt_needs : (t : Result ℤ EvalBlocked) (x : ℕ) → attempt_of t ≡ attempt.Needs x → t ≡ Err (Needs x)
 attempt_needs y x e = grind (arith, common_steps)
 
--- the form of an export
+-- the result of an export's form at depth `n`
 abbrev pub form_at : Linkage → ModuleExport → ℕ → Result ℤ ValueFault
 form_at l e n = value_of_form l (exports_to_depth l n) e.owner e.form
 
@@ -110,7 +110,7 @@ fault_comes l old states waiting root top e Unresolved w is t = (suc t.turns, la
 fault_comes l old states waiting root top e Circular w is (inl t) = circular_next l top e is t
 fault_comes l old states waiting root top e Circular w is (inr t) = meets_circular l old states waiting root top e w is t
 
--- what an attempt at the top tells
+-- the attempt at the top export satisfies `Tells`
 top_tells : (l : Linkage) (old states : List ExportState) (waiting : List ℕ) (root top : ℕ) (e : ModuleExport) → IsWalk l old states waiting root top → Tells l states (form_at l e) (form_attempt (slice_get l.modules e.owner) states e.form)
 top_tells l old states waiting root top e w = form_tells l states w.all_correct (long_marks l states w.long) e.owner e.form
 
@@ -138,13 +138,13 @@ settled_comes l old states waiting root top e r w is a = go (attempt_settled (fo
         let Q : Result ℤ ValueFault → Type 0 = λ z. ExportEvaluatesTo l top z in
         subst Q (sym q) (fault_comes l old states waiting root top e f w is (subst P t tells))
 
--- what the top comes to
+-- the result of a completed attempt is the result of the top export
 pub top_comes : (l : Linkage) (old states : List ExportState) (waiting : List ℕ) (root top : ℕ) (r : Result ℤ ValueFault) → IsWalk l old states waiting root top → attempt.Completed r ≡ export_attempt l.modules states (slice_get l.exports top) → ExportEvaluatesTo l top r
 top_comes l old states waiting root top r w a =
     let (e, is) = export_there l states top w.long w.top_inside in
     settled_comes l old states waiting root top e r w is (sym (rw is at a))
 
--- what the top needs is untouched, and the top waits for it
+-- an export that the attempt needs is untouched, and the top export leads to it
 pub top_needs : (l : Linkage) (old states : List ExportState) (waiting : List ℕ) (root top next : ℕ) → IsWalk l old states waiting root top → attempt.Needs next ≡ export_attempt l.modules states (slice_get l.exports top) → (slice_get states next ≡ Some Untouched) × Leads l top next
 top_needs l old states waiting root top next w a =
     let (e, is) = export_there l states top w.long w.top_inside in
@@ -248,7 +248,7 @@ walk_ends l old states waiting root top r w q a = record {
         let other : x ≢ top = grind (arith, nat_tests) in
         none x (w.evaluated x (sym (get_set_other states top x (Found r) other) ∙ e)) other
 
--- ---- The measure.
+-- ---- The termination measure.
 
 abbrev pub weight : ExportState → ℕ
 weight Untouched = 2

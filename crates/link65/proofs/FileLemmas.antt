@@ -1,4 +1,4 @@
--- The files of areas: pieces over pieces, and the rows of each.
+-- The files of areas: the rows of each area, and their pieces, which are copied into an image.
 use Rattle.std.proofs.lemmas.Grind.{common_steps}
 use Rattle.std.proofs.Common.{◌≡◌, ◌∙◌, ℕ, ◌+◌, ◌<◌, ◌≤◌, Bool, true, false, List, [], ◌∷◌, length, get_or, drop, map, refl, sym, ap, subst, arith, zero, suc, ◌++◌, slice_get, Option, Some, None, append_assoc, add-one, inl, inr}
 use Rattle.std.specs.Prelude.{◌&&◌, ◌==◌, filter, if◌then◌else◌, nat_le, nat_lt, not, IsUtf8, ◌||◌, slice_set}
@@ -25,12 +25,12 @@ use Rattle.script65.specs.declared.script.AreaOutput.{AreaOutput}
 use Rattle.script65.specs.declared.script.AreaOutput.TheVariants.{Named}
 use Rattle.base65.specs.declared.output.OutputFile.{OutputFile}
 
--- ---- Pieces over pieces.
+-- ---- Pieces copied into an image.
 
 pub laid_none : (image : List ℕ) → OverlaysPieces [] image image
 laid_none image = record { len = refl; each = λ i inside. refl }
 
--- the pieces of rows in the file of an area that begins here
+-- the pieces of rows in the file of an area that begins at `start`
 abbrev pub pieces_in : ℕ → List RowImage → List RowPiece
 pieces_in start ls = map (piece_at start) (map view ls)
 
@@ -40,7 +40,7 @@ next_row start offset ls i l bytes mid image new lt is at same laid rest = grind
 pub no_row : (start : ℕ) (ls : List RowImage) (i : ℕ) (image : List ℕ) → length ls ≤ i → OverlaysPieces (pieces_in start (drop i ls)) image image
 no_row start ls i image le = subst (λ (xs : List RowImage). OverlaysPieces (pieces_in start xs) image image) (sym (drop_all i ls le)) (laid_none image)
 
--- ---- A file that is one row.
+-- ---- A file that consists of one row.
 
 inside : (i at len : ℕ) → at ≡ 0 → i < len → (nat_le at i && nat_lt i (at + len)) ≡ true
 inside i at len e lt = grind (arith, nat_tests)
@@ -69,11 +69,11 @@ full_over : (start : ℕ) (ls : List RowImage) (i before : ℕ) → image_byte (
 full_over start [] i before = refl
 full_over start (l ∷ ls) i before = grind (arith, common_steps, (full_over start ls i), none_laid)
 
--- the file of an area's rows, by its length and those that have bytes
+-- the file of an area's rows, from its length and the rows that have bytes
 pub file_of : (a : MemoryArea) (placement : AreaPlacement) (ls items : List RowImage) (len : ℕ) (image : List ℕ) → items ≡ filter has_bytes ls → len ≡ file_len a placement (map placed_row_of ls) → IsImage len a.fill_value (pieces_in placement.start items) image → IsFileOf a placement (map view ls) image
 file_of a placement ls items len image are long file = grind (arith, common_steps, there, full_over, placed_all)
 
--- ---- By what rows hold.
+-- ---- The file in terms of the bytes of rows.
 
 firsts : (bytes : RowBytes) (ps : List PlacedRow) → map (λ h. h.0) (map (placed_bytes_of bytes) ps) ≡ ps
 firsts bytes [] = refl
@@ -83,13 +83,13 @@ all_pieces : (start : ℕ) (bytes : RowBytes) (ps : List PlacedRow) → map (pie
 all_pieces start bytes [] = refl
 all_pieces start bytes (p ∷ ps) = ap (λ qs. record { offset = offset_of start p; bytes = bytes p.row } ∷ qs) (all_pieces start bytes ps)
 
--- the file of rows with their bytes is that of the rows
+-- the file of rows with their bytes is the file of the rows
 pub file_by : (bytes : RowBytes) (a : MemoryArea) (placement : AreaPlacement) (hs : List PlacedBytes) (ps : List PlacedRow) (image : List ℕ) → hs ≡ map (placed_bytes_of bytes) ps → IsFileOf a placement hs image → IsFileBy bytes a placement ps image
 file_by bytes a placement hs ps image are file = grind (arith, common_steps, firsts, all_pieces)
 
 -- ---- The rows of each area's file.
 
--- an item more, where a test holds
+-- a list with one further item, if a condition is true
 abbrev pub with_if : {A : Type 0} → Bool → A → List A → List A
 with_if b x m = if b then m ++ x ∷ [] else m
 
@@ -100,15 +100,15 @@ loaded_none k (r ∷ rows) = refl
 none_past : {A : Type 0} (xs : List A) (i : ℕ) → slice_get xs i ≡ None → length xs ≤ i
 none_past xs i e = elim (slice_get_cases xs i).1 [ inl h ↦ absurd (let n : Some h.0 ≡ None = sym h.2 ∙ e in cc) | inr h ↦ h.0 ]
 
--- a row that is in a file is written, so it has its bytes
+-- a row that is in a file is written, so its written bytes are its bytes
 own_bytes : (bytes : RowBytes) (k : ℕ) (r : SegmentRow) → is_loaded k r ≡ true → written_row_bytes bytes r ≡ bytes r
 own_bytes bytes k r e = grind (arith, common_steps)
 
--- the rows of an area's file among some, with their bytes
+-- the rows in an area's file, with their bytes
 abbrev held_in : RowBytes → ℕ → List SegmentRow → List RowPlacement → List PlacedBytes
 held_in bytes k rows placements = map (placed_bytes_of bytes) (loaded_in k rows placements)
 
--- what the rows so far and the rest are
+-- the rows that were collected, and those from index `i` on, are the rows of the area's file
 abbrev pub Collects : RowBytes → ℕ → List SegmentRow → List RowPlacement → ℕ → Option (List RowImage) → Type 0
 Collects bytes k rows placements i o = (m : List RowImage) × (o ≡ Some m) × (map view m ++ held_in bytes k (drop i rows) (drop i placements) ≡ held_in bytes k rows placements)
 
@@ -133,14 +133,14 @@ module _ (bytes : RowBytes) (k : ℕ) (rows : List SegmentRow) (placements : Lis
       by true same t = ap (λ m. m ++ map (placed_bytes_of bytes) rest) (map-append view h.0 (l ∷ [])) ∙ append_assoc (map view h.0) (view l ∷ []) (map (placed_bytes_of bytes) rest) ∙ ap (λ x. map view h.0 ++ x ∷ map (placed_bytes_of bytes) rest) (same refl) ∙ t
       by false same t = t
 
-  -- a row without a placement
+  -- the case of a row without a placement
   pub collects_past : (i : ℕ) (o : Option (List RowImage)) → slice_get placements i ≡ None → Collects bytes k rows placements i o → Collects bytes k rows placements (i + 1) o
   collects_past i o past h = grind (arith, common_steps, none_past, drop_all, loaded_none)
 
   pub collects_all : (i : ℕ) (o : Option (List RowImage)) → length rows ≤ i → Collects bytes k rows placements i o → HasRowImages bytes k rows placements o
   collects_all i o le h = grind (arith, common_steps)
 
--- the bytes of a row, by what was taken of all at its place
+-- the bytes of a row, from the list of the bytes of all rows
 pub taken_bytes : (bytes : RowBytes) (rows : List SegmentRow) (all : List (List ℕ)) (i : ℕ) (r : SegmentRow) (b : List ℕ) → all ≡ map (written_row_bytes bytes) rows → i < length rows → r ≡ get_or rows i r → ((x : List ℕ) → slice_get all i ≡ Some x → b ≡ x) → b ≡ written_row_bytes bytes r
 taken_bytes bytes rows all i r b are lt at h = h (written_row_bytes bytes r) (ap (λ (xs : List (List ℕ)). slice_get xs i) are ∙ there rows i lt at)
   where
@@ -168,7 +168,7 @@ one_more n = omega arith
 abbrev names : List OutputFile → List (List ℕ)
 names os = map (λ o. o.name) os
 
--- a name that no file has
+-- a file of a new name is appended
 pub added_new : (name bytes : List ℕ) (os : List OutputFile) → list_any (bytes_eq name) (names os) ≡ false → os ++ record { name = name; bytes = bytes } ∷ [] ≡ with_bytes name bytes os
 added_new name bytes [] e = refl
 added_new name bytes (o ∷ os) e = grind (arith, common_steps, (added_new name bytes os))
@@ -179,12 +179,12 @@ get_next p os n = rw one_more refl
 set_next : (p : OutputFile) (os : List OutputFile) (n : ℕ) (o : OutputFile) → slice_set (p ∷ os) (1 + n) o ≡ p ∷ slice_set os n o
 set_next p os n o = rw one_more refl
 
--- the file of a name, at its index
+-- bytes are appended to the file of this name, at its index
 pub added_more : (name bytes : List ℕ) (os : List OutputFile) (o : OutputFile) → slice_get os (position_or_len (bytes_eq name) (names os)) ≡ Some o → slice_set os (position_or_len (bytes_eq name) (names os)) (record { name = o.name; bytes = o.bytes ++ bytes }) ≡ with_bytes name bytes os
 added_more name bytes [] o e = absurd cc
 added_more name bytes (p ∷ os) o e = grind (arith, common_steps, (added_more name bytes os o), set_next, get_next)
 
--- a set of names, in which the files' names stand
+-- the index of a name in a set that contains the names of the files
 module _ (name : List ℕ) where
   abbrev is : Bor (List ℕ) → Bool
   is k = bytes_eq name k.now
@@ -206,7 +206,7 @@ module _ (name : List ℕ) where
   pub keys_stay : (keys added : List (Bor (List ℕ))) (k : Bor (List ℕ)) (new : Bool) → new ≡ false → new ≡ not (list_any is keys) → added ≡ (if list_any is keys then keys else keys ++ k ∷ []) → added ≡ keys
   keys_stay keys added k new old e grown = grind (arith, common_steps)
 
--- bytes more in the file at its index
+-- the same, if the index is within the list of files
 pub more_there : (name bytes : List ℕ) (os new : List OutputFile) (index : ℕ) → index < length os → index ≡ position_or_len (bytes_eq name) (names os) → ((o : OutputFile) → slice_get os index ≡ Some o → new ≡ slice_set os index (record { name = o.name; bytes = o.bytes ++ bytes })) → new ≡ with_bytes name bytes os
 more_there name bytes os new index lt at h = by (slice_get os index) refl
   where
@@ -228,7 +228,7 @@ names_stay bytes os new index lt h = by (slice_get os index) refl
     by None e = absurd (none_within os index lt e)
     by (Some o) e = ap names (h o e) ∙ same_name os index o (o.bytes ++ bytes) e
 
--- one area more
+-- one further area
 module _ (output : List ℕ) (bytes : RowBytes) (rows : List SegmentRow) (p : Placement) where
   abbrev Adds : ℕ → List MemoryArea → List OutputFile → List OutputFile → Type 0
   Adds = AddsAreas output (IsAreaFile rows p bytes)

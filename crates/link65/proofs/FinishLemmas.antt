@@ -1,4 +1,4 @@
--- From the parts of a link to the whole, and the errors that a link can have.
+-- The result of a link, from the results of its parts, and the errors that a link can return.
 use Rattle.std.proofs.Common.{◌≡◌, ◌≢◌, ℕ, zero, suc, ◌+◌, ◌<◌, ◌≤◌, refl, sym, ◌∙◌, ap, subst, arith, List, [], ◌∷◌, length, slice_get, Option, Some, None, Bool, true, false, Result, Ok, Err, ◌⊎◌, inl, inr, nat_lt, map, ℤ, ◌||◌, ◌++◌, ◌%◌, ◌^◌}
 use Rattle.std.specs.Prelude.{IfErr, replicate}
 use Rattle.std.proofs.lemmas.Grind.{common_steps}
@@ -41,7 +41,7 @@ use Rattle.link65.specs.declared.parts.LinkedModule.{LinkedModule}
 use Rattle.link65.specs.declared.parts.ValueFixup.{ValueFixup}
 use Rattle.link65.specs.Links.{check_assert, check_asserts, check_export, check_fixup, check_each, IsSuccessfulLink, IsPlacedLink, check_result}
 
--- ---- The table.
+-- ---- The table of export results.
 
 pub table_at : (states : List ExportState) (x : ℕ) (r : Result ℤ ValueFault) → slice_get states x ≡ Some (Found r) → table_exports (export_results states) x ≡ r
 table_at [] x r e = cc
@@ -66,7 +66,7 @@ all_exports l states h = record {
     each : (x : ℕ) → IsFound states x → ExportEvaluatesTo l x (table_exports (export_results states) x)
     each x (r, e) = let P : Result ℤ ValueFault → Type 0 = λ z. ExportEvaluatesTo l x z in subst P (sym (table_at states x r e)) (h.settled.all_correct x r e)
 
--- ---- A form where all is found.
+-- ---- A form, if all exports are found.
 
 marked_found : (states : List ExportState) → AllFound states → (x : ℕ) (o : Option ExportState) → slice_get states x ≡ o → circular_if_active x o ≡ known_result (table_exports (export_results states) x)
 marked_found states h x None e = rw (table_past states x e) refl
@@ -95,20 +95,20 @@ form_found base o t h (binary op f g) = grind (arith, common_steps, (form_found 
 pub tried_found : (states : List ExportState) → AllFound states → (m : Option ModuleBindings) (f : Form) → form_attempt m states f ≡ known_result (value_in NoValue (base_of m) (λ j. import_value (table_exports (export_results states)) (provider_at m j)) f)
 tried_found states h m f = form_found (base_of m) (λ j. import_value (table_exports (export_results states)) (provider_at m j)) (λ j. import_attempt states (provider_at m j)) (λ j. import_found states h (provider_at m j)) f
 
--- what the attempt says of the value
+-- the final result of a known result is that result
 outcome_found : (r : Result ℤ ValueFault) → final_result (known_result r) ≡ r
 outcome_found x = grind (arith, common_steps)
 
 pub value_found : (l : Linkage) (states : List ExportState) → AllFound states → (owner : ℕ) (f : Form) → final_result (form_attempt (slice_get l.modules owner) states f) ≡ value_of_form l (table_exports (export_results states)) owner f
 value_found l states h owner f = ap final_result (tried_found states h (slice_get l.modules owner) f) ∙ outcome_found (value_of_form l (table_exports (export_results states)) owner f)
 
--- ---- All of them in turn.
+-- ---- All exports in order.
 
--- what isn't untouched is found
+-- an export that isn't untouched is found
 pub touched_found : (l : Linkage) (states : List ExportState) (x : ℕ) → ExportStatesInvariant l states → x < length states → slice_get states x ≢ Some Untouched → IsFound states x
 touched_found l states x h k n = grind (arith, common_steps, common_steps, gets)
 
--- one export more
+-- the exports before index `n` are found
 abbrev pub FoundBelow : ℕ → List ExportState → Type 0
 FoundBelow n states = (x : ℕ) → x < n → IsFound states x
 
@@ -129,12 +129,12 @@ below_next n states h f x lt = go (nat_cases x n lt)
     go (inl k) = h x k
     go (inr e) = let P : ℕ → Type 0 = λ y. IsFound states y in subst P (sym e) f
 
--- ---- From a program that passes to a placed one.
+-- ---- From a checked program to a placed program.
 
 finds_by : (P Q : Result CheckedLink LinkFault → Type 0) → ((r : Result CheckedLink LinkFault) → P r → Q r) → (r : Result CheckedLink LinkFault) → RefinesProp is_memory P r → RefinesProp is_memory Q r
 finds_by x y h z k = grind (arith, common_steps)
 
--- a program that passes with the results of its exports passes as a placed one
+-- a result checked with the final states of the exports is a checked result of the placed program
 pub placed_by : (s : Script) (p : Program) (placement : Placement) (modules : List ModuleBindings) (states : List ExportState) (r : Result CheckedLink LinkFault) → modules ≡ map (module_bindings s p placement) p.members → AreFinalStates (linkage modules p.exports) states → RefinesProp is_memory (IsCheckedLink s p placement (linkage modules p.exports) (table_exports (export_results states))) r → RefinesProp is_memory (IsPlacedCheckedLink s p placement) r
 placed_by s p placement modules states r same found k =
     finds_by (IsCheckedLink s p placement (linkage modules p.exports) (table_exports (export_results states))) (IsPlacedCheckedLink s p placement) (λ q h. whole q h) r k
@@ -173,9 +173,9 @@ resolved_all s p placement n runs are script_symbols exports weak run members = 
         ap (λ (bases : List ℤ). record { bases = bases; providers = map (provider_in n) m.imports }) (same_all (address_in runs) (address_of s.rows placement.rows) at m.sections)
         ∙ ap (λ (providers : List Provider). record { bases = map (address_of s.rows placement.rows) m.sections; providers = providers }) (same_all (provider_in n) _ provided m.imports)
 
--- ---- From the parts of a link to the whole.
+-- ---- From the parts of a link to the whole link.
 
--- a program that passes is linked by its files
+-- a program that passes the checks is linked to its files
 pub passed_link : (output : List ℕ) (s : Script) (p : Program) (placement : Placement) (x : CheckedLink) (files : List OutputFile) → IsPlacedCheckedLink s p placement (Ok x) → ((bytes : RowBytes) → x.rows.items ≡ map (written_row_bytes bytes) s.rows → AddsAreas output (IsAreaFile s.rows placement bytes) 0 s.areas [] files) → IsPlacedLink output s p placement (Ok (record { files = files; warnings = x.warnings; map = x.map }))
 passed_link output s p placement x files (table, are, passes) lays = (table, are, go (check_result s p l exports) passes)
   where
@@ -193,7 +193,7 @@ passed_link output s p placement x files (table, are, passes) lays = (table, are
       ap (λ (t : List ℕ). Ok (record { files = files; warnings = t; map = x.map })) warned ∙ ap (λ (t : List ℕ). Ok (record { files = files; warnings = warnings_of_rows s.rows p.segments ++ warnings; map = t })) mapped,
     )
 
--- and one that is refused is refused so
+-- the error of a program that fails a check is the error of the link
 pub passed_refused : (output : List ℕ) (s : Script) (p : Program) (placement : Placement) (e : LinkFault) → IsPlacedCheckedLink s p placement (Err e) → IsPlacedLink output s p placement (Err e)
 passed_refused output s p placement e (table, are, passes) = (table, are, go (check_result s p (linkage_of s p placement) (table_exports table)) passes)
   where
@@ -211,9 +211,9 @@ finds_refused output s p placement e h = go (is_memory e) h
 pub first_ok : {A B : Type 0} (head : Result A LinkFault) (x : A) (Next : A → Result B LinkFault → Type 0) (r : Result B LinkFault) → head ≡ Ok x → Next x r → AndThen head Next r
 first_ok {A} {B} head x Next r e h = subst (λ (z : Result A LinkFault). AndThen z Next r) (sym e) h
 
--- ---- The errors that a link can have.
+-- ---- The errors that a link can return.
 
--- a refusal is one of a link's
+-- an error, if there is one, is among those that a link can return
 abbrev Refused : {A : Type 0} → Result A LinkFault → Type 0
 Refused r = IfErr r (λ e. is_finish_fault e ≡ true)
 
@@ -242,7 +242,7 @@ asserts_so l members exports (a ∷ rest) = grind (arith, common_steps, (asserts
 checked_so : (s : Script) (p : Program) (l : Linkage) (exports : Exports) → Refused (check_result s p l exports)
 checked_so s p l exports = grind (arith, common_steps, following, each_so, fixup_so, export_so, asserts_so)
 
--- ---- The whole.
+-- ---- The whole link.
 
 first_so : {A B : Type 0} (r : Result A LinkFault) (Next : A → Result B LinkFault → Type 0) (e : LinkFault) → Refused r → ((x : A) → Next x (Err e) → is_finish_fault e ≡ true) → AndThen r Next (Err e) → is_finish_fault e ≡ true
 first_so x y e so next h = grind (arith, common_steps)
@@ -257,7 +257,7 @@ outside_or : (b own : Bool) (P : Type 0) → Unless b P → (P → own ≡ true)
 outside_or true own P h so = refl
 outside_or false own P h so = so h
 
--- any error of a link is *out of memory* or one of a link's own
+-- every error of a link is *out of memory* or one that a link can return
 pub refuses_so : (output : List ℕ) (s : Script) (p : Program) (placement : Placement) (r : Result Linked LinkFault) → RefinesProp is_memory (IsPlacedLink output s p placement) r → HasExpectedError is_finish_fault r
 refuses_so output s p placement (Ok x) h = tt
 refuses_so output s p placement (Err e) h = outside_or (is_memory e) (is_finish_fault e) (IsPlacedLink output s p placement (Err e)) h (placed_link_so output s p placement e)

@@ -1,4 +1,4 @@
--- An item grows a program as the module grows that it belongs to.
+-- Adding an item to a program has the same result as adding it to its module.
 use Rattle.std.proofs.Common.{◌≡◌, ◌∙◌, ◌+◌, ℕ, zero, suc, List, [], ◌∷◌, ◌++◌, length, map, cond, Option, Some, Bool, true, false, ◌&&◌, ◌||◌, not, if◌then◌else◌, refl, sym, ap, subst, arith, append_assoc}
 use Rattle.std.specs.Prelude.{slice_get, slice_set, find}
 use Rattle.std.proofs.lemmas.Grind.{common_steps}
@@ -26,7 +26,7 @@ use Rattle.link65.specs.Growing
 use Rattle.link65.specs.Programs.{Program, linked_assertion, linked_export, with_module}
 use Rattle.link65.specs.Programs
 
--- ---- A section behind others.
+-- ---- A section after other sections.
 
 pub snoc_sections : (owner : ℕ) (gs : List Programs.Segment) (ss : List Section) (s : Section) → Programs.with_sections owner gs (ss ++ s ∷ []) ≡ Programs.with_section owner (Programs.with_sections owner gs ss) s
 snoc_sections owner gs [] s = refl
@@ -36,9 +36,9 @@ pub snoc_places : (owner : ℕ) (gs : List Programs.Segment) (ss : List Section)
 snoc_places owner gs [] s = refl
 snoc_places owner gs (x ∷ ss) s = ap (λ ps. Programs.section_position gs x ∷ ps) (snoc_places owner (Programs.with_section owner gs x) ss s)
 
--- ---- A fragment more in one of them.
+-- ---- One further fragment of a section.
 
--- a section with a fragment more
+-- `t` is section `s` with one further fragment
 pub record IsLonger (owner : ℕ) (f : Fragment) (s t : Section) : Type 0 where
   pub name : t.name ≡ s.name
   pub align : t.align ≡ s.align
@@ -48,14 +48,14 @@ pub record IsLonger (owner : ℕ) (f : Fragment) (s t : Section) : Type 0 where
 pub grown_longer : (owner : ℕ) (d : Draft) (f : Fragment) → IsLonger owner f (Scanning.section_from d) (Scanning.section_from (Items.draft_with_fragment d f))
 grown_longer owner d x = grind (arith, common_steps)
 
--- the segment of the section has the fragment's bytes after its own
+-- the segment of the section has the fragment's cells at its end
 segment_longer : (owner : ℕ) (f : Fragment) (s t : Section) (g : Programs.Segment) → IsLonger owner f s t → Programs.segment_with_section owner g t ≡ Growing.with_cells (fragment_len f) (Programs.fragment_cells owner f) (Programs.segment_with_section owner g s)
 segment_longer owner f s t g l = grind (arith, common_steps)
 
 same_names : (n : List ℕ) → bytes_eq n n ≡ true
 same_names n = (nat_list_eq_equiv).refl n
 
--- where the section goes
+-- one step of the search for the segment of the section
 head_step : (owner : ℕ) (f : Fragment) (s t : Section) (g : Programs.Segment) (gs : List Programs.Segment) (b : Bool) → IsLonger owner f s t → bytes_eq g.name s.name ≡ b → Programs.with_section owner gs t ≡ Growing.with_segment_cells s.name (fragment_len f) (Programs.fragment_cells owner f) (Programs.with_section owner gs s) → (if b then Programs.segment_with_section owner g t ∷ gs else g ∷ Programs.with_section owner gs t) ≡ Growing.with_segment_cells s.name (fragment_len f) (Programs.fragment_cells owner f) (if b then Programs.segment_with_section owner g s ∷ gs else g ∷ Programs.with_section owner gs s)
 head_step owner f s t g gs true l is rest = rw is (ap (λ x. x ∷ gs) (segment_longer owner f s t g l))
 head_step owner f s t g gs false l is rest = rw is (ap (λ xs. g ∷ xs) rest)
@@ -64,7 +64,7 @@ head_longer : (owner : ℕ) (f : Fragment) (s t : Section) (gs : List Programs.S
 head_longer owner f s t [] l = grind (arith, common_steps, same_names, segment_longer)
 head_longer owner f s t (g ∷ gs) l = ap (λ (n : List ℕ). if bytes_eq g.name n then Programs.segment_with_section owner g t ∷ gs else g ∷ Programs.with_section owner gs t) l.name ∙ (head_step owner f s t g gs (bytes_eq g.name s.name) l refl (head_longer owner f s t gs l))
 
--- a segment of one name isn't one of another
+-- a name doesn't equal two different names
 not_both : (x y z : List ℕ) → bytes_eq x y ≡ true → bytes_eq x z ≡ true → bytes_eq y z ≡ false → ⊥
 not_both x y z e f other = grind (arith, common_steps, nat_list_eq_equiv)
 
@@ -113,9 +113,9 @@ tail_places owner name len cells (r ∷ ss) gs other =
     ∙ ap (λ (hs : List Programs.Segment). Programs.section_position gs r ∷ Programs.section_positions owner hs ss) (apart owner name len cells r gs o.0)
     ∙ ap (λ ps. Programs.section_position gs r ∷ ps) (tail_places owner name len cells ss (Programs.with_section owner gs r) o.1)
 
--- ---- The section at a place.
+-- ---- The section at an index.
 
--- no name stands twice
+-- the sections have distinct names
 abbrev pub AreApart : List Section → Type 0
 AreApart [] = Unit {0}
 AreApart (s ∷ ss) = IsOther s.name ss × AreApart ss
@@ -123,7 +123,7 @@ AreApart (s ∷ ss) = IsOther s.name ss × AreApart ss
 place_longer : (owner : ℕ) (f : Fragment) (s t : Section) (gs : List Programs.Segment) → IsLonger owner f s t → Programs.section_position gs t ≡ Growing.with_added_size (Programs.section_position gs s) (fragment_len f)
 place_longer owner f s t gs l = grind (arith, common_steps)
 
--- the segments and positions after one section gets one more fragment
+-- the segments and positions after one section gets one further fragment
 pub record Grows (owner : ℕ) (f : Fragment) (s : Section) (gs : List Programs.Segment) (ss ts : List Section) (k : ℕ) : Type 0 where
   pub segments : Programs.with_sections owner gs ts ≡ Growing.with_segment_cells s.name (fragment_len f) (Programs.fragment_cells owner f) (Programs.with_sections owner gs ss)
   pub placement : SectionPosition
@@ -179,7 +179,7 @@ names_apart (d ∷ ds) names =
     let other = turned (is_among rest d.name) (right (is_name d.name) (not (is_among rest d.name)) a) in
     (others d.name ds other, names_apart ds (right (is_name d.name && not (is_among rest d.name)) (are_names rest) names))
 
--- what has come of a module, by its sections
+-- the program with the part of a module that was read, in terms of its segments and section positions
 abbrev made : Program → Scanning.State → List Programs.Segment → List SectionPosition → Growing.PartialProgram
 made p s gs placements = record {
   program = record { members = p.members; segments = gs; exports = p.exports ++ map (linked_export (length p.members)) s.exports; asserts = p.asserts ++ map (linked_assertion (length p.members)) s.asserts };
@@ -191,7 +191,7 @@ made p s gs placements = record {
 by_sections : (p : Program) (s : Scanning.State) (xs ys : List Section) → xs ≡ ys → made p s (Programs.with_sections (length p.members) p.segments xs) (Programs.section_positions (length p.members) p.segments xs) ≡ made p s (Programs.with_sections (length p.members) p.segments ys) (Programs.section_positions (length p.members) p.segments ys)
 by_sections p s xs ys same = ap (λ (zs : List Section). made p s (Programs.with_sections (length p.members) p.segments zs) (Programs.section_positions (length p.members) p.segments zs)) same
 
--- a fragment of a section that is there
+-- the case of a fragment of a section that exists
 part_step : (p : Program) (s : Scanning.State) (k offset : ℕ) (f : Fragment) (d : Draft) → are_names (map (λ x. x.name) s.drafts) ≡ true → slice_get s.drafts k ≡ Some d → Growing.partial_program_of p (Items.with_item s (item.Part k offset f)) ≡ Growing.program_with_item (Growing.partial_program_of p s) (item.Part k offset f)
 part_step p s k offset f d names there =
     let owner = length p.members in
@@ -216,7 +216,7 @@ section_step p s name size align = grind (arith, common_steps, map-append, by_se
 pushed : {A B : Type 0} (f : A → B) (old : List B) (xs : List A) (x : A) → old ++ map f (xs ++ x ∷ []) ≡ (old ++ map f xs) ++ f x ∷ []
 pushed f old xs x = ap (λ ys. old ++ ys) (map-append f xs (x ∷ [])) ∙ sym (append_assoc old (map f xs) (f x ∷ []))
 
--- the read part of a module with one more item is that part with the item added
+-- adding an item to the part of a module that was read adds it to the partial program
 pub item_step : (p : Program) (s : Scanning.State) (i : Item) → are_names (map (λ d. d.name) s.drafts) ≡ true → IsPlaced s.drafts i → Growing.partial_program_of p (Items.with_item s i) ≡ Growing.program_with_item (Growing.partial_program_of p s) i
 item_step p s (item.File name) names placed = refl
 item_step p s (item.Import name) names placed = refl
@@ -226,11 +226,11 @@ item_step p s (item.Export name origin form) names placed = grind (arith, common
 item_step p s (item.Assert action origin text form) names placed = grind (arith, common_steps, pushed)
 item_step p s item.End names placed = refl
 
--- the program with a module that was read to its end has the module added
+-- closing the open module adds it to the program
 pub whole_module : (p : Program) (name : List ℕ) (s : Scanning.State) → Growing.closed_program (Growing.partial_program_of p s) name ≡ with_module p (Growing.module_from name s)
 whole_module p name s = refl
 
--- nothing has come yet
+-- before the first record the partial program has no open module
 pub nothing_yet : (p : Program) (version : ℕ) → Growing.partial_program_of p (Scanning.start version) ≡ Growing.without_open_module p
 nothing_yet p version = grind (arith, common_steps)
 

@@ -1,4 +1,4 @@
--- The states after calls of a linker, and its representation of the modules that have ended.
+-- The states of a linker after its calls, and the modules that they represent.
 use Rattle.std.proofs.lemmas.Grind.{common_steps}
 use Rattle.std.proofs.Common.{arith, ◌≡◌, ◌∙◌, List, length, map, inl, Option, sym, ap, ◌<◌, ℕ, false, ◌∷◌, drop, get_or, [], ◌++◌, Some, None, Bool, true, Result, Ok, Err, if◌then◌else◌, refl, subst}
 use Rattle.std.proofs.Math.Seq.{drop-append_seam}
@@ -33,25 +33,23 @@ use Rattle.link65.specs.Faults.{is_memory}
 use Rattle.link65.proofs.GrowingLaw.{growth_law}
 use Rattle.link65.specs.declared.module_reader.IndexedNames.{IndexedNames}
 
--- ---- The representation of the modules that have ended, whether another one is open or not.
+-- ---- The modules that have ended, whether or not another one is open.
 
--- their members
+-- the members of the program of these modules
 pub their_members : (f : LinkerView) (modules : List Module) → HasClosedModules f modules → (program_of modules).members ≡ f.partial.program.members
 their_members f modules x = grind (arith, common_steps)
 
--- the names that they and the script define
+-- the names that the script and these modules define
 pub their_names : (f : LinkerView) (modules : List Module) → HasClosedModules f modules → f.provided ≡ strong_names f.script (program_of modules)
 their_names f modules x = grind (arith, common_steps, given_all)
 
--- ---- Names of exports beside those listed.
+-- ---- The names of exports, compared with those listed.
 
--- a name and an export at the same index differ
+-- if a name and an export's name at the same index differ, so do the lists
 pub differ : (names : List (List ℕ)) (exports : List ModuleExport) (i : ℕ) (x : List ℕ) (y : ModuleExport) → i < length names → i < length exports → x ≡ get_or names i x → y ≡ get_or exports i y → bytes_eq x y.name ≡ false → are_same (drop i names) (map (λ e. e.name) (drop i exports)) ≡ false
 differ names exports i x y lt lt2 at at2 e = grind (arith, common_steps)
 
--- ---- Items.
-
--- ---- No records lead to a state that failed.
+-- ---- A state that is reached hasn't failed.
 
 pub reached_runs : (s : Scanning.State) → Scanning.IsReached s → s.failed ≡ false
 reached_runs s r = (reached_parts s r).failed
@@ -62,7 +60,7 @@ with_last : (p : Program) (ms : List Module) (m : Module) → with_modules p (ms
 with_last p [] m = refl
 with_last p (x ∷ ms) m = with_last (with_module p x) ms m
 
--- the program of modules with one more at the end
+-- the program of modules with one further module at the end
 pub one_more : (ms : List Module) (m : Module) → program_of (ms ++ m ∷ []) ≡ with_module (program_of ms) m
 one_more ms m = with_last _ ms m
 
@@ -71,7 +69,7 @@ one_more ms m = with_last _ ms m
 out_of_memory : {A : Type 0} (f : LinkFault) (read : Result A LinkFault) → is_memory f ≡ true → RefinesErr is_memory f read
 out_of_memory f read m = subst (λ b. Unless b (read ≡ Err f)) (sym m) tt
 
--- an item of the open module leads on as its record does
+-- adding the item of a record to the program represents the state after the record
 pub took : (p : Program) (s : Scanning.State) (e : RawRecord) (old new : PartialProgram) (o n : Outline) (i : Item) → RepresentsOpenModule p s old o → scan_step o e ≡ Ok (n, i) → new ≡ program_with_item old i → (t : Scanning.State) × (as_link (Scanning.state_after_record s e) ≡ Ok t) × RepresentsOpenModule p t new n
 took p s e old new o n i h scan grown =
     let t = with_item s i in
@@ -96,44 +94,44 @@ passed : {A B : Type 0} (b : Bool) (f : LinkFault) (read : Result A LinkFault) (
 passed true f read k h = tt
 passed false f read k h = ap (λ r. r >>= k) h
 
--- the names listed for a module, if any are, and those that it exports and imports, after the names defined before
+-- parameters: the names listed for a module, if any; its imports; the names defined before; the names of its exports
 module _ (listed : Option IndexedNames) (imports before names : List (List ℕ)) where
   abbrev given_whole : Object → Result Object LinkFault
   given_whole object = names_or_duplicate before names >>= (λ u. Ok object)
 
-  -- the object of a module, where its names are those listed and may be given
+  -- the object of a module, if its names are those listed and none is defined again
   abbrev admitted : Result Object ObjectFault → Result Object LinkFault
   admitted r = as_link r >>= matching_object listed names imports >>= given_whole
 
   module _ (p : Program) (s : Scanning.State) (old : PartialProgram) (o : Outline) (h : RepresentsOpenModule p s old o) where
-    -- an object that has come to its end
+    -- the case of an object with its END
     by_names : (b : Bool) → o.ended ≡ true → are_listed listed names imports ≡ b → admitted (Scanning.object_of_state s) ≡ ((if b then Ok (Scanning.object_from s) else Err fault.IndexDisagrees) >>= given_whole)
     by_names b end e = grind (arith, common_steps, ends_whole)
 
-    -- a module with its END follows the others
+    -- a module with its END is added after the others
     pub closed_whole : (new : PartialProgram) (name : List ℕ) (provided : List (List ℕ)) (r : Result (Unit {0}) LinkFault) → o.ended ≡ true → are_listed listed names imports ≡ true → names_or_duplicate before names ≡ Ok provided → OnOk r (new ≡ without_open_module (closed_program old name)) → IfErr r (λ f. is_memory f ≡ true) → RefinesThen (λ object. (new ≡ without_open_module (with_module p (module_of name object))) × (names_or_duplicate before names ≡ Ok provided)) r (admitted (Scanning.object_of_state s))
     closed_whole new name provided (Ok u) end is once grown memory =
         let object = Scanning.object_from s in
         (object, by_names true end is ∙ ap (λ q. q >>= (λ v. Ok object)) once, (grown ∙ ap (λ g. without_open_module (closed_program g name)) h.partial ∙ ap without_open_module (growth_law.2 p name s), once))
     closed_whole new name provided (Err f) end is once grown memory = out_of_memory f _ memory
 
-    -- one whose names aren't those listed is rejected
+    -- a module whose names aren't those listed is rejected
     pub disagrees : (f : LinkFault) → o.ended ≡ true → are_listed listed names imports ≡ false → f ≡ fault.IndexDisagrees → RefinesErr is_memory f (admitted (Scanning.object_of_state s))
     disagrees f end differ is = subst (λ g. RefinesErr is_memory g (admitted (Scanning.object_of_state s))) (sym is) (by_names false end differ)
 
-    -- one that defines a name twice is rejected
+    -- a module that defines a name again is rejected
     pub given_twice : (f : LinkFault) → o.ended ≡ true → are_listed listed names imports ≡ true → RefinesErr is_memory f (names_or_duplicate before names) → RefinesErr is_memory f (admitted (Scanning.object_of_state s))
     given_twice f end is refused = subst (λ r. RefinesErr is_memory f r) (sym (by_names true end is)) (passed (is_memory f) f (names_or_duplicate before names) (λ u. Ok (Scanning.object_from s)) refused)
 
-    -- one without its END is cut short
+    -- a module without its END is cut short
     pub cut_short : (f : LinkFault) → o.ended ≡ false → f ≡ fault.Malformed object.CutShort → RefinesErr is_memory f (admitted (Scanning.object_of_state s))
     cut_short f going is =
         let cut = finishes s false (reached_runs s h.reached) (ap (λ (q : Outline). q.ended) (sym h.scan) ∙ going) in
         subst (λ g. RefinesErr is_memory g (admitted (Scanning.object_of_state s))) (sym is) (ap admitted cut)
 
--- ---- The module that ends.
+-- ---- The end of the open module.
 
--- the names of the open module's exports follow those of the modules before it
+-- the exports after those of the modules before it are the open module's exports
 own_exports : (p : Program) (s : Scanning.State) (g : PartialProgram) (o : Outline) → RepresentsOpenModule p s g o → exports_from (length p.exports) g ≡ map (λ e. e.name) s.exports
 own_exports p s g o h = grind (arith, common_steps, drop-append_seam, map_after)
 
@@ -147,7 +145,7 @@ given_after script modules name object provided h =
 with_names : {A : Type 0} (r : Result (Unit {0}) LinkFault) (all : List (List ℕ)) (x : A) → (r >>= (λ u. Ok x)) ≡ ((r >>= (λ u. Ok all)) >>= (λ u. Ok x))
 with_names y all x = grind (arith, common_steps)
 
--- two continuations that agree at the object agree
+-- two functions that agree on both possible results of reading an object agree on the result
 at_object : (r : Result Object ObjectFault) (b : Bool) (o : Object) (f g : Result Object LinkFault → Result Object LinkFault) → r ≡ (if b then Ok o else Err object.CutShort) → f (Ok o) ≡ g (Ok o) → f (Err (fault.Malformed object.CutShort)) ≡ g (Err (fault.Malformed object.CutShort)) → f (as_link r) ≡ g (as_link r)
 at_object r true o f g is same cut = subst (λ (q : Result Object ObjectFault). f (as_link q) ≡ g (as_link q)) (sym is) same
 at_object r false o f g is same cut = subst (λ (q : Result Object ObjectFault). f (as_link q) ≡ g (as_link q)) (sym is) cut
@@ -155,14 +153,14 @@ at_object r false o f g is same cut = subst (λ (q : Result Object ObjectFault).
 abbrev made_from : Scanning.State → Bool → Type 0
 made_from s b = Scanning.object_of_state s ≡ (if b then Ok (Scanning.object_from s) else Err object.CutShort)
 
--- an entry agrees with an object if and only if the names listed from it do
+-- an entry agrees with an object if and only if the names that it lists do
 listed_so : (entry : Option IndexEntry) (o : Object) → agrees_with entry o ≡ are_listed (option_map indexed_names entry) (map (λ e. e.name) o.exports) o.imports
 listed_so x o = grind (arith, common_steps)
 
 agreeing : (b c : Bool) (o : Object) (f g : Object → Result Object LinkFault) → b ≡ c → f o ≡ g o → ((if b then Ok o else Err fault.IndexDisagrees) >>= f) ≡ ((if c then Ok o else Err fault.IndexDisagrees) >>= g)
 agreeing b c o f g e same = grind (arith, common_steps)
 
--- a module is complete if and only if its names can be defined after those before it
+-- `closed_module` is `admitted`, with the names of the index entry and the names that are defined before
 whole_admits : (script : Script) (modules : List Module) (name : List ℕ) (entry : Option IndexEntry) (s : Scanning.State) (provided : List (List ℕ)) (b : Bool) → made_from s b → names_or_duplicate [] (strong_names script (program_of modules)) ≡ Ok provided → closed_module script modules name entry s ≡ admitted (option_map indexed_names entry) s.imports provided (map (λ e. e.name) s.exports) (Scanning.object_of_state s)
 whole_admits script modules name entry s provided b is h =
     let object = Scanning.object_from s in
@@ -179,12 +177,12 @@ whole_admits script modules name entry s provided b is h =
 kept_whole : {A : Type 0} (q : Result A LinkFault) (o x : Object) → (q >>= (λ u. Ok o)) ≡ Ok x → x ≡ o
 kept_whole y o x h = grind (arith, common_steps)
 
--- the object that is admitted is the module's
+-- the object that is admitted is the object of the module
 admits : (r : Result Object ObjectFault) (b : Bool) (o x : Object) (listed : Option IndexedNames) (imports before names : List (List ℕ)) → r ≡ (if b then Ok o else Err object.CutShort) → admitted listed imports before names r ≡ Ok x → x ≡ o
 admits r true o x listed imports before names is h = grind (arith, common_steps, imports, names, kept_whole)
 admits r false o x listed imports before names is h = let k : admitted listed imports before names (Err object.CutShort) ≡ Ok x = ap (admitted listed imports before names) (sym is) ∙ h in absurd cc
 
--- the linker represents this part of the open module
+-- the linker represents the part of the open module that was read
 record Coming (p : Program) (name : List ℕ) (entry : Option IndexEntry) (s : Scanning.State) (g : PartialProgram) (o : OpenModuleView) : Type 0 where
   pub comes : RepresentsOpenModule p s g o.scan
   pub called : o.name ≡ name
@@ -218,7 +216,7 @@ module _ (old : LinkerView) (modules : List Module) (name : List ℕ) (entry : O
       ∙ ap (λ ns. admitted (option_map indexed_names entry) ns before (exports_from o.first_export g) (Scanning.object_of_state s)) (sym imports)
       ∙ ap (λ l. admitted l g.imports before (exports_from o.first_export g) (Scanning.object_of_state s)) (sym come.names)
 
-  -- the module that ends follows the others
+  -- the module that ends is added after the others
   pub ended_next : (new : LinkerView) → new.opened ≡ None → new.failed ≡ false → new.script ≡ old.script
       → ((p : Program) (t : Scanning.State) → RepresentsOpenModule p t g o.scan → (x : Object) × (admitted o.listed g.imports before (exports_from o.first_export g) (Scanning.object_of_state t) ≡ Ok x) × ((new.partial ≡ without_open_module (with_module p (module_of o.name x))) × (names_or_duplicate before (exports_from o.first_export g) ≡ Ok new.provided)))
       → (x : Object) × (closed_module old.script modules name entry s ≡ Ok x) × RepresentsModules new (modules ++ module_of name x ∷ [])
@@ -239,13 +237,13 @@ module _ (old : LinkerView) (modules : List Module) (name : List ℕ) (entry : O
         },
       )
 
-  -- one that is rejected isn't complete
+  -- an error of `admitted` is an error of `closed_module`
   pub ended_refused : (e : LinkFault) → ((p : Program) (t : Scanning.State) → RepresentsOpenModule p t g o.scan → RefinesErr is_memory e (admitted o.listed g.imports before (exports_from o.first_export g) (Scanning.object_of_state t))) → RefinesErr is_memory e (closed_module old.script modules name entry s)
   ended_refused e ends = subst (λ (r : Result Object LinkFault). RefinesErr is_memory e r) (sym kept) (ends (program_of modules) s come.comes)
 
 -- ---- The link.
 
--- the link of the represented program is that of the modules
+-- the link of the program that the linker represents is the link of the modules
 pub linked : (f : LinkerView) (modules : List Module) (kept : Program) (r : Result Linked LinkFault) → kept ≡ f.partial.program → (f.provided ≡ strong_names f.script kept → RefinesProp is_memory (IsProgramLink f.output f.script kept) r) → RepresentsModules f modules → RefinesProp is_memory (LinkOf f.output f.script modules) r
 linked f modules p r is found h =
     let named : f.provided ≡ strong_names f.script p = their_names f modules (inl h) ∙ ap (strong_names f.script) (sym (is ∙ ap (λ (g : PartialProgram). g.program) h.partial)) in

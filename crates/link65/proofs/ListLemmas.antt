@@ -1,4 +1,4 @@
--- Lists: names that are copied, what is known of names, lists beside each other.
+-- Lists: copies of names, tables of names, and pairs of lists.
 use Rattle.std.proofs.lemmas.Grind.{common_steps}
 use Rattle.std.proofs.Common.{◌≡◌, ◌∙◌, ℕ, List, [], ◌∷◌, map, Result, refl, ap, vec_len, ◌<◌, ◌≤◌, ◌-◌, ◌+◌, Bool, true, false, cond, length, drop, slice_get, add-one, get_or, Option, Some, sym, arith, ◌++◌, append_assoc, append-nil, ◌⊎◌, inl, inr}
 use Rattle.std.specs.Prelude.{IfOk, MatchResult, option_map}
@@ -14,9 +14,9 @@ use Rattle.indexmap.specs.IndexMap.{IndexMap}
 use Rattle.link65.specs.Placed.{provider_found}
 use Rattle.link65.specs.Programs.{position_in, flat_zip}
 
--- ---- Names that are copied.
+-- ---- Copies of names.
 
--- a copy of bytes, item by item
+-- lists with pairwise equal items are equal
 same_items : (xs ys : List ℕ) → AllZip (λ x y. y ≡ x) xs ys → ys ≡ xs
 same_items [] [] h = refl
 same_items [] (y ∷ ys) h = absurd h
@@ -42,9 +42,9 @@ same_names (v ∷ vs) (w ∷ ws) h =
 pub copied : {S E : Type 0} (keys : S → List (Vec ℕ)) (old : List (Vec ℕ)) (r : Result S E) (Q : E → Type 0) → MatchResult r (λ s. AllZip IsCopy old (keys s)) Q → IfOk r (λ s. map (λ n. n.items) (keys s) ≡ map (λ n. n.items) old)
 copied keys old x y h = grind (arith, common_steps, same_names)
 
--- ---- What is known of names: of two items of one name the first counts.
+-- ---- Tables of names: of several items with the same name the first one counts.
 
--- the place of the first of a name, from a place on
+-- the index of the first item with a name, from index `i` on
 abbrev pub first_from : {X : Type 0} → (X → List ℕ) → List X → ℕ → List ℕ → Option ℕ
 first_from name_of xs i name = position_from (λ x. bytes_eq (name_of x) name) i (drop i xs)
 
@@ -53,7 +53,7 @@ nearer provided true i o old mid e = refl
 nearer provided false i o old mid e = e
 
 module _ {X A S : Type 0} (name_of : X → List ℕ) (provided : ℕ → A) (xs : List X) where
-  -- the items from a place on are known, and else what was
+  -- the table contains the items from index `i` on, and otherwise its old items
   abbrev pub AreKnown : ℕ → (List ℕ → Option A) → IndexMap (Bor (List ℕ)) A S → Type 0
   AreKnown i old new = (name : List ℕ) → provider_found new name ≡ option_or (option_map provided (first_from name_of xs i name)) (old name)
 
@@ -61,7 +61,7 @@ module _ {X A S : Type 0} (name_of : X → List ℕ) (provided : ℕ → A) (xs 
   known_none i old new all same name =
       same name ∙ sym (ap (λ l. option_or (option_map provided (position_from (λ x. bytes_eq (name_of x) name) i l)) (old name)) (drop_all i xs (omega arith)))
 
-  -- one item more, in front of those so far
+  -- one further item, before the items that were added so far
   pub known_more : (i : ℕ) (x : X) (n : List ℕ) (v : A) (old : List ℕ → Option A) (mid new : IndexMap (Bor (List ℕ)) A S) → 0 < i → i ≤ length xs → x ≡ get_or xs (i - 1) x → n ≡ name_of x → v ≡ provided (i - 1) → ((name : List ℕ) → provider_found new name ≡ cond (bytes_eq n name) (Some v) (provider_found mid name)) → AreKnown i old mid → AreKnown (i - 1) old new
   known_more i x n v old mid new pos le is named same e inv name =
       let next : i - 1 + 1 ≡ i = omega arith in
@@ -84,9 +84,9 @@ module _ {X A S : Type 0} (name_of : X → List ℕ) (provided : ℕ → A) (xs 
       mapped i [] = refl
       mapped i (y ∷ ys) = ap (cond (bytes_eq (name_of y) name) (Some i)) (mapped (i + 1) ys)
 
--- ---- Lists beside each other.
+-- ---- Pairs of lists.
 
--- pairs, where either list may end first
+-- the results for pairs of items; either list may end first
 module _ {A B C : Type 0} (f : A → B → List C) where
   pub pair_next : (xs rest : List A) (ys more : List B) (x : A) (y : B) (done next all : List C) → xs ≡ x ∷ rest → ys ≡ y ∷ more → next ≡ done ++ f x y → done ++ flat_zip f xs ys ≡ all → next ++ flat_zip f rest more ≡ all
   pair_next xs rest ys more x y done next all a b e inv = grind (arith, common_steps, append_assoc)
@@ -100,7 +100,7 @@ module _ {A B C : Type 0} (f : A → B → List C) where
       none (inl p) (x ∷ xs) (y ∷ ys) first second = absurd (omega (arith, first p))
       none (inr q) (x ∷ xs) (y ∷ ys) first second = absurd (omega (arith, second q))
 
--- what stands beside each item is made of it
+-- pairs of each item and a function of it
 pub zip_mapped : {A B C : Type 0} (f : A → B → List C) (g : A → B) (h : A → List C) → ((x : A) → f x (g x) ≡ h x) → (xs : List A) → flat_zip f xs (map g xs) ≡ flat_map h xs
 zip_mapped f g h same [] = refl
 zip_mapped f g h same (x ∷ xs) = ap (λ l. l ++ flat_zip f xs (map g xs)) (same x) ∙ ap (λ l. h x ++ l) (zip_mapped f g h same xs)

@@ -1,4 +1,4 @@
--- Any form has a result, and any modules and script have an outcome.
+-- Every form has a result, and any modules and script have an outcome.
 use Rattle.std.proofs.Common.{◌≡◌, ◌∙◌, ◌⊎◌, inl, inr, ℕ, zero, suc, ◌+◌, ◌<◌, ◌≤◌, Bool, true, false, List, [], ◌∷◌, ◌++◌, length, map, nat_lt, nat_eq, Option, Some, None, Result, Ok, Err, refl, sym, ap, subst, arith, slice_get}
 use Rattle.std.specs.Prelude.{ℤ, pos, ◌==◌}
 use Rattle.std.specs.Ordering.{int_eq}
@@ -34,8 +34,9 @@ use Rattle.link65.specs.Values.{AreExports, Exports, Linkage, ConvergesTo, expor
 use Rattle.script65.proofs.PlacementExistence.{place_own}
 use Rattle.link65.proofs.Attempts.{Answer, Grows, Known, circular_before, exports_grow, form_grows}
 
--- ---- From some depth of nested exports on, results don't change: at each depth before it, one more export has a
--- result that isn't circular, and the number of exports is finite.
+-- ---- From some depth of nested exports on, no result changes.
+-- From depth 1 on, each depth that changes a result increases the number of exports whose result isn't circular, and this
+-- number is bounded by the number of exports.
 
 is_circular : Answer → Bool
 is_circular (Err Circular) = true
@@ -59,7 +60,7 @@ step : Bool → ℕ
 step true = 0
 step false = 1
 
--- the number of exports, among the first of them, with a result that isn't circular
+-- the number of exports before an index with a result that isn't circular at depth `n`
 answered : Linkage → ℕ → ℕ → ℕ
 answered l n zero = 0
 answered l n (suc x) = step (is_circular (exports_to_depth l n x)) + answered l n x
@@ -95,7 +96,7 @@ step_same r s h false c e f same = known_is r s h e
 step_same r s h true true e f same = circular_is s f ∙ sym (circular_is r e)
 step_same r s h true false e f same = absurd (omega arith)
 
--- if this number doesn't grow, no result changes
+-- if this number doesn't increase at the next depth, no result changes
 answered_same : (l : Linkage) (n m : ℕ) → answered l n m ≡ answered l (suc n) m → (x : ℕ) → x < m → exports_to_depth l (suc n) x ≡ exports_to_depth l n x
 unfolding answered
 answered_same l n zero e x lt = absurd (omega arith)
@@ -147,7 +148,7 @@ some_still l = by (search l (suc (length l.exports)))
     by (inl found) = found
     by (inr le) = absurd (omega (arith, answered_bound l (suc (suc (length l.exports))) (length l.exports)))
 
--- nor at any greater depth
+-- no result changes at any greater depth
 still_on : (l : Linkage) (n : ℕ) → StandsStill l n → (k x : ℕ) → exports_to_depth l (k + n) x ≡ exports_to_depth l n x
 still_on l n still zero x = let same : zero + n ≡ n = omega arith in ap (λ (m : ℕ). exports_to_depth l m x) same
 still_on l n still (suc k) x =

@@ -1,4 +1,4 @@
--- A link has one outcome, and a weak name that nothing uses changes no image.
+-- A link has at most one outcome, and a weak name that isn't used changes no image.
 use Rattle.std.proofs.Common.{◌≡◌, ◌∙◌, ℕ, zero, suc, ◌+◌, ◌<◌, Bool, true, false, List, [], ◌∷◌, ◌++◌, length, get_or, Result, Ok, Err, refl, sym, ap, subst, arith, not, ◌||◌, cond, filter, map, slice_get, Option, Some, if◌then◌else◌}
 use Rattle.std.specs.Prelude.{ℤ, ◌==◌}
 use Rattle.base65.proofs.Outcome.{first_once}
@@ -35,9 +35,9 @@ use Rattle.link65.specs.declared.parts.ModuleBindings.{ModuleBindings}
 use Rattle.link65.specs.Names.{script_provider_or, index_of_definition, distinct_names, first_duplicate, strong_names, provider_of, is_among, is_defined_name, references, unresolved_names, script_definitions, symbol_imports, weak_symbols, HaveSameImages, is_used, with_weak}
 use Rattle.link65.specs.Laws.{UnusedWeakNamePreservesImages, LinkExistsWithUnusedWeakName}
 
--- ---- A link has one outcome.
+-- ---- A link has at most one outcome.
 
--- lists of one length that have one item at each place
+-- lists of equal length with equal elements at each index are equal
 same_list : {A : Type 0} (xs ys : List A) (d : A) → length xs ≡ length ys → ((i : ℕ) → i < length xs → get_or xs i d ≡ get_or ys i d) → xs ≡ ys
 same_list [] [] d n h = refl
 same_list [] (y ∷ ys) d n h = absurd (omega arith)
@@ -91,9 +91,9 @@ program_once output s p r q h k = first_once (placement_result s p) (IsPlacedLin
 pub link_once : (output : List ℕ) (s : Script) (modules : List Module) (r q : Result Linked LinkFault) → LinkOf output s modules r → LinkOf output s modules q → r ≡ q
 link_once output s modules r q h k = grind (arith, common_steps, first_once, program_once)
 
--- ---- The symbols of a script with one more weak name.
+-- ---- The symbols of a script with one further weak name.
 
--- a weak name of a value
+-- a weak symbol with a value
 abbrev symbol : List ℕ → ℕ → Symbol
 symbol name value = record { name = name; kind = kind.Weak value }
 
@@ -106,13 +106,13 @@ imports_same symbols name value = grind (arith, common_steps)
 weak_more : (symbols : List Symbol) (name : List ℕ) (value : ℕ) → weak_symbols (symbols ++ symbol name value ∷ []) ≡ weak_symbols symbols ++ definition name value ∷ []
 weak_more symbols name value = grind (arith, common_steps)
 
--- ---- A name that isn't among names.
+-- ---- A name that isn't in a list.
 
 neither : (a b : Bool) → (a || b) ≡ false → (a ≡ false) × (b ≡ false)
 neither false b e = (refl, e)
 neither true b e = cc
 
--- neither the first nor among the others
+-- a name that isn't in a list is neither its head nor in its tail
 others : (names : List (List ℕ)) (n name : List ℕ) → is_among (n ∷ names) name ≡ false → (bytes_eq n name ≡ false) × (is_among names name ≡ false)
 others names n name e = neither (bytes_eq n name) (is_among names name) e
 
@@ -134,9 +134,9 @@ once_without (n ∷ names) before name e f =
     (choice (is_among before n) before (before ++ n ∷ []) name e (with_other before n name e two.0))
     two.1
 
--- ---- Functions that agree at each name but one.
+-- ---- Functions that agree on all names but one.
 
--- f and g agree at each name but this
+-- `f` and `g` agree on all names but this one
 abbrev AgreeBut : {A : Type 0} → List ℕ → (List ℕ → A) → (List ℕ → A) → Type 0
 AgreeBut name f g = (n : List ℕ) → bytes_eq n name ≡ false → f n ≡ g n
 
@@ -158,7 +158,7 @@ filter_same f g name same (n ∷ names) e =
     step true false h x y rest = cc
     step false true h x y rest = cc
 
--- ---- The provider of a name, with one more definition after the weak ones.
+-- ---- The provider of a name, with one further weak definition at the end.
 
 found_before : (p : List ℕ → Bool) (i : ℕ) (names : List (List ℕ)) (name : List ℕ) → p name ≡ false → position_from p i (names ++ name ∷ []) ≡ position_from p i names
 found_before p i [] name e = rw e refl
@@ -232,9 +232,9 @@ names_once_same s p name value = ap (λ names. none_duplicate (first_duplicate [
 placed_same : (s : Script) (p : Program) (name : List ℕ) (value : ℕ) → is_used s p name ≡ false → placement_result (with_weak s name value) p ≡ placement_result s p
 placed_same s p name value e = ap (λ names. none_unresolved names >>= (λ u. as_placement (place_of s (needs_of p)))) (unresolved_same s p name value e)
 
--- ---- A link without the weak name has one with it, with the same images.
+-- ---- A link without the weak name implies a link with it that has the same images.
 
--- what answers so, and has the same images
+-- a result that satisfies `Answers` and has the same images as `r`
 abbrev LinksAlike : (Result Linked LinkFault → Type 0) → Result Linked LinkFault → Type 0
 LinksAlike Answers r = (q : Result Linked LinkFault) × Answers q × HaveSameImages r q
 

@@ -1,4 +1,4 @@
--- Segments by their places and names, and how a section begins in its segment.
+-- Segments by index and by name, and the start of a section in its segment.
 use Rattle.std.proofs.lemmas.Grind.{common_steps}
 use Rattle.std.proofs.Common.{◌≡◌, ◌∙◌, ℕ, suc, List, [], ◌∷◌, ◌++◌, length, map, cond, Option, Some, None, Bool, true, false, if◌then◌else◌, refl, sym, ap, subst, arith, ◌||◌, slice_get, ◌<◌, zero, ◌-◌, ◌^◌, get_or, Ok, Result}
 use Rattle.std.specs.Prelude.{slice_set, position, max}
@@ -21,7 +21,7 @@ use Rattle.script65.specs.Placing.{rounded_up}
 use Rattle.link65.specs.declared.fault.LinkFault.{LinkFault}
 use Rattle.link65.specs.declared.building.ProgramBuilder.{ProgramBuilder}
 
--- ---- Segments by their places.
+-- ---- Segments by index.
 
 pub at_front : {X : Type 0} (p : X → Bool) (x : X) (xs : List X) → p x ≡ true → position p (x ∷ xs) ≡ Some 0
 at_front p x xs passes = grind (arith, common_steps)
@@ -33,7 +33,7 @@ mapped_step : {A X : Type 0} (p : X → Bool) (f : A → X) (x : A) (xs : List A
 mapped_step p f x xs true is rest = at_front p (f x) (map f xs) is ∙ sym (at_front (λ y. p (f y)) x xs is)
 mapped_step p f x xs false is rest = after_front p (f x) (map f xs) is ∙ ap (option_map suc) rest ∙ sym (after_front (λ y. p (f y)) x xs is)
 
--- the place among what is mapped
+-- the position in a mapped list
 pub position_map : {A X : Type 0} (p : X → Bool) (f : A → X) (xs : List A) → position p (map f xs) ≡ position (λ y. p (f y)) xs
 position_map p f [] = refl
 position_map p f (x ∷ xs) = mapped_step p f x xs (p (f x)) refl (position_map p f xs)
@@ -45,14 +45,14 @@ none_step : {X : Type 0} (p : X → Bool) (x : X) (xs : List X) (b : Bool) → p
 none_step p x xs true is none = let e : ◌≡◌ {A = Option ℕ} (Some 0) None = sym (at_front p x xs is) ∙ none in cc
 none_step p x xs false is none = (refl, none_next (position p xs) (sym (after_front p x xs is) ∙ none))
 
--- nothing passes where there is no place
+-- if no position is found, no element satisfies the predicate
 pub none_among : {X : Type 0} (p : X → Bool) (xs : List X) → position p xs ≡ None → list_any p xs ≡ false
 none_among p [] none = refl
 none_among p (x ∷ xs) none =
     let s = none_step p x xs (p x) refl none in
     ap (λ b. b || list_any p xs) s.0 ∙ none_among p xs s.1
 
--- the first that passes may be the last
+-- if only the last element satisfies the predicate, its position is the last index
 pub place_last : {X : Type 0} (p : X → Bool) (xs : List X) (y : X) → position p xs ≡ None → p y ≡ true → position p (xs ++ y ∷ []) ≡ Some (length xs)
 place_last p [] y none passes = at_front p y [] passes
 place_last p (x ∷ xs) y none passes =
@@ -69,12 +69,12 @@ there_step : (name : List ℕ) (i : ℕ) (g : Programs.Segment) (gs : List Progr
 there_step name i g gs true is rest there = grind (arith, common_steps, nat_list_eq_equiv)
 there_step name i g gs false is rest there = grind (arith, common_steps)
 
--- no segment is added if the name is there
+-- if a segment of this name exists, none is added
 pub with_name_there : (name : List ℕ) (gs : List Programs.Segment) (i : ℕ) → segment_index name (names_of gs) ≡ Some i → with_name name gs ≡ gs
 with_name_there name [] i there = cc
 with_name_there name (g ∷ gs) i there = there_step name i g gs (bytes_eq name g.name) refl (with_name_there name gs) there
 
--- and one is added after the others if it isn't
+-- otherwise one is added after the others
 pub with_name_new : (name : List ℕ) (gs : List Programs.Segment) → segment_index name (names_of gs) ≡ None → with_name name gs ≡ gs ++ Programs.empty_segment name ∷ []
 with_name_new name [] none = refl
 with_name_new name (g ∷ gs) none =
@@ -86,7 +86,7 @@ pub segment_names : (cs : List SegmentContent) → names_of (segments_from cs) �
 segment_names [] = refl
 segment_names (c ∷ cs) = ap (λ ns. c.name ∷ ns) (segment_names cs)
 
--- ---- What becomes of the segment at a place.
+-- ---- Changes to the segment at an index.
 
 pub record AtPlace (name : List ℕ) (gs : List Programs.Segment) (i : ℕ) : Type 0 where
   pub segment : Programs.Segment
@@ -120,7 +120,7 @@ pub at_place : (name : List ℕ) (gs : List Programs.Segment) (i : ℕ) → segm
 at_place name [] i there = cc
 at_place name (g ∷ gs) i there = place_step name i g gs (bytes_eq name g.name) refl (at_place name gs) there
 
--- ---- A segment that has nothing counts for nothing.
+-- ---- Adding an empty segment first doesn't change the result.
 
 same_name : (n : List ℕ) → bytes_eq n n ≡ true
 same_name n = (nat_list_eq_equiv).refl n
@@ -143,7 +143,7 @@ begun_end name (g ∷ gs) = end_step name g gs (bytes_eq g.name name) refl (begu
 
 -- ---- Segments by name.
 
--- what stands at a place, if any
+-- the segment at an index, if there is one
 abbrev pub at_most : List SegmentContent → Option ℕ → Option Segment
 at_most cs None = None
 at_most cs (Some i) = option_map segment_from (slice_get cs i)
@@ -158,12 +158,12 @@ found_step : (name : List ℕ) (c : SegmentContent) (cs : List SegmentContent) (
 found_step name c cs true is rest = grind (arith, common_steps, at_front, nat_list_eq_equiv)
 found_step name c cs false is rest = grind (arith, common_steps, place_further, after_front, nat_list_eq_equiv)
 
--- the segment of a name is that of the content at the name's place
+-- the segment of a name is the segment at the index of the name
 pub found_at : (name : List ℕ) (cs : List SegmentContent) → segment_of (segments_from cs) name ≡ at_most cs (segment_index name (content_names cs))
 found_at name [] = refl
 found_at name (c ∷ cs) = ap (λ b. cond b (Some (segment_from c)) (segment_of (segments_from cs) name)) refl ∙ found_step name c cs (bytes_eq c.name name) refl (found_at name cs)
 
--- ---- The places of the segments of the open module's sections.
+-- ---- The indices of the segments of the open module's sections.
 
 abbrev pub places_of : List (List ℕ) → List SectionPosition → List (Option ℕ)
 places_of names ss = map (λ s. segment_index s.segment names) ss
@@ -176,7 +176,7 @@ stay_step : {X : Type 0} (p : X → Bool) (x : X) (xs more : List X) (i : ℕ) (
 stay_step p x xs more i true is e rest = at_front p x (xs ++ more) is ∙ sym (at_front p x xs is) ∙ e
 stay_step p x xs more i false is e rest = grind (arith, common_steps, some_next, after_front)
 
--- a name that has an index keeps it if others are added at the end
+-- a position doesn't change if elements are added at the end
 place_stays : {X : Type 0} (p : X → Bool) (xs more : List X) (i : ℕ) → position p xs ≡ Some i → position p (xs ++ more) ≡ Some i
 place_stays p [] more i e = cc
 place_stays p (x ∷ xs) more i e = stay_step p x xs more i (p x) refl e (place_stays p xs more)
@@ -203,7 +203,7 @@ some_there (x ∷ xs) (suc i) lt = some_there xs i (omega arith)
 some_same : {A : Type 0} (x y : A) → ◌≡◌ {A = Option A} (Some x) (Some y) → x ≡ y
 some_same x y e = cc
 
--- a section at a place, and the place of its segment
+-- a section at an index, and the index of its segment
 pub section_there : (names : List (List ℕ)) (ss : List SectionPosition) (indices : List ℕ) (k at : ℕ) → places_of names ss ≡ map Some indices → k < length ss → slice_get indices k ≡ Some at → (s : SectionPosition) × (slice_get ss k ≡ Some s) × (segment_index s.segment names ≡ Some at)
 section_there names ss indices k at e lt there =
     let s = some_there ss k lt in
@@ -214,7 +214,7 @@ section_there names ss indices k at e lt there =
           (sym (slice_get-map f ss k ∙ ap (option_map f) s.1) ∙ ap (λ (xs : List (Option ℕ)). slice_get xs k) e ∙ slice_get-map Some indices k ∙ ap (option_map Some) there),
     )
 
--- ---- Sections that come and grow.
+-- ---- Sections that are added or get longer.
 
 pub section_more : (names : List (List ℕ)) (ss : List SectionPosition) (indices : List ℕ) (s : SectionPosition) (at : ℕ) → places_of names ss ≡ map Some indices → segment_index s.segment names ≡ Some at → places_of names (ss ++ s ∷ []) ≡ map Some (indices ++ at ∷ [])
 section_more names ss indices s at e here = grind (arith, common_steps)
@@ -226,7 +226,7 @@ longer_stays names (x ∷ ss) (suc k) s n e = ap (λ l. segment_index x.segment 
 
 -- ---- A section begins in its segment.
 
--- a segment with a bare section
+-- a segment with one further section, which is empty
 opened_is : (owner m : ℕ) (g h : Programs.Segment) (name : List ℕ) (align : ℕ) → m ≡ 2 ^ align → h ≡ record (with_gap (rounded_up g.size m - g.size) g) { size = rounded_up g.size m; align = max g.align m } → h ≡ Programs.segment_with_section owner g (empty_section name align)
 opened_is owner m g h name align is opened = grind (arith, common_steps)
 

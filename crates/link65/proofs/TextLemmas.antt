@@ -1,4 +1,4 @@
--- Texts: hex digits, lines, names as they are printed.
+-- Texts: hex digits, lines, and names as they are printed.
 use Rattle.std.proofs.lemmas.Grind.{common_steps}
 use Rattle.std.proofs.Common.{◌≡◌, ◌∙◌, ◌<◌, ◌≤◌, ◌/◌, ◌%◌, ◌-◌, ◌+◌, ◌*◌, ◌^◌, ℕ, zero, suc, List, [], ◌∷◌, ◌++◌, length, refl, sym, ap, arith, drop, get_or, append_assoc, take, add-one, false, map, nat_eq}
 use Rattle.std.proofs.lemmas.Nat.{pow-add}
@@ -18,16 +18,16 @@ use Rattle.link65.specs.Programs.{known, filled}
 
 -- ---- Hex digits.
 
--- all digits but the last, and the last
+-- the digits of `n` are those of `n / 16` and then the last digit
 pub hex_step : (count n : ℕ) → 0 < count → hex_digits count n ≡ hex_digits (count - 1) (n / 16) ++ hex_digit (n % 16) ∷ []
 hex_step zero n h = absurd (omega arith)
 hex_step (suc count) n h = let e : suc count - 1 ≡ count = omega arith in rw e refl
 
--- the digits before the last so many
+-- the digits but for the last `left` ones
 abbrev pub IsBefore : ℕ → ℕ → ℕ → List ℕ → Type 0
 IsBefore count n left digits = (digits ≡ hex_digits (count - left) (n / 2 ^ (4 * left))) × (length digits ≡ count - left)
 
--- and one more
+-- one further digit
 pub one_more : (count n left now d : ℕ) (digits new : List ℕ) → 0 < left → left ≤ count → now ≡ left - 1 → IsBefore count n left digits → d ≡ hex_digit (n / 2 ^ (4 * now) % 16) → new ≡ digits ++ d ∷ [] → IsBefore count n now new
 one_more count n left now d digits new some within is before digit after = (
   after
@@ -48,7 +48,7 @@ one_more count n left now d digits new some within is before digit after = (
     higher : n / 2 ^ (4 * left) ≡ n / 2 ^ (4 * now) / 16
     higher = ap (λ k. n / 2 ^ k) four ∙ ap (λ k. n / k) (pow-add 2 (4 * now) 4) ∙ sym (div-div-eq-div-mul n (2 ^ (4 * now)) 16)
 
--- ---- Lines one behind the other.
+-- ---- Lines in sequence.
 
 pub lines_next : {A : Type 0} (f : A → List ℕ) (xs : List A) (i : ℕ) (x : A) (text line new whole : List ℕ) → i < length xs → x ≡ get_or xs i x → new ≡ text ++ line → line ≡ f x → text ++ flat_map f (drop i xs) ≡ whole → new ++ flat_map f (drop (i + 1) xs) ≡ whole
 lines_next f xs i x text line new whole lt at more same inv = grind (arith, common_steps)
@@ -71,14 +71,14 @@ separator_encoded x = grind (arith, common_steps)
 pub next_names : (names : List (List ℕ)) (i : ℕ) (name : List ℕ) → i < length names → name ≡ get_or names i name → take i names ++ name ∷ [] ≡ take (i + 1) names
 next_names names i name lt at = sym (rw add-one (take_more names i name _ (drop_item names i name lt at)))
 
--- one name more
+-- one further name
 pub names_more : (names : List (List ℕ)) (i : ℕ) (name separator : List ℕ) → i < length names → name ≡ get_or names i name → separator ≡ separator_after (take i names) → encode_utf8_all (comma_separated (take i names)) ++ (separator ++ encode_utf8_all name) ≡ encode_utf8_all (comma_separated (take (i + 1) names))
 names_more names i name separator lt at is = grind (arith, common_steps, separator_encoded, encoded, listed_push, next_names)
 
 pub next_separator : (names : List (List ℕ)) (name : List ℕ) → codes ", " ≡ separator_after (names ++ name ∷ [])
 next_separator x name = grind (arith, common_steps)
 
--- the same as bytes
+-- the same for the names' bytes
 pub next_listed : (names : List (List ℕ)) (i : ℕ) (name separator : List ℕ) → i < length names → name ≡ get_or names i name → separator ≡ separator_after (take i names) → (comma_separated (take i names) ++ separator) ++ name ≡ comma_separated (take (i + 1) names)
 next_listed names i name separator lt at is = grind (arith, common_steps, append_assoc, listed_push, next_names)
 

@@ -1,4 +1,4 @@
--- Unfinished sections: their fragments, and the first that isn't full.
+-- Lemmas about unfinished sections: their fragments, and the first section that isn't full.
 use Rattle.std.proofs.Common.{◌≡◌, ◌∙◌, ℕ, suc, ◌+◌, ◌-◌, List, [], ◌∷◌, ◌++◌, length, Bool, true, false, not, refl, sym, ap, arith, map, Some, None, ◌==◌, Ok, Err, ◌⊎◌, inl, inr, ◌<◌, ◌≤◌, zero, ◌*◌, ◌%◌, length-append, ◌/◌, take, drop, append_assoc}
 use Rattle.std.proofs.lemmas.Bool.Decides.{nat_tests}
 use Rattle.std.proofs.lemmas.Grind.{common_steps, flat_map-append}
@@ -21,7 +21,7 @@ use Rattle.object65.specs.declared.fault.ObjectFault.TheVariants.{OutOfOrder}
 use Rattle.object65.specs.declared.scan.SectionFill.{SectionFill}
 use Rattle.std.proofs.lemmas.List.{length-drop, take_all, drop_all, take-append-le, drop-append-le}
 
--- ---- The fragments of an unfinished section, with the literal after them; and which neighbours are apart.
+-- ---- The fragments of an unfinished section, with the literal after them, and fragments that can't be merged.
 
 pub turned : (b : Bool) → not b ≡ true → b ≡ false
 turned true e = cc
@@ -37,7 +37,7 @@ all_push P (y ∷ ys) x all p = (all.0, all_push P ys x all.1 p)
 
 -- ---- Neighbours.
 
--- a fragment after these would join the last of them
+-- whether a fragment would merge with the last of these fragments
 abbrev pub last_joins : List Fragment → Fragment → Bool
 last_joins [] f = false
 last_joins (x ∷ []) f = can_merge x f
@@ -58,7 +58,7 @@ last_push [] f g = refl
 last_push (x ∷ []) f g = refl
 last_push (x ∷ y ∷ xs) f g = last_push (y ∷ xs) f g
 
--- a value joins nothing
+-- a value merges with no fragment
 pub value_apart : (xs : List Fragment) (w : Width) (origin : Origin) (form : Form) → last_joins xs (Value w origin form) ≡ false
 value_apart [] w origin form = refl
 value_apart (Literal bytes ∷ []) w origin form = refl
@@ -80,7 +80,7 @@ fill_last (x ∷ y ∷ xs) n =
 pub longer : {A : Type 0} (x : A) (xs : List A) → is_none (x ∷ xs) ≡ false
 longer x xs = grind (arith, nat_tests)
 
--- a literal that isn't empty is a fragment
+-- a nonempty literal is a fragment
 pub closing_is : (bytes : List ℕ) → is_none bytes ≡ false → nonempty_literal bytes ≡ Literal bytes ∷ []
 closing_is x some = grind (arith, common_steps)
 
@@ -116,7 +116,7 @@ is_full d = d.filled == d.size
 pub all_full : (ds : List Draft) → list_all is_filled (map section_fill ds) ≡ list_all is_full ds
 all_full ds = list_all-map is_filled section_fill ds
 
--- full sections, one that isn't, and any others
+-- full sections, one section that isn't full, and any sections
 pub record Split (ds : List Draft) : Type 0 where
   pub front : List Draft
   pub draft : Draft
@@ -154,7 +154,7 @@ draft_set : (xs : List Draft) (d e : Draft) (ys : List Draft) → slice_set (xs 
 draft_set [] d e ys = refl
 draft_set (x ∷ xs) d e ys = ap (λ zs. x ∷ zs) (draft_set xs d e ys)
 
--- one more fragment in that section
+-- adding a fragment to that section
 pub piece_there : (xs : List Draft) (d : Draft) (ys : List Draft) (f : Fragment) → drafts_with_fragment (xs ++ d ∷ ys) (length xs) f ≡ xs ++ draft_with_fragment d f ∷ ys
 piece_there xs d ys f = rw (draft_there xs d ys) (draft_set xs d (draft_with_fragment d f) ys)
 
@@ -168,7 +168,7 @@ front_len (x ∷ xs) d ys full free =
 pub opens : (xs : List Draft) (d : Draft) (ys : List Draft) → list_all is_full xs ≡ true → is_full d ≡ false → next_fill (map section_fill (xs ++ d ∷ ys)) ≡ Ok (length xs, section_fill d)
 opens xs d ys full free = rw (front_len xs d ys full free, room_there xs d ys) refl
 
--- if all are full, there is none
+-- if all sections are full, `next_fill` has the error `OutOfOrder`
 pub none_open : (ds : List Draft) → list_all is_full ds ≡ true → next_fill (map section_fill ds) ≡ Err OutOfOrder
 none_open ds full = rw (past ds full) refl where
   past : (ds : List Draft) → list_all is_full ds ≡ true → slice_get (map section_fill ds) (prefix_len is_filled (map section_fill ds)) ≡ None
@@ -179,7 +179,7 @@ none_open ds full = rw (past ds full) refl where
       let more : 1 + k ≡ suc k = omega arith in
       rw (one, more) (past ds (right (is_full d) (list_all is_full ds) full))
 
--- the section found
+-- the section that `next_fill` returned
 pub record Opened (ds : List Draft) (section : ℕ × SectionFill) : Type 0 where
   pub split : Split ds
   pub here : (length split.front, section_fill split.draft) ≡ section
@@ -192,16 +192,16 @@ opened ds section h = go (seek ds) where
       let same = sym (ap (λ xs. next_fill (map section_fill xs)) p.all ∙ opens p.front p.draft p.following p.full p.free) ∙ h in
       record { split = p; here = cc (same) }
 
--- a fragment doesn't change the name
+-- adding a fragment doesn't change the section's name
 pub grown_name : (d : Draft) (f : Fragment) → (draft_with_fragment d f).name ≡ d.name
 grown_name d x = grind (arith, common_steps)
 
--- ---- The records of a literal, one after another.
+-- ---- The records of a literal, in order.
 
 counted : (n : ℕ) → 0 < n → (n + 4095) / 4096 ≡ suc ((n - 4096 + 4095) / 4096)
 counted n some = omega arith
 
--- the first record, and those of the remaining bytes
+-- the first record of a literal, and the records of the remaining bytes
 pub more_pieces : (bytes : List ℕ) → 0 < length bytes → literal_records bytes ≡ literal_record (take body_limit bytes) ∷ literal_records (drop body_limit bytes)
 more_pieces bytes some =
     let n : (length bytes + 4095) / body_limit ≡ suc ((length (drop body_limit bytes) + 4095) / body_limit) = counted (length bytes) some ∙ ap (λ k. suc ((k + 4095) / 4096)) (sym (length-drop body_limit bytes)) in
@@ -211,14 +211,14 @@ pub one_piece : (bytes : List ℕ) → 0 < length bytes → length bytes ≤ bod
 one_piece bytes some within =
     more_pieces bytes some ∙ (rw (take_all body_limit bytes within, drop_all body_limit bytes within) refl)
 
--- the bytes written so far and the records of the rest are the whole
+-- writing the first record preserves the concatenation of the written bytes and the remaining records
 pub written_piece : (out new old bytes : List ℕ) (whole : List ℕ) → body_limit < length bytes → new ≡ out ++ record_bytes (literal_record (take body_limit bytes)) → out ++ flat_map record_bytes (literal_records bytes) ≡ old ++ whole → new ++ flat_map record_bytes (literal_records (drop body_limit bytes)) ≡ old ++ whole
 written_piece out new old bytes whole long is kept = grind (arith, common_steps, append_assoc, more_pieces)
 
 pub written_last : (out new old bytes : List ℕ) (whole : List ℕ) → 0 < length bytes → length bytes ≤ body_limit → new ≡ out ++ record_bytes (literal_record bytes) → out ++ flat_map record_bytes (literal_records bytes) ≡ old ++ whole → new ≡ old ++ whole
 written_last out new old bytes whole some within is kept = grind (arith, common_steps, one_piece)
 
--- if all its records are full, a literal with one more record has the records of both
+-- if a literal consists of full records, appending at most one record's bytes appends that record
 pieces_grown : (k : ℕ) (bytes body : List ℕ) → length bytes ≡ body_limit * k → 0 < length body → length body ≤ body_limit → literal_records (bytes ++ body) ≡ literal_records bytes ++ literal_record body ∷ []
 pieces_grown zero [] body full some within = one_piece body some within
 pieces_grown zero (b ∷ bytes) body full some within = absurd (omega arith)

@@ -1,5 +1,4 @@
--- Decoded bytes are the encoding of their object, and the encoding of an object is
--- decoded to it.
+-- Decoded bytes are the encoding of their object, and the encoding of an object is decoded to it.
 use Rattle.std.proofs.lemmas.Grind.{common_steps}
 use Rattle.std.proofs.Common.{◌≡◌, ◌∙◌, ℕ, ◌+◌, ◌≤◌, List, [], ◌∷◌, ◌++◌, length, take, drop, map, Bool, true, false, ◌&&◌, not, nat_lt, nat_le, if◌then◌else◌, Result, Ok, Err, refl, sym, ap, subst, arith, ◌-◌, get_or, append_assoc, length-append}
 use Rattle.std.proofs.lemmas.Bool.Decides.{nat_tests}
@@ -94,7 +93,7 @@ asserts_good n i (x ∷ xs) good small =
     (right (is_well_formed_form n i x.form) (not (is_literal x.form)) open_one))
     (asserts_good n i xs (right (goods x) (list_all goods xs) good) (right (smalls x) (list_all smalls xs) small))
 
--- ---- The object after an END.
+-- ---- The object after an END record.
 
 pub finished_entries : (t : State) (es : List RawRecord) → GoodState t → Reached t es → t.ended ≡ true → object_records (object_from t) ≡ es
 finished_entries t es good r ended = grind (arith, common_steps, rows, headings, contents, end_entries)
@@ -184,17 +183,17 @@ read_is_object bytes at limit o is e =
           head.2 ∙ ap (λ v. object_head v ++ drop 5 (bytes_between bytes at limit)) version ∙ ap (λ xs. object_head r.0.0.version ++ xs) (sym on ∙ t.1.spelled ∙ ap (λ xs. flat_map record_bytes t.0 ++ xs) none ∙ nil (flat_map record_bytes t.0) ∙ ap (flat_map record_bytes) (sym (finished_entries r.0.0 t.0 steps.0 steps.1 t.1.ended)));
     })
 
--- ---- The encoding of an object is decoded to that object, and to no other.
+-- ---- The encoding of an object is decoded to that object only.
 
 head_again : (v at : ℕ) (xs : List ℕ) → is_version v ≡ true → head_of at (take 5 (object_head v ++ xs)) ≡ Ok (v, at + 5)
 head_again v at xs known = rw known refl
 
--- each record has at least one byte
+-- each record is at least one byte long
 entries_fit : (es : List RawRecord) → length es ≤ length (flat_map record_bytes es)
 entries_fit [] = omega arith
 entries_fit (e ∷ es) = omega (arith, length-append (record_bytes e) (flat_map record_bytes es), entries_fit es)
 
--- the object is read up to the END, whatever follows it
+-- the object is read up to the END record, and `rest` is what remains
 pub record ReadsTo (bytes : List ℕ) (at limit : ℕ) (o : Object) (rest : List ℕ) : Type 0 where
   pub head : head_at at limit bytes ≡ Ok (o.version, at + 5)
   pub state : State
@@ -234,7 +233,7 @@ object_is_read bytes at limit o within is =
 
 -- ---- No encoding is a proper prefix of another.
 
--- a record and the bytes after it are determined
+-- if the bytes are equal, so are the first records and the rests
 entry_same : (e f : RawRecord) (r s : List ℕ) → length e.body ≤ body_limit → length f.body ≤ body_limit → record_bytes e ++ r ≡ record_bytes f ++ s → (e ≡ f) × (r ≡ s)
 entry_same e f r s short_e short_f same =
     let kind : e.kind ≡ f.kind = cc in
@@ -248,7 +247,7 @@ entry_same e f r s short_e short_f same =
     let rest : r ≡ s = sym (drop_at e.body r (length e.body) refl) ∙ ap (drop (length e.body)) bodies ∙ drop_at f.body s (length e.body) (sym len) in
     ((λ i. record { kind = kind i; body = body i }), rest)
 
--- records up to an END and the bytes after them are determined
+-- if the bytes are equal, so are the records up to an END record and the rests
 same_trail : (v w : ℕ) (es fs : List RawRecord) (s t u : State) (more : List ℕ) → AllByRecursion (IsShortEntry v) es → AllByRecursion (IsShortEntry w) fs → state_after_records s es ≡ Ok t → state_after_records s fs ≡ Ok u → t.ended ≡ true → u.ended ≡ true → flat_map record_bytes es ++ more ≡ flat_map record_bytes fs → (more ≡ []) × (t ≡ u)
 same_trail v w [] [] s t u more short_e short_f h k over_t over_u same = (same, cc)
 same_trail v w [] (f ∷ fs) s t u more short_e short_f h k over_t over_u same =

@@ -122,7 +122,7 @@ counted_reads bytes x is e =
 
 -- ---- Decoded forms.
 
--- the bytes are the form, followed by the rest
+-- the bytes are the encoding of the form, followed by the rest
 pub record ReadsForm (bytes : List ℕ) (x : Form × List ℕ) : Type 0 where
   pub spelled : bytes ≡ form_bytes x.0 ++ x.1
   pub fits : FitsBits x.0
@@ -278,7 +278,7 @@ width_spelled code w e = grind (arith, common_steps)
 action_spelled : (code : ℕ) (a : Action) → Bodies.action_of code ≡ Ok a → code ≡ action_code a
 action_spelled code a e = grind (arith, common_steps)
 
--- the bytes are the origin, followed by the rest
+-- the bytes are the encoding of the origin, followed by the rest
 record ReadsOrigin (bytes : List ℕ) (x : Origin × List ℕ) : Type 0 where
   pub spelled : bytes ≡ origin_bytes x.0 ++ x.1
   pub fits : OriginFits x.0
@@ -320,7 +320,7 @@ file_line_by : (v : ℕ) (bytes : List ℕ) (x : Origin × List ℕ) → (v == 1
 unfolding Bodies.file_line_at
 file_line_by v bytes x two e = grind (arith, common_steps)
 
--- a decoded origin has a file exactly if its version has files
+-- a decoded origin has a file if and only if its version has files
 origin_by : (v : ℕ) (bytes : List ℕ) (x : Origin × List ℕ) → Bodies.origin_at v bytes ≡ Ok x → has_file_by v x.0.file ≡ true
 origin_by v bytes x e = grind (arith, common_steps, line_by, file_line_by)
 
@@ -474,7 +474,7 @@ form_again (binary op f g) (suc depth) rest fits normal deep =
     ∙ ap (λ r. r >>= (λ x. Bodies.form_at depth x.1 >>= (λ y. Ok (binary op x.0 y.0, y.1)))) one
     ∙ ap (λ r. r >>= (λ y. Ok (binary op f y.0, y.1))) two
 
--- each node has a byte of its own
+-- a form is at least as many bytes long as it has nodes
 nodes_fit : (f : Form) → is_normal f ≡ true → nodes f ≤ length (form_bytes f)
 nodes_fit (lit v) normal = omega arith
 nodes_fit (sec k a) normal = omega arith

@@ -1,4 +1,4 @@
--- Folding keeps values, and its results are normal.
+-- Folding preserves values, and its results are normal.
 use Rattle.std.proofs.lemmas.Grind.{common_steps}
 use Rattle.std.proofs.Common.{◌≡◌, ◌∙◌, ℕ, ◌≤◌, ℤ, ◌+ℤ◌, ◌-ℤ◌, refl, sym, ap, arith, Result, Ok, Option, Bool, true, false, ◌&&◌, ◌||◌, not, nat_eq, nat_le, cond}
 use Rattle.std.proofs.lemmas.Bool.Decides.{nat_tests}

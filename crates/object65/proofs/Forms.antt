@@ -1,4 +1,4 @@
--- The lengths of forms.
+-- The lengths of encoded forms.
 use Rattle.std.proofs.lemmas.Grind.{common_steps}
 use Rattle.std.proofs.Common.{◌≡◌, ◌≤◌, ◌<◌, ℕ, zero, suc, [], ◌∷◌, ◌-◌, take, drop, get_or, ◌+◌, ◌*◌, ◌++◌, List, length, Bool, true, false, ◌&&◌, arith, ap, refl, length-append, Option}
 use Rattle.std.proofs.lemmas.Bool.Decides.{nat_tests}
@@ -46,11 +46,11 @@ small_export e small = let p = both (is_small_text e.name) (is_small_form e.form
 pub small_assert : (a : Assert) → is_small_assert a ≡ true → (length a.text < 256) × (length (form_bytes a.form) ≤ 3315)
 small_assert a small = let p = both (is_small_text a.text) (is_small_form a.form) small in (small_text a.text p.0, small_form a.form p.1)
 
--- the length of a list to which a piece was appended
+-- the length of a list after appending
 pub added_len : (old piece new : List ℕ) → new ≡ old ++ piece → length new ≡ length old + length piece
 added_len old piece new is = omega (arith, ap length is, length-append old piece)
 
--- a form begins with its code
+-- decoding a form begins with its code
 pub form_steps : (depth : ℕ) (bytes front rest : List ℕ) → (depth ≡ 0 → ⊥) → 0 < length bytes → front ≡ take 1 bytes → rest ≡ drop 1 bytes → form_at depth bytes ≡ form_of_code (λ xs. form_at (depth - 1) xs) (get_or front 0 0) rest
 form_steps zero bytes front rest deep some f r = absurd (deep refl)
 form_steps (suc depth) [] front rest deep some f r = absurd (omega arith)

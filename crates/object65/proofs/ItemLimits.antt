@@ -36,7 +36,7 @@ after_last s t u (x ∷ es) e h k =
     let v = bound (Scanning.state_after_record s x) _ _ h in
     ap (λ r. r >>= (λ w. Scanning.state_after_records w (es ++ e ∷ []))) v.1 ∙ after_last v.0 t u es e v.2 k
 
--- a state that a record leads to is reached
+-- a state after a record of a reached state is reached
 pub reached_next : (s t : Scanning.State) (e : RawRecord) → Scanning.IsReached s → Scanning.state_after_record s e ≡ Ok t → Scanning.IsReached t
 reached_next s t e r h =
     let same = version_kept s t e h in
@@ -71,13 +71,13 @@ sized_sections n i (x ∷ xs) e =
 pub good_sized : (o : Object) → is_well_formed_object o ≡ true → AllByRecursion (λ s. section_len s ≤ section_limit) o.sections
 good_sized o e = sized_sections (length o.sections) (length o.imports) o.sections (parts o e).sections
 
--- a property of the only possible result holds for the result
+-- a property of the only possible success is a property of the result
 pub if_given : {X : Type 0} (result : Result X ObjectFault) (x : X) (P : X → Type 0) → Refines is_memory (λ y. y) result (Ok x) → P x → IfOk result P
 if_given y x z given p = grind (arith, common_steps)
 
 -- ---- The result of a call.
 
--- the outline of a state after a record
+-- the state and the outline after a record
 pub led : (s : State) (o : Scanning.Outline) (e : RawRecord) (x : Scanning.Outline × Item) → o ≡ Scanning.outline_of s → Scanning.scan_step o e ≡ Ok x → (state_after_record s e ≡ Ok (with_item s x.1)) × (x.0 ≡ Scanning.outline_of (with_item s x.1)) × IsPlaced s.drafts x.1
 unfolding state_after_record
 led s o e x same h =
@@ -85,7 +85,7 @@ led s o e x same h =
     let l : Leads s (e.kind == 8) (Ok x) = subst (Leads s (e.kind == 8)) here (leads s e) in
     (ap (λ r. r >>= (λ y. Ok (with_item s y.1))) here, l.0, l.1)
 
--- an object is ended exactly if the last record is an END
+-- an object is ended if and only if the last record is an END record
 pub ended_by : (s t : State) (e : RawRecord) → state_after_record s e ≡ Ok t → t.ended ≡ (e.kind == 8)
 unfolding state_after_record
 ended_by s t e h =
@@ -103,7 +103,7 @@ ended_by s t e h =
     ends s (item.Export name origin form) going = going
     ends s (item.Assert action origin text form) going = going
 
--- no record has an error of a store
+-- no record has a store error
 pub after_free : (s : State) (e : RawRecord) → state_after_record s e ≡ Err FileError → ⊥
 unfolding state_after_record
 after_free s e = grind (arith, common_steps, leads)
@@ -133,7 +133,7 @@ more_filled d x = grind (arith, common_steps)
 same_size : (d : Draft) (f : Fragment) → (draft_with_fragment d f).size ≡ d.size
 same_size d x = grind (arith, common_steps)
 
--- the section that a fragment was added to
+-- the limits of the section that a fragment was added to
 piece_good : (s : State) (k offset : ℕ) (f : Fragment) (d : Draft) → slice_get s.drafts k ≡ Some d → GoodState (with_item s (item.Part k offset f)) → (d.filled + fragment_len f ≤ d.size) × (d.size ≤ section_limit)
 piece_good s k offset f d there good =
     let n = length (drafts_with_fragment s.drafts k f) in

@@ -1,4 +1,4 @@
--- The conditions of records never have an error of a store.
+-- Decoding and checking records never results in a store error.
 use Rattle.std.proofs.lemmas.Grind.{common_steps}
 use Rattle.std.proofs.Common.{arith, ◌≡◌, ℕ, zero, suc, ◌-◌, List, [], ◌∷◌, length, Bool, true, false, cond, not, ◌&&◌, ◌||◌, ◌==◌, nat_le, Option, Result, Ok, Err}
 use Rattle.std.specs.Str.{is_utf8}

@@ -1,5 +1,4 @@
--- Numbers of several bytes, the low one first: no other bytes of the same length encode the same
--- number.
+-- Little-endian numbers: no other bytes of the same length encode the same number.
 use Rattle.std.proofs.lemmas.Grind.{common_steps}
 use Rattle.std.proofs.Common.{◌≡◌, ◌∙◌, ℕ, zero, suc, ◌+◌, ◌*◌, ◌<◌, ◌≤◌, ◌^◌, List, [], ◌∷◌, ◌++◌, length, take, drop, refl, sym, ap, arith}
 use Rattle.std.proofs.Math.Nat.{mod-lt}
@@ -12,7 +11,7 @@ use Rattle.object65.specs.Record.{IsBytes}
 pub bytes_drop : (n : ℕ) (xs : List ℕ) → IsBytes xs → IsBytes (drop n xs)
 bytes_drop n xs is i = rw (get_or-drop n xs i 0) (is (n + i))
 
--- the first n items are bytes, too
+-- the first `n` items of a list of bytes are bytes
 pub bytes_take : (n : ℕ) (xs : List ℕ) → IsBytes xs → IsBytes (take n xs)
 bytes_take zero xs is i = omega arith
 bytes_take (suc n) [] is i = omega arith
@@ -26,7 +25,7 @@ bytes_of zero (suc n) x zero = mod-lt x (omega arith)
 bytes_of (suc i) (suc n) x zero = mod-lt _ (omega arith)
 bytes_of i (suc n) x (suc k) = bytes_of (suc i) n x k
 
--- no other bytes of that length encode the number
+-- a number has only one encoding of each length
 pub one_number : (n : ℕ) (a b : List ℕ) → IsBytes a → IsBytes b → length a ≡ n → length b ≡ n → little_number n a ≡ little_number n b → a ≡ b
 one_number zero [] [] is_a is_b la lb e = refl
 one_number zero [] (y ∷ b) is_a is_b la lb e = absurd (omega arith)
@@ -42,7 +41,7 @@ one_number (suc n) (x ∷ a) (y ∷ b) is_a is_b la lb e =
     let others = one_number n a b (λ i. is_a (suc i)) (λ i. is_b (suc i)) (omega arith) (omega arith) rest in
     λ i. first i ∷ others i
 
--- the bytes at the front are those of their number
+-- the first `n` bytes are the encoding of their number
 pub front : (n : ℕ) (xs : List ℕ) → IsBytes xs → n ≤ length xs → little_bytes n (little_number n xs) ≡ take n xs
 front n xs is long =
     let number : little_number n (little_bytes n (little_number n xs)) ≡ little_number n xs = ap (little_number n) (sym (nil (little_bytes n (little_number n xs)))) ∙ little_number-reads_back n (little_number n xs) [] (little_from-lt 0 n xs is) in
@@ -52,7 +51,7 @@ front n xs is long =
     nil [] = refl
     nil (x ∷ xs) = ap (λ ys. x ∷ ys) (nil xs)
 
--- a number is read back from its bytes
+-- decoding an encoded number
 pub back : (n x : ℕ) (rest : List ℕ) → x < 256 ^ n → little_number n (little_bytes n x ++ rest) ≡ x
 back n x rest fits = little_number-reads_back n x rest fits
 

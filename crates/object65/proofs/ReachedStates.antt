@@ -34,15 +34,15 @@ use Rattle.object65.proofs.Numbers.{front}
 use Rattle.object65.proofs.RecordSequences.{bound, passes, IsReadEntry}
 use Rattle.object65.proofs.Scannings.{fill_is, short_is, wanted, whole}
 
--- the record that began a section
+-- the record with which a section began
 abbrev pub heading_entry : Draft → RawRecord
 heading_entry d = record { kind = 2; body = little_bytes 4 d.size ++ d.align ∷ d.name }
 
--- those that filled it
+-- the records that filled the section
 abbrev pub content_entries : Draft → List RawRecord
 content_entries d = flat_map fragment_records d.fragments ++ literal_records d.literal
 
--- a section of an object with this many sections and imports
+-- the invariant of a section of an object with `n` sections and `i` imports
 pub record GoodDraft (n i : ℕ) (d : Draft) : Type 0 where
   pub align : nat_le d.align 15 ≡ true
   pub size : d.size ≤ section_limit
@@ -50,7 +50,7 @@ pub record GoodDraft (n i : ℕ) (d : Draft) : Type 0 where
   pub within : d.filled ≤ d.size
   pub well_formed : list_all (is_well_formed_fragment n i) d.fragments ≡ true
   pub apart : are_all_merged d.fragments ≡ true
-  -- the unfinished literal doesn't join the fragment before it
+  -- the unfinished literal can't be merged with the fragment before it
   pub bare : (bytes : List ℕ) → last_joins d.fragments (Literal bytes) ≡ false
 
 pub record IsEmptyDraft (d : Draft) : Type 0 where
@@ -65,11 +65,11 @@ Filling (d ∷ ds) = (is_full d ≡ false → AllByRecursion IsEmptyDraft ds) ×
 abbrev pub is_open_form : ℕ → ℕ → Form → Bool
 is_open_form n i f = is_well_formed_form n i f && not (is_literal f)
 
--- the origins of its values are well-formed
+-- the origins of a section's values are well-formed
 abbrev pub has_good_values : ℕ → ℕ → Draft → Bool
 has_good_values v m d = list_all (has_well_formed_origin v m) d.fragments
 
--- the properties of a state that any records lead to
+-- the invariant of all reached states
 pub record GoodState (s : State) : Type 0 where
   pub version : is_version s.version ≡ true
   pub files : are_files_of s.version s.files ≡ true
@@ -82,7 +82,7 @@ pub record GoodState (s : State) : Type 0 where
   pub drafts : AllByRecursion (GoodDraft (length s.drafts) (length s.imports)) s.drafts
   pub search_start : Filling s.drafts
   pub has_fragment : s.has_fragment ≡ false → AllByRecursion IsEmptyDraft s.drafts
-  -- the parts after the fragments
+  -- exports and assertions follow the fragments
   pub exported : is_none s.exports ≡ false → list_all is_full s.drafts ≡ true
   pub asserted : is_none s.asserts ≡ false → list_all is_full s.drafts ≡ true
   pub full : s.ended ≡ true → list_all is_full s.drafts ≡ true
@@ -99,7 +99,7 @@ FitExport e = OriginFits e.origin × FitsBits e.form
 abbrev pub FitAssert : Assert → Type 0
 FitAssert a = OriginFits a.origin × FitsBits a.form
 
--- six lists of records, one after another
+-- six lists of records, concatenated
 abbrev pub rows : (a b c d f g : List RawRecord) → List RawRecord
 rows a b c d f g = ((((a ++ b) ++ c) ++ d) ++ f) ++ g
 
@@ -110,7 +110,7 @@ end_entries ended = if ended then end_record ∷ [] else []
 abbrev pub entries_so_far : State → List RawRecord
 entries_so_far s = rows (map import_record s.imports) (map heading_entry s.drafts) (flat_map content_entries s.drafts) (map export_record s.exports) (map assert_record s.asserts) (end_entries s.ended)
 
--- these records lead to the state
+-- these records lead to the state, and its parts fit into records
 pub record Reached (s : State) (es : List RawRecord) : Type 0 where
   pub entries : es ≡ map file_record s.files ++ entries_so_far s
   pub files : AllByRecursion (λ name. is_utf8 name ≡ true) s.files
@@ -119,7 +119,7 @@ pub record Reached (s : State) (es : List RawRecord) : Type 0 where
   pub asserts : AllByRecursion FitAssert s.asserts
   pub texts : list_all (λ a. is_small_text a.text) s.asserts ≡ true
 
--- ---- Small things.
+-- ---- Auxiliary lemmas.
 
 -- if the mapped list is empty, so is the list
 pub none_of : {A B : Type 0} (f : A → B) (xs : List A) → is_none (map f xs) ≡ true → xs ≡ []
@@ -140,7 +140,7 @@ pub empties_fill : (ds : List Draft) → AllByRecursion IsEmptyDraft ds → Fill
 empties_fill [] all = tt
 empties_fill (d ∷ ds) all = (λ h. all.1, empties_fill ds all.1)
 
--- an empty section is good in any object
+-- an empty section satisfies the invariant in any object
 pub empties_good : (n i m j : ℕ) (ds : List Draft) → AllByRecursion (GoodDraft n i) ds → AllByRecursion IsEmptyDraft ds → AllByRecursion (GoodDraft m j) ds
 empties_good n i m j [] good all = tt
 empties_good n i m j (d ∷ ds) good all = (
@@ -160,9 +160,9 @@ pub empties_fit : (ds : List Draft) → AllByRecursion IsEmptyDraft ds → AllBy
 empties_fit [] all = tt
 empties_fit (d ∷ ds) all = (subst (AllByRecursion FragmentFits) (sym all.0.fragments) tt, empties_fit ds all.1)
 
--- ---- A SECTION.
+-- ---- A SECTION record.
 
--- a new valid name can be added to valid names
+-- appending a new valid name to distinct valid names
 pub distinct_push : (p : List ℕ → Bool) (names : List (List ℕ)) (name : List ℕ) → are_distinct p names ≡ true → p name ≡ true → is_among names name ≡ false → are_distinct p (names ++ name ∷ []) ≡ true
 distinct_push p [] name good fine new = rw fine refl
 distinct_push p (x ∷ xs) name good fine new =
@@ -198,13 +198,13 @@ five x is long = grind (arith, common_steps)
 pub heading_read : (body : List ℕ) (h : SectionHeader) → section_of body ≡ Ok h → ReadsHeading body h
 heading_read body h e = grind (arith, common_steps)
 
--- its encoding is the body
+-- the encoding of the section is the body
 pub heading_spelled : (body : List ℕ) (h : SectionHeader) → IsBytes body → ReadsHeading body h → little_bytes 4 h.size ++ h.align ∷ h.name ≡ body
 heading_spelled body h is reads = ap (λ (x : SectionHeader). little_bytes 4 x.size ++ x.align ∷ x.name) reads.fresh ∙ five body is reads.long
 
 -- ---- A fragment in its section.
 
--- the effect of a fragment's record on the section that it is added to
+-- the effect of a fragment's record on its section
 pub record Grows (n i : ℕ) (e : RawRecord) (d x : Draft) : Type 0 where
   pub well_formed : GoodDraft n i x
   pub name : x.name ≡ d.name
@@ -312,7 +312,7 @@ value_placed v m n i body r y h =
 values_grown : (v m : ℕ) (d : Draft) (f : Fragment) → has_good_values v m d ≡ true → has_well_formed_origin v m f ≡ true → has_good_values v m (draft_with_fragment d f) ≡ true
 values_grown v m d x good fine = grind (arith, common_steps)
 
--- with one more fragment in one of the sections
+-- a section with one further fragment
 pub values_with_piece : (v m : ℕ) (f : Fragment) → has_well_formed_origin v m f ≡ true → (ds : List Draft) (k : ℕ) → list_all (has_good_values v m) ds ≡ true → list_all (has_good_values v m) (drafts_with_fragment ds k f) ≡ true
 values_with_piece v m f fine ds k good = go (slice_get ds k) refl where
   there : (ds : List Draft) (k : ℕ) (d : Draft) → slice_get ds k ≡ Some d → list_all (λ x. has_good_values v m x) ds ≡ true → list_all (λ x. has_good_values v m x) (slice_set ds k (draft_with_fragment d f)) ≡ true
@@ -334,7 +334,7 @@ values_with_piece v m f fine ds k good = go (slice_get ds k) refl where
 
 -- ---- A fragment among the sections.
 
--- the effect on the sections
+-- the effect of a fragment's record on the list of sections
 pub record Goes (n i : ℕ) (e : RawRecord) (ds es : List Draft) : Type 0 where
   pub headings : map heading_entry es ≡ map heading_entry ds
   pub names : map (λ d. d.name) es ≡ map (λ d. d.name) ds
@@ -350,7 +350,7 @@ past n i e d ds es good full rest = grind (arith, common_steps)
 here : (n i : ℕ) (e : RawRecord) (d x : Draft) (ds : List Draft) → AllByRecursion (GoodDraft n i) ds → AllByRecursion IsEmptyDraft ds → Grows n i e d x → Goes n i e (d ∷ ds) (x ∷ ds)
 here n i e d x ds goods empties grows = grind (arith, common_steps, empties_none, nil, empties_fill)
 
--- with one more fragment in the first section that isn't full
+-- adding a fragment to the first section that isn't full
 goes : (n i : ℕ) (e : RawRecord) (front : List Draft) (d x : Draft) (following : List Draft) → list_all is_full front ≡ true → is_full d ≡ false → AllByRecursion (GoodDraft n i) (front ++ d ∷ following) → Filling (front ++ d ∷ following) → (GoodDraft n i d → Grows n i e d x) → Goes n i e (front ++ d ∷ following) (front ++ x ∷ following)
 goes n i e [] d x following full free goods filling grows = here n i e d x following goods.1 (filling.0 free) (grows goods.0)
 goes n i e (y ∷ front) d x following full free goods filling grows =

@@ -1,4 +1,4 @@
--- Records between an offset and a limit, one after another up to the END.
+-- Records between an offset and a limit, in order up to the END record.
 use Rattle.std.proofs.lemmas.Grind.{common_steps}
 use Rattle.std.proofs.Common.{◌≡◌, ◌∙◌, ℕ, zero, suc, ◌+◌, ◌-◌, ◌≤◌, List, [], ◌∷◌, ◌++◌, length, take, drop, Bool, true, false, cond, not, nat_lt, Result, Ok, Err, refl, sym, ap, arith, ◌<◌, get_or, if◌then◌else◌, append_assoc, length-append, ◌⊎◌, inl, inr, subst}
 use Rattle.std.proofs.lemmas.List.{take-append-drop, drop-drop, length-take, drop_at}
@@ -89,12 +89,12 @@ front_again v kind n ys known short = grind (arith, common_steps)
 whole_again : (body rest : List ℕ) → body_or_cut_short (length body) (take (length body) (body ++ rest)) ≡ Ok body
 whole_again body rest = grind (arith, common_steps)
 
--- a record at an offset is read, and the bytes after it are left
+-- an encoded record at an offset is read, and the rest remains
 pub record_again : (v : ℕ) (bytes : List ℕ) (at limit : ℕ) (e : RawRecord) (rest : List ℕ) → bytes_between bytes at limit ≡ record_bytes e ++ rest → is_record_kind v e.kind ≡ true → length e.body ≤ body_limit → at + 3 + length e.body ≤ file_limit → (record_at v at limit bytes ≡ Ok (e, at + 3 + length e.body)) × (bytes_between bytes (at + 3 + length e.body) limit ≡ rest)
 unfolding record_at
 record_again v bytes at limit e rest is known short within = grind (arith, common_steps, front_again, room_on, whole_again, nat_tests, drop_at)
 
--- ---- The list of records, one after another up to the END.
+-- ---- The records in order up to the END record.
 
 -- a record that was read
 pub record IsReadEntry (e : RawRecord) : Type 0 where
@@ -145,7 +145,7 @@ last_one bytes limit at end s t u x one read h over t_is end_is = grind (arith, 
 one_more : (bytes : List ℕ) (limit at end : ℕ) (s t u : State) (x : RawRecord × ℕ) (es : List RawRecord) → IsReadEntry x.0 → TakesRecord bytes at limit x → state_after_record s x.0 ≡ Ok u → Trail bytes limit x.1 end u t es → Trail bytes limit at end s t (x.0 ∷ es)
 one_more bytes limit at end s t u x es one read h rest = grind (arith, common_steps)
 
--- the records read up to the END are in the bytes
+-- records that were read up to the END record are a prefix of the bytes
 pub trail : (left : ℕ) (bytes : List ℕ) (limit at : ℕ) (s t : State) (end : ℕ) → IsBytes (bytes_between bytes at limit) → records_at left s at limit bytes ≡ Ok (t, end) → (es : List RawRecord) × Trail bytes limit at end s t es
 trail zero bytes limit at s t end is e = cc
 trail (suc left) bytes limit at s t end is e =
@@ -163,7 +163,7 @@ trail (suc left) bytes limit at s t end is e =
           (r.0.0 ∷ rest.0, one_more bytes limit at end s t u.0 r.0 rest.0 one read u.1 rest.1)
     ]
 
--- no record is accepted after an END
+-- a record is accepted only before an END record
 pub going : (o : Outline) (e : RawRecord) (x : Outline × Item) → scan_step o e ≡ Ok x → o.ended ≡ false
 unfolding scan_step
 going o e x h = let a = passes o.failed FailedBefore _ _ h in (passes o.ended OutOfOrder _ _ a.1).0
@@ -181,7 +181,7 @@ pub versions_kept : (es : List RawRecord) (s t : State) → state_after_records 
 versions_kept [] s t h = let here : s ≡ t = cc in ap (λ (u : State). u.version) (sym here)
 versions_kept (e ∷ es) s t h = let u = bound (state_after_record s e) _ _ h in versions_kept es u.0 t u.2 ∙ version_kept s u.0 e u.1
 
--- records that are accepted one after another, and are in the bytes, are read
+-- accepted records whose encoding is a prefix of the bytes are read
 pub trail_again : (v : ℕ) (es : List RawRecord) (left : ℕ) (bytes : List ℕ) (limit at : ℕ) (s t : State) (rest : List ℕ) → s.version ≡ v → length es ≤ left → state_after_records s es ≡ Ok t → s.ended ≡ false → t.ended ≡ true → bytes_between bytes at limit ≡ flat_map record_bytes es ++ rest → AllByRecursion (λ e. (is_record_kind v e.kind ≡ true) × (length e.body ≤ body_limit)) es → at + length (flat_map record_bytes es) ≤ file_limit → (end : ℕ) × (records_at left s at limit bytes ≡ Ok (t, end)) × (bytes_between bytes end limit ≡ rest)
 trail_again v [] left bytes limit at s t rest same_version long taken running ended spelled each within =
     let same : s ≡ t = cc in

@@ -1,4 +1,4 @@
--- Records that are read one after another, also from bytes that were read ahead.
+-- Records that are read in order, also from a buffer.
 use Rattle.std.proofs.lemmas.Grind.{common_steps}
 use Rattle.std.proofs.Common.{◌≡◌, ◌∙◌, ◌<◌, ◌≤◌, ℕ, zero, suc, ◌+◌, ◌-◌, List, [], length, take, Bool, true, false, if◌then◌else◌, Option, Some, None, Result, Ok, Err, refl, sym, ap, arith, ◌∷◌, ◌++◌, drop, nat_le, nat_lt}
 use Rattle.std.specs.Prelude.{IfSome, min}
@@ -18,17 +18,17 @@ use Rattle.std.proofs.lemmas.Bool.Decides.{nat_tests}
 use Rattle.std.specs.FinMap.{get}
 use borrow.Author.Tests.{ltb-false}
 
--- ---- Records that are read one after another.
+-- ---- Records that are read in order.
 
 pub cut : (v at limit : ℕ) (bytes : List ℕ) → length bytes ≤ at → record_at v at limit bytes ≡ Err CutShort
 unfolding record_at
 cut v at limit bytes past = grind (arith, common_steps)
 
--- a record that was read, as the borrower of the reader sees it
+-- the record as the borrower of the reader sees it
 pub seen : (known : Option Files) (read : Files → Result (RawRecord × ℕ) ObjectFault) (shown of_reader : RawRecord) (next : ℕ) → shown ≡ of_reader → IfSome known (λ m. read m ≡ Ok (of_reader, next)) → IfSome known (λ m. read m ≡ Ok (shown, next))
 seen known read shown of_reader next same h = rw same h
 
--- reading on from here has the same result as from the beginning
+-- reading from `next` on has the same result as reading from the beginning
 pub record Goes (v : ℕ) (bytes : List ℕ) (limit at next : ℕ) (s : State) : Type 0 where
   pub version : s.version ≡ v
   pub left : ℕ
@@ -46,11 +46,11 @@ pub one : (left : ℕ) (s : State) (next limit : ℕ) (bytes : List ℕ) (r : Ra
 one zero s next limit bytes r enough e = cc (cut s.version next limit bytes (omega arith))
 one (suc left) s next limit bytes r enough e = (left, refl, rw e refl)
 
--- reading by the version is reading by the state's version
+-- the state has the version
 by_state : (v : ℕ) (s : State) (next limit : ℕ) (bytes : List ℕ) (r : Result (RawRecord × ℕ) ObjectFault) → s.version ≡ v → record_at v next limit bytes ≡ r → record_at s.version next limit bytes ≡ r
 by_state v s next limit bytes r same e = ap (λ k. record_at k next limit bytes) same ∙ e
 
--- the four ways to continue
+-- the four cases: a read error, a rejected record, an END record, any other record
 pub stops_reading : (v : ℕ) (bytes : List ℕ) (limit at next : ℕ) (s : State) (f : ObjectFault) → Goes v bytes limit at next s → record_at v next limit bytes ≡ Err f → records_at (length bytes) (start v) at limit bytes ≡ Err f
 stops_reading v bytes limit at next s f goes e = sym goes.same ∙ unread goes.left s next limit bytes f goes.enough (by_state v s next limit bytes _ goes.version e)
 
@@ -67,7 +67,7 @@ ends v bytes limit at next s t r goes e h ended =
 pub goes_on : (v : ℕ) (bytes : List ℕ) (limit at next : ℕ) (s t : State) (r : RawRecord × ℕ) → Goes v bytes limit at next s → record_at v next limit bytes ≡ Ok r → next < r.1 → state_after_record s r.0 ≡ Ok t → t.ended ≡ false → Goes v bytes limit at r.1 t
 goes_on v bytes limit at next s t r goes e later h ended = grind (arith, common_steps, one, by_state, version_kept)
 
--- likewise if the files may be unknown, and the file may not exist
+-- the same for a file that may not exist, if the files are known
 abbrev pub GoesIn : ℕ → Option Files → List ℕ → ℕ → ℕ → ℕ → State → Type 0
 GoesIn v known name limit at next s = IfSome known (λ m. IfSome (map.get m name) (λ bytes. Goes v bytes limit at next s))
 
@@ -79,8 +79,7 @@ unless : (b : Bool) {P Q : Type 0} → (P → Q) → Unless b P → Unless b Q
 unless true h p = tt
 unless false h p = h p
 
--- an error with the exception of *out of memory* is one with the exception of all
--- system errors
+-- `RefinesErr` with the exception of *out of memory* implies `RefinesErr` with the exception of all system errors
 pub memory_outside : {A : Type 0} (e : ObjectFault) (r : Result A ObjectFault) → RefinesErr is_memory e r → RefinesErr is_system_error e r
 memory_outside x r h = grind (arith, common_steps)
 
@@ -88,11 +87,11 @@ memory_outside x r h = grind (arith, common_steps)
 pub kept_count : {T : Type 0} (old now : ℕ) (x : T) → PropagatesIoError {E = ObjectFault} FileError old now (Ok x) → now ≡ old
 kept_count old now x passes = grind (arith, common_steps)
 
--- another error reports no failure of the store
+-- any other error reports no store failure
 pub none_passed : {T : Type 0} (old now : ℕ) (e : ObjectFault) → now ≡ old → (e ≡ FileError → ⊥) → PropagatesIoError {T = T} FileError old now (Err e)
 none_passed old now e same other = grind (arith, common_steps)
 
--- adding a record has no error of the store
+-- adding a record has no store error
 pub not_stored : (s : State) (x : RawRecord) (e : ObjectFault) → RefinesErr is_memory e (state_after_record s x) → e ≡ FileError → ⊥
 not_stored s x e refused is = after_free s x (rw is at refused)
 
@@ -120,7 +119,7 @@ module _ (v limit at next : ℕ) where
   pub goes_on_in : (known now : Option Files) (name : List ℕ) (s t : State) (r : RawRecord × ℕ) → now ≡ known → GoesIn v known name limit at next s → IfSome now (λ m. in_file (map.get m name) (record_at v next limit) ≡ Ok r) → next < r.1 → state_after_record s r.0 ≡ Ok t → t.ended ≡ false → GoesIn v known name limit at r.1 t
   goes_on_in x now name s t r same goes read later taken ended = grind (arith, common_steps, goes_on)
 
--- an error after the END is one of the whole
+-- an error after the END record is an error of reading the object
 after_refused : (bytes : List ℕ) (at limit : ℕ) (first : ℕ × ℕ) (s : State) (end : ℕ) (e : ObjectFault) → head_at at limit bytes ≡ Ok first → records_at (length bytes) (start first.0) first.1 limit bytes ≡ Ok (s, end) → RefinesErr is_system_error e (end_at end limit bytes) → RefinesErr is_system_error e (object_at at limit bytes)
 unfolding object_at
 after_refused bytes at limit first s end e head records refused = grind (arith, common_steps)
@@ -132,7 +131,7 @@ end_refused (Some m) a b name at limit first s end e same_a same_b head records 
   file None head records refused = cc
   file (Some bytes) head records refused = after_refused bytes at limit first s end e head records refused
 
--- so is one of the head, or of a record up to the END
+-- so is an error of the head, or of a record up to the END record
 head_stops : (f : Option (List ℕ)) (at limit : ℕ) (e : ObjectFault) → RefinesErr is_system_error e (in_file f (head_at at limit)) → RefinesErr is_system_error e (in_file f (object_at at limit))
 unfolding object_at
 head_stops None at limit e refused = unless (is_system_error e) (λ h. let is : FileNotFound ≡ e = cc in ap Err is) refused
@@ -151,7 +150,7 @@ pub records_refused : (known now : Option Files) (name : List ℕ) (at limit : �
 records_refused None now name at limit first e same head refused = tt
 records_refused (Some m) now name at limit first e same head refused = records_stop (map.get m name) at limit first e head (rw same at refused)
 
--- the result of finishing after the END is that of reading the whole
+-- finishing after the END record has the result of reading the object
 finish_gives : (f : Option (List ℕ)) (at limit : ℕ) (first : ℕ × ℕ) (s : State) (end : ℕ) (r : Result Object ObjectFault) → in_file f (head_at at limit) ≡ Ok first → all_in first.0 f first.1 limit ≡ Ok (s, end) → in_file f (end_at end limit) ≡ Ok tt → Refines is_memory (λ o. o) r (object_of_state s) → Refines is_system_error (λ o. o) r (in_file f (object_at at limit))
 unfolding object_at
 finish_gives None at limit first s end r head records ended given = cc
@@ -173,7 +172,7 @@ always : (b : Bool) {P : Type 0} → P → Unless b P
 always true p = tt
 always false p = p
 
--- a result that equals that of reading, even if it is an error
+-- a result that equals the result of reading, even if it is an error
 as_read : {A : Type 0} (r read : Result A ObjectFault) → r ≡ read → Refines is_system_error (λ x. x) r read
 as_read (Ok x) read is = sym is
 as_read (Err e) read is = always (is_system_error e) (sym is)
@@ -186,18 +185,18 @@ head_read (Some m) name at limit buf n r five read is = file (map.get m name) re
   file None read = absurd read
   file (Some bytes) read = as_read r _ (is ∙ ap (λ xs. head_of at xs) (ap (λ xs. take 5 xs) read.0 ∙ take-take 5 (length buf) (bytes_between bytes at limit) (omega (arith, five))))
 
--- ---- Records in bytes that were read ahead.
+-- ---- Records in the buffer.
 
 -- a record is read only from the bytes between the offset and the limit
 pub at_is_in : (v at limit : ℕ) (bytes : List ℕ) → record_at v at limit bytes ≡ record_in v at (bytes_between bytes at limit)
 unfolding record_at record_in
 at_is_in v at limit bytes = ap (λ following. record_header v (take 3 (bytes_between bytes at limit)) >>= (λ front. body_or_cut_short front.1 (take front.1 following) >>= (λ body. record_with_end at front.0 front.1 body))) (room_on bytes at 3 limit ∙ sym (take_rest (bytes_between bytes at limit) 3))
 
--- the length in the front of a record
+-- the length in the header of a record
 pub front_len : (v : ℕ) (xs : List ℕ) (f : ℕ × ℕ) → record_header v (take 3 xs) ≡ Ok f → (3 + f.1 ≡ record_len xs) × (f.1 ≤ 4096)
 front_len v x f e = grind (arith, common_steps)
 
--- the bytes after a whole record don't matter
+-- bytes after a complete record don't change the result
 pub following : (v at : ℕ) (xs rest : List ℕ) → 3 ≤ length xs → ((f : ℕ × ℕ) → record_header v (take 3 xs) ≡ Ok f → 3 + f.1 ≤ length xs) → record_in v at (xs ++ rest) ≡ record_in v at xs
 unfolding record_in
 following v at xs rest three enough =
@@ -221,9 +220,9 @@ filled v at xs = by (nat_le (length xs) 8192) refl
         let len : length (take 8192 xs) ≡ 8192 = omega (arith, length-take 8192 xs, long) in
         sym (following v at (take 8192 xs) (drop 8192 xs) (omega (arith, len)) (λ f e. omega (arith, len, (front_len v (take 8192 xs) f e).1))) ∙ ap (record_in v at) (take-append-drop 8192 xs)
 
--- ---- A record that is in the buffer already.
+-- ---- A record that is already in the buffer.
 
--- a part of a list from an index on, if the list is long enough
+-- a slice of a concatenation
 apart : (n k : ℕ) (a rest : List ℕ) → k ≤ length a → take n (drop k (a ++ rest)) ≡ take n (drop k a) ++ take (n - length (drop k a)) rest
 apart n k a rest h = rw (drop-append-le k a rest h) (split n (drop k a) rest)
   where
@@ -305,9 +304,9 @@ refilled (Some m) name at limit n buf len read = file (get m name) read
     file None h = absurd h
     file (Some bytes) h = ap Ok (ap (λ k. take k (bytes_between bytes at limit)) (sym len) ∙ sym (h.0))
 
--- ---- Reading on.
+-- ---- Continued reading.
 
--- the buffered bytes are those of this file, if the files are known
+-- if the files are known, the buffered bytes are those of this file
 abbrev pub StandsAhead : Option Files → List ℕ → RecordReaderView → Type 0
 StandsAhead known name r = IfSome known (λ m. IsAhead (get m name) r)
 

@@ -39,8 +39,7 @@ use Rattle.object65.proofs.SmallParts.{left, right, and, parts}
 use Rattle.object65.proofs.ReachedStates.{either}
 use Rattle.object65.proofs.Scannings.{fill_is}
 
--- a name among distinct names that satisfy a predicate satisfies it, and differs from
--- all names before it
+-- a name among distinct names that satisfy a predicate satisfies it, and differs from all names before it
 name_among : (p : List ℕ → Bool) (xs ys : List (List ℕ)) (n : List ℕ) → are_distinct p (xs ++ n ∷ ys) ≡ true → (p n ≡ true) × (is_among xs n ≡ false)
 name_among p [] ys n e = (left (p n) (not (is_among ys n)) (left (p n && not (is_among ys n)) (are_distinct p ys) e), refl)
 name_among p (x ∷ xs) ys n e =
@@ -62,8 +61,7 @@ name_among p (x ∷ xs) ys n e =
 pub name_in : (xs ys : List (List ℕ)) (n : List ℕ) → are_names (xs ++ n ∷ ys) ≡ true → (is_name n ≡ true) × (is_among xs n ≡ false)
 name_in = name_among is_name
 
--- an origin of an object has a file exactly if its version has files, and its index is
--- valid
+-- an origin of an object has a file if and only if its version has files, and its file index is valid
 origin_parts : (v m : ℕ) (o : Origin) → is_well_formed_origin v m o ≡ true → (has_file_by v o.file ≡ true) × (has_file m o.file ≡ true)
 origin_parts v m o good = (left (has_file_by v o.file) (has_file m o.file) good, right (has_file_by v o.file) (has_file m o.file) good)
 
@@ -73,7 +71,7 @@ parts_again m n i o f file indices = rw (file, indices) refl
 
 -- ---- Files.
 
--- a state of files
+-- a state that has only files
 abbrev naming : ℕ → List (List ℕ) → State
 naming v files = record (start v) { files = files }
 
@@ -81,7 +79,7 @@ take_file : (v : ℕ) (done : List (List ℕ)) (name : List ℕ) (others : List 
 unfolding state_after_record Scanning.scan_step Scanning.scan_record Scanning.scan_file
 take_file v done name others two names text = grind (arith, common_steps, name_among)
 
--- all files in turn
+-- all files, by induction
 take_files : (v : ℕ) (names done : List (List ℕ)) (rest : List RawRecord) → (v == 1) ≡ false → are_distinct is_file_name (done ++ names) ≡ true → AllByRecursion (λ name. is_utf8 name ≡ true) names → state_after_records (naming v done) (map file_record names ++ rest) ≡ state_after_records (naming v (done ++ names)) rest
 take_files v [] done rest two good texts = ap (λ xs. state_after_records (naming v xs) rest) (sym (nil done))
 take_files v (n ∷ names) done rest two good texts =
@@ -99,12 +97,11 @@ module _ (v : ℕ) (files : List (List ℕ)) where
   abbrev pub holding : List (List ℕ) → Bool → List Draft → List Export → List Assert → State
   holding imports begun ds exports asserts = record { version = v; files = files; imports = imports; drafts = ds; has_fragment = begun; exports = exports; asserts = asserts; ended = false; failed = false }
 
-  -- a state of imports and sections
+  -- a state that has only files, imports and sections
   abbrev pub sectioned : List (List ℕ) → Bool → List Draft → State
   sectioned imports begun ds = holding imports begun ds [] []
 
-  -- the draft of a section, with some of its fragments and an unfinished literal after
-  -- them
+  -- the draft of a section, with some of its fragments and an unfinished literal after them
   abbrev pub drafting : Section → List Fragment → List ℕ → Draft
   drafting s fs bytes = record { name = s.name; align = s.align; size = section_len s; filled = sum_by fragment_len fs + length bytes; fragments = fs; literal = bytes }
 
@@ -120,7 +117,7 @@ module _ (v : ℕ) (files : List (List ℕ)) where
   unfolding state_after_record Scanning.scan_step Scanning.scan_record Scanning.scan_import
   take_import done name others names = rw (new_again done others name names) refl
 
-  -- all imports in turn
+  -- all imports, by induction
   take_imports : (names done : List (List ℕ)) (rest : List RawRecord) → are_names (done ++ names) ≡ true → state_after_records (sectioned done false []) (map import_record names ++ rest) ≡ state_after_records (sectioned (done ++ names) false []) rest
   take_imports [] done rest good = ap (λ xs. state_after_records (sectioned xs false []) rest) (sym (nil done))
   take_imports (n ∷ names) done rest good =
@@ -163,7 +160,7 @@ module _ (v : ℕ) (files : List (List ℕ)) where
   unfolding state_after_record Scanning.scan_step Scanning.scan_record Scanning.scan_section
   take_section n i imports ds s others good names = grind (arith, common_steps, heading_again, new_again)
 
-  -- all headings in turn
+  -- all headings, by induction
   take_headings : (n i : ℕ) (imports : List (List ℕ)) (ss : List Section) (ds : List Draft) (rest : List RawRecord) → AllByRecursion (IsGood n i) ss → are_names (map (λ (d : Draft). d.name) ds ++ map (λ (s : Section). s.name) ss) ≡ true → state_after_records (sectioned imports false ds) (map section_record ss ++ rest) ≡ state_after_records (sectioned imports false (ds ++ map empty_draft ss)) rest
   take_headings n i imports [] ds rest good names = ap (λ xs. state_after_records (sectioned imports false xs) rest) (sym (nil ds))
   take_headings n i imports (s ∷ ss) ds rest good names =
@@ -175,7 +172,7 @@ module _ (v : ℕ) (files : List (List ℕ)) where
 
   -- ---- A literal.
 
-  -- a fragment is added to the first section that isn't full
+  -- adding a fragment to the first section that isn't full
   part_again : (imports : List (List ℕ)) (begun : Bool) (full : List Draft) (d e : Draft) (more : List Draft) (grow : SectionFill → Result (SectionFill × Fragment) ObjectFault) (y : SectionFill × Fragment) → list_all is_full full ≡ true → is_full d ≡ false → grow (Scanning.section_fill d) ≡ Ok y → draft_with_fragment d y.1 ≡ e → (Scanning.scan_part (Scanning.outline_of (sectioned imports begun (full ++ d ∷ more))) grow >>= (λ x. Ok (with_item (sectioned imports begun (full ++ d ∷ more)) x.1))) ≡ Ok (sectioned imports true (full ++ e ∷ more))
   unfolding Scanning.scan_part
   part_again imports begun full d e more grow y all free h is = grind (arith, common_steps, opens, piece_there)
@@ -187,7 +184,7 @@ module _ (v : ℕ) (files : List (List ℕ)) where
   literal_joined : (s : Section) (fs : List Fragment) (bytes body : List ℕ) → draft_with_fragment (drafting s fs bytes) (Literal body) ≡ drafting s fs (bytes ++ body)
   literal_joined s fs bytes body = grind (arith, common_steps)
 
-  -- a section with free space isn't full
+  -- a section with space for `len` bytes isn't full
   not_full : (s : Section) (fs : List Fragment) (bytes : List ℕ) (len : ℕ) → 0 < len → (sum_by fragment_len fs + length bytes) + len ≤ section_len s → is_full (drafting s fs bytes) ≡ false
   not_full s fs bytes len some within = let less : sum_by fragment_len fs + length bytes < section_len s = omega arith in grind (arith, nat_tests)
 
@@ -196,7 +193,7 @@ module _ (v : ℕ) (files : List (List ℕ)) where
   take_piece imports begun full more s fs bytes body all some within even =
       part_again imports begun full (drafting s fs bytes) (drafting s fs (bytes ++ body)) more (Scanning.with_literal body) _ all (not_full s fs bytes (length body) some within) (literal_again s fs bytes body some within even) (literal_joined s fs bytes body)
 
-  -- some records lead to these sections
+  -- these records lead to a state with these sections
   pub record Goes (before : State) (imports : List (List ℕ)) (es rest : List RawRecord) (ds : List Draft) : Type 0 where
     pub has_fragment : Bool
     pub same : state_after_records before (es ++ rest) ≡ state_after_records (sectioned imports has_fragment ds) rest
@@ -246,7 +243,7 @@ module _ (v : ℕ) (files : List (List ℕ)) where
 
   -- ---- A fill and a value.
 
-  -- the section with one more fragment, which is no literal
+  -- the section with one further fragment that is no literal
   added : (s : Section) (fs : List Fragment) (bytes : List ℕ) (f : Fragment) → with_fragment (drafting s fs bytes) (fragment_len f) f ≡ drafting s ((fs ++ nonempty_literal bytes) ++ f ∷ []) []
   added s fs bytes f = grind (arith, common_steps)
 
@@ -261,7 +258,7 @@ module _ (v : ℕ) (files : List (List ℕ)) where
       let takes : Scanning.with_fill (fill_record n).body (Scanning.section_fill d) ≡ Ok y = rw (fill_again n some fits, room_again s fs bytes n within, fill_is d, alone) refl in
       part_again imports begun full d (drafting s ((fs ++ nonempty_literal bytes) ++ Fill n ∷ []) []) more (Scanning.with_fill (fill_record n).body) y all (not_full s fs bytes n some within) takes (added s fs bytes (Fill n))
 
-  -- the conditions for a form in a value or an assertion
+  -- the conditions for the form of a value or an assertion
   form_parts : (n i : ℕ) (f : Form) → (is_well_formed_form n i f && not (is_literal f)) ≡ true → (has_valid_indices n i f ≡ true) × ((is_normal f && nat_le (nodes f) node_limit && not (is_literal f)) ≡ true) × (is_normal f ≡ true)
   form_parts n i f good = grind (arith, common_steps, left, right, and)
 
@@ -291,7 +288,7 @@ module _ (v : ℕ) (files : List (List ℕ)) where
 
   -- ---- The fragments of a section.
 
-  -- some records lead to this section, with all its fragments
+  -- these records fill the section with all of its fragments
   pub record Fills (before : State) (imports : List (List ℕ)) (es rest : List RawRecord) (full more : List Draft) (s : Section) (all : List Fragment) : Type 0 where
     pub fragments : List Fragment
     pub literal : List ℕ
@@ -347,7 +344,7 @@ module _ (v : ℕ) (files : List (List ℕ)) where
       fills_next (sectioned imports begun (full ++ drafting s fs bytes ∷ more)) imports (value_record w o form ∷ []) (flat_map fragment_records gs) rest full more s true (drafting s (now ++ f ∷ []) []) (now ++ f ∷ gs) (((now ++ f ∷ []) ++ nonempty_literal []) ++ gs) whole (ap (λ r. r >>= (λ t. state_after_records t (flat_map fragment_records gs ++ rest))) one)
       (take_fragments n i imports gs true full more s (now ++ f ∷ []) [] rest all count there (right (is_well_formed_fragment n i f) (list_all (is_well_formed_fragment n i) gs) good) (right (has_well_formed_origin v (length files) f) (list_all (has_well_formed_origin v (length files)) gs) placed) fits.1 (ap are_all_merged whole ∙ apart) (omega (arith, sum, first, shut_len fs bytes, sum_by-append fragment_len now (f ∷ []))))
 
-  -- ---- All contents in turn.
+  -- ---- The contents of all sections.
 
   pub record Contents (before : State) (imports : List (List ℕ)) (es rest : List RawRecord) (full : List Draft) (ss : List Section) : Type 0 where
     pub drafts : List Draft
@@ -443,13 +440,13 @@ module _ (v : ℕ) (files : List (List ℕ)) where
       ∙ take_asserts imports begun ds exports xs (done ++ x ∷ []) rest all (right (fine x) (list_all fine xs) good) (right (at x) (list_all at xs) placed) fits.1
       ∙ ap (λ ys. state_after_records (holding imports begun ds exports ys) rest) (append_assoc done (x ∷ []) xs)
 
-  -- ---- The END.
+  -- ---- The END record.
 
   take_end : (imports : List (List ℕ)) (begun : Bool) (ds : List Draft) (exports : List Export) (asserts : List Assert) → list_all is_full ds ≡ true → state_after_record (holding imports begun ds exports asserts) end_record ≡ Ok (record (holding imports begun ds exports asserts) { ended = true })
   unfolding state_after_record Scanning.scan_step Scanning.scan_record Scanning.scan_last
   take_end imports begun ds exports asserts all = let filled = all_full ds ∙ all in rw filled refl
 
--- ---- All records in turn.
+-- ---- All records of an object.
 
 pub record Again (o : Object) : Type 0 where
   pub state : State

@@ -1,4 +1,4 @@
--- The outline after a record is the outline of the state after its item.
+-- The outline after a record is the outline of the state after the record's item.
 use Rattle.std.proofs.lemmas.Grind.{common_steps}
 use Rattle.std.proofs.Common.{◌≡◌, ◌∙◌, ◌%◌, ℕ, zero, suc, List, [], ◌∷◌, ◌++◌, length, map, Some, Bool, true, false, not, ◌==◌, if◌then◌else◌, Result, Ok, Err, refl, sym, ap, subst, arith, ◌⊎◌, inl, inr, length-append}
 use Rattle.std.specs.List.{list_all}
@@ -28,7 +28,7 @@ use Rattle.object65.specs.Spelling.{body_limit}
 use Rattle.object65.proofs.Drafts.{nil, longer, closing_is, fill_last, last_push, last_joins, Split, draft_there, grown_name, is_full, none_open, opens, room_there, seek}
 use Rattle.object65.proofs.NoStoreErrors.{IsFree, astray, assert_free, canonical_free, export_free, failed, fill_free, parts_free, literal_free, name_free, open_free, room_free, value_free, wants_astray, wants_canonical}
 
--- a fragment's offset is the number of bytes of its section so far
+-- the offset of a fragment is the number of bytes in its section so far
 abbrev pub IsPlaced : List Draft → Item → Type 0
 IsPlaced ds (item.Part k offset f) = (d : Draft) × (slice_get ds k ≡ Some d) × (slice_get (map Scanning.section_fill ds) k ≡ Some (Scanning.section_fill d)) × (offset ≡ d.filled)
 IsPlaced ds (item.File name) = Unit {0}
@@ -42,8 +42,8 @@ abbrev pub is_end : Item → Bool
 is_end item.End = true
 is_end _ = false
 
--- The outline after a record is that of the state after its item; the item's offset is right, and it is the END
--- exactly if `last` is true. An error is none of a store.
+-- The outline after a record is the outline of the state after its item; the item's offset is right, and the item is an END
+-- item if and only if `last` is true. An error is no store error.
 abbrev pub Leads : State → Bool → Result (Scanning.Outline × Item) ObjectFault → Type 0
 Leads s last (Ok x) = (x.0 ≡ Scanning.outline_of (with_item s x.1)) × IsPlaced s.drafts x.1 × (is_end x.1 ≡ last)
 Leads s last (Err e) = e ≡ FileError → ⊥
@@ -61,7 +61,7 @@ either s last false q v h k = k refl
 some_push : {A : Type 0} (xs : List A) (x : A) → is_none (xs ++ x ∷ []) ≡ false
 some_push xs x = let n = length-append xs (x ∷ []) in grind (arith, nat_tests, n)
 
--- ---- Names and the end.
+-- ---- Names and the END record.
 
 file_leads : (s : State) (body : List ℕ) → Leads s false (Scanning.scan_file (Scanning.outline_of s) body)
 unfolding Scanning.scan_file
@@ -107,7 +107,7 @@ pub wanted : (b : Bool) (f : ObjectFault) (u : Unit {0}) → Scanning.ok_if b f 
 wanted true f u e = refl
 wanted false f u e = cc
 
--- the last fragment
+-- a list of fragments ends in a fill if and only if its last fragment is a fill
 ends_push : (fs : List Fragment) (f : Fragment) → Scanning.ends_in_fill (fs ++ f ∷ []) ≡ last_joins (f ∷ []) (Fill 0)
 ends_push fs f = fill_last (fs ++ f ∷ []) 0 ∙ last_push fs f (Fill 0)
 
@@ -117,7 +117,7 @@ literal_ends fs bytes some = rw (closing_is bytes some) (ends_push fs (Literal b
 abbrev pub whole : List ℕ → Bool
 whole bytes = length bytes % body_limit == 0
 
--- a literal that doesn't fill whole records isn't empty
+-- a literal that doesn't fill complete records isn't empty
 nothing : (bytes : List ℕ) → whole bytes ≡ false → is_none bytes ≡ false
 nothing x part = grind (arith, common_steps)
 
@@ -127,11 +127,11 @@ short_is d = grind (arith, common_steps)
 pub fill_is : (d : Draft) → Scanning.is_fill (Scanning.last_of d) ≡ Scanning.ends_in_fill (closed_fragments d)
 fill_is d = grind (arith, common_steps, literal_ends, nothing)
 
--- after a literal
+-- the last fragment is a literal
 after_literal : (d : Draft) (bytes : List ℕ) → is_none bytes ≡ false → whole d.literal ≡ true → Scanning.last_after (length bytes) ≡ Scanning.last_of (draft_with_fragment d (Literal bytes))
 after_literal d bytes some full = grind (arith, common_steps, nat_tests, length-append, mod-add-mod, literal_ends, longer)
 
--- after a fill
+-- the last fragment is a fill
 after_fill : (d : Draft) (n : ℕ) → last.Fill ≡ Scanning.last_of (draft_with_fragment d (Fill n))
 after_fill d n = grind (arith, common_steps, nil, ends_push)
 
@@ -198,7 +198,7 @@ entry_leads s e =
     either s _ (e.kind == 9) _ _ (goes_on 9 _ refl (file_leads s e.body)) (λ j.
     subst (λ last. Leads s last (Scanning.scan_last (Scanning.outline_of s) e.body)) (last_of_all s.version e.kind a b c d f g h i j) (end_leads s e.body))))))))))
   where
-    -- a record of another kind is no END
+    -- a record of any other kind is no END record
     goes_on : (k : ℕ) (q : Result (Scanning.Outline × Item) ObjectFault) → (k == 8) ≡ false → Leads s false q → (e.kind == k) ≡ true → Leads s (e.kind == 8) q
     goes_on k q differs h is =
         let same : e.kind ≡ k = grind (arith, nat_tests) in

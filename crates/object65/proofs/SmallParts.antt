@@ -1,4 +1,4 @@
--- A well-formed object has small parts.
+-- The parts of a well-formed object are within their size limits.
 use Rattle.std.proofs.lemmas.Grind.{common_steps}
 use Rattle.std.proofs.Common.{◌≡◌, ℕ, List, [], ◌∷◌, length, map, Bool, true, false, ◌&&◌, not, nat_lt, arith, refl}
 use Rattle.std.proofs.lemmas.Bool.Decides.{nat_tests}
@@ -14,7 +14,7 @@ use Rattle.object65.specs.Objects.{is_file_name, is_name, is_printed, is_among, 
 use Rattle.object65.specs.Record.{is_version}
 use Rattle.object65.specs.Small.{is_small_text, is_small_form, is_small_fragment, is_small_section, is_small_export, is_small_assert}
 
--- if both hold, so does each
+-- a conjunction implies each of its operands
 pub left : (a b : Bool) → (a && b) ≡ true → a ≡ true
 left true b e = refl
 left false b e = cc
@@ -72,7 +72,7 @@ small_exports s i (x ∷ xs) names e =
 good_assert_small : (s i : ℕ) (a : Assert) → is_well_formed_assert s i a ≡ true → is_small_assert a ≡ true
 good_assert_small s i a e = grind (arith, common_steps, left, and, good_form_small, right)
 
--- the parts of a well-formed object
+-- the parts of well-formedness
 pub record Parts (o : Object) : Type 0 where
   pub version : is_version o.version ≡ true
   pub files : are_files_of o.version o.files ≡ true

@@ -1,4 +1,4 @@
--- One more record, and the properties of the state after it.
+-- One further record, and the properties of the state after it.
 use Rattle.std.proofs.lemmas.Grind.{common_steps}
 use Rattle.std.proofs.Common.{◌≡◌, ◌∙◌, ℕ, ◌<◌, ◌++◌, List, [], ◌∷◌, length, map, Bool, true, false, ◌&&◌, ◌||◌, not, nat_le, ◌==◌, if◌then◌else◌, Result, Ok, refl, sym, ap, subst, arith, append_assoc, inl, inr}
 use Rattle.std.proofs.lemmas.Bool.Decides.{nat_tests}
@@ -37,7 +37,7 @@ pub record Step (s t : State) (e : RawRecord) : Type 0 where
   pub well_formed : GoodState t
   pub reached : (es : List RawRecord) → Reached s es → IsReadEntry e → Reached t (es ++ e ∷ [])
 
--- ---- One more record after those of its kind.
+-- ---- A further record of the same kind.
 
 none_2 : (a : List RawRecord) → (a ++ []) ++ [] ≡ a
 none_2 a = nil (a ++ []) ∙ nil a
@@ -63,15 +63,15 @@ row_5 a b c d f e = ap (λ xs. xs ++ e) (nil ((((a ++ b) ++ c) ++ d) ++ f)) ∙ 
 row_6 : (a b c d f e : List RawRecord) → rows a b c d f [] ++ e ≡ rows a b c d f e
 row_6 a b c d f e = ap (λ xs. xs ++ e) (nil ((((a ++ b) ++ c) ++ d) ++ f))
 
--- the indices in a form are valid for the number of drafts
+-- the indices in a form are valid for the number of sections
 known_in : (s : State) (f : Form) (u : Unit {0}) → Scanning.check_form_indices (length (map Scanning.section_fill s.drafts)) (length s.imports) f ≡ Ok u → Scanning.check_form_indices (length s.drafts) (length s.imports) f ≡ Ok u
 known_in s f u h = ap (λ n. Scanning.check_form_indices n (length s.imports) f) (sym (length-map s.drafts Scanning.section_fill)) ∙ h
 
--- one more record after the files
+-- one further record after the FILE records
 following : (files rows now es : List RawRecord) (e : RawRecord) → es ≡ files ++ rows → rows ++ e ∷ [] ≡ now → es ++ e ∷ [] ≡ files ++ now
 following files rows now es e was more = ap (λ xs. xs ++ e ∷ []) was ∙ append_assoc files rows (e ∷ []) ∙ ap (λ xs. files ++ xs) more
 
--- ---- A FILE.
+-- ---- A FILE record.
 
 -- the item of the result
 item_is : (o : Scanning.Outline) (i : Item) (x : Scanning.Outline × Item) → ◌≡◌ {A = Result (Scanning.Outline × Item) ObjectFault} (Ok (o, i)) (Ok x) → i ≡ x.1
@@ -147,7 +147,7 @@ file_step s e x kind known r running h =
       go true known good = cc
       go false known good = distinct_push is_file_name files name good short new
 
--- ---- An IMPORT.
+-- ---- An IMPORT record.
 
 import_step : (s : State) (e : RawRecord) (x : Scanning.Outline × Item) → e.kind ≡ 1 → GoodState s → s.ended ≡ false → Scanning.scan_import (Scanning.outline_of s) e.body ≡ Ok x → Step s (with_item s x.1) e
 unfolding Scanning.scan_import
@@ -200,7 +200,7 @@ import_step s e x kind r running h =
       };
     })
 
--- ---- A SECTION.
+-- ---- A SECTION record.
 
 section_step : (s : State) (e : RawRecord) (x : Scanning.Outline × Item) → e.kind ≡ 2 → GoodState s → s.ended ≡ false → Scanning.scan_section (Scanning.outline_of s) e.body ≡ Ok x → Step s (with_item s x.1) e
 unfolding Scanning.scan_section
@@ -273,7 +273,7 @@ section_step s e x kind r running h =
           };
     })
 
--- ---- A fragment.
+-- ---- A fragment's record.
 
 part_step : (s : State) (e : RawRecord) (x : Scanning.Outline × Item) (grow : SectionFill → Result (SectionFill × Fragment) ObjectFault) → ((d : Draft) (y : SectionFill × Fragment) → GoodDraft (length s.drafts) (length s.imports) d → grow (Scanning.section_fill d) ≡ Ok y → Grows (length s.drafts) (length s.imports) e d (draft_with_fragment d y.1)) → ((d : Draft) (y : SectionFill × Fragment) → grow (Scanning.section_fill d) ≡ Ok y → has_well_formed_origin s.version (length s.files) y.1 ≡ true) → GoodState s → s.ended ≡ false → Scanning.scan_part (Scanning.outline_of s) grow ≡ Ok x → Step s (with_item s x.1) e
 unfolding Scanning.scan_part
@@ -332,7 +332,7 @@ part_step s e x grow grows placed r running h =
     none_yet true h = refl
     none_yet false h = absurd (h refl)
 
--- ---- An EXPORT.
+-- ---- An EXPORT record.
 
 export_step : (s : State) (e : RawRecord) (x : Scanning.Outline × Item) → e.kind ≡ 6 → GoodState s → s.ended ≡ false → Scanning.scan_export (Scanning.outline_of s) e.body ≡ Ok x → Step s (with_item s x.1) e
 unfolding Scanning.scan_export
@@ -401,7 +401,7 @@ export_step s e x kind r running h =
           };
     })
 
--- ---- An ASSERT.
+-- ---- An ASSERT record.
 
 assert_step : (s : State) (e : RawRecord) (x : Scanning.Outline × Item) → e.kind ≡ 7 → GoodState s → s.ended ≡ false → Scanning.scan_assert (Scanning.outline_of s) e.body ≡ Ok x → Step s (with_item s x.1) e
 unfolding Scanning.scan_assert
@@ -469,7 +469,7 @@ assert_step s e x kind r running h =
     short : (text : List ℕ) → length text < 256 → is_small_text text ≡ true
     short text less = grind (arith, nat_tests)
 
--- ---- An END.
+-- ---- An END record.
 
 end_step : (s : State) (e : RawRecord) (x : Scanning.Outline × Item) → e.kind ≡ 8 → GoodState s → s.ended ≡ false → Scanning.scan_last (Scanning.outline_of s) e.body ≡ Ok x → Step s (with_item s x.1) e
 unfolding Scanning.scan_last
@@ -598,7 +598,7 @@ after_step s t e r h =
     let made : with_item s x.0.1 ≡ t = (let z = x.2 in cc) in
     subst (λ (u : State). Step s u e) made (entry_step s e x.0 r b.0 b.1)
 
--- an accepted record leads from a good state to a good state
+-- an accepted record preserves the invariant
 pub good_after : (s t : State) (e : RawRecord) → GoodState s → state_after_record s e ≡ Ok t → GoodState t
 good_after s t e r h = (after_step s t e r h).well_formed
 

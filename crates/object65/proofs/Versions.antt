@@ -1,4 +1,4 @@
--- The object of version 1 with the same contents is well-formed, too.
+-- Version 1 of a well-formed object is well-formed.
 use Rattle.std.proofs.lemmas.Grind.{common_steps}
 use Rattle.std.proofs.Common.{arith, ◌≡◌, ℕ, ◌+◌, List, [], ◌∷◌, length, map, Bool, true, ◌&&◌, not, refl, sym, ◌∙◌, ap}
 use Rattle.std.specs.Prelude.{sum_by}
@@ -51,7 +51,7 @@ same_apart (f ∷ g ∷ fs) =
     ap (λ b. not b && are_all_merged (map version_one_fragment (g ∷ fs))) (same_joins f g)
     ∙ ap (λ b. not (can_merge f g) && b) (same_apart (g ∷ fs))
 
--- version 1 has no files, and no value names one
+-- version 1 has no files, and no value has a file
 one_origin : (f : Fragment) → has_well_formed_origin 1 0 (version_one_fragment f) ≡ true
 one_origin x = grind (arith, common_steps)
 

@@ -57,7 +57,11 @@ fn close_literal(alloc: Global, draft: &mut Draft) -> Result<(), ObjectFault>
 /// Adds a fragment that is no literal.
 fn push_fragment(alloc: Global, draft: &mut Draft, fragment: Fragment) -> Result<(), ObjectFault>
     ensures pushed { Refines is_memory (λ _. draft.new) result
-        (Ok (record draft.old { fragments = closed_fragments draft.old ++ fragment ∷ []; literal = [] })) }
+        (Ok (record draft.old {
+          fragments = closed_fragments draft.old ++ fragment ∷
+              [];
+          literal = [];
+        })) }
 {
     close_literal(alloc, draft)?;
     draft.fragments.push(fragment)?;
@@ -67,7 +71,8 @@ fn push_fragment(alloc: Global, draft: &mut Draft, fragment: Fragment) -> Result
 /// Adds a fragment to a section.
 fn append_fragment(alloc: Global, draft: &mut Draft, fragment: Fragment) -> Result<(), ObjectFault>
     requires { draft.old.filled + fragment_len fragment ≤ draft.old.size }
-    ensures { Refines is_memory (λ _. draft.new) result (Ok (draft_with_fragment draft.old fragment)) }
+    ensures { Refines is_memory (λ _. draft.new) result
+        (Ok (draft_with_fragment draft.old fragment)) }
 {
     draft.filled += fragment_size(&fragment) as u32;
     if let Fragment::Literal(bytes) = &fragment {
@@ -213,7 +218,7 @@ impl Builder {
     /// Adds the next record. After an error each call returns `FailedBefore`.
     #[tactic(auto, unfolding(crate::specs::Scanning::state_after_record, crate::specs::Scanning::scan_step))]
     pub fn take(&mut self, next: &Record) -> Result<(), ObjectFault>
-        ensures taken { Refines is_memory (λ _. self.new) result
+        ensures effect { Refines is_memory (λ _. self.new) result
             (state_after_record self.old (raw_record next.now)) }
         ensures failed { OnErr result (self.new.failed ≡ true) }
         ensures failed_before { self.old.failed ≡ true → result ≡ Err ObjectFault.FailedBefore }

@@ -61,7 +61,8 @@ fn decode_record_header(version: u8, bytes: &[u8]) -> Result<(u8, usize), Object
 fn body_at(bytes: &[u8], at: usize, len: usize) -> Result<&[u8], ObjectFault>
     requires { at ≤ length bytes.now }
     ensures read { Refines is_memory (λ body. body.now) result
-        (body_or_cut_short len (take len (bytes_between bytes.entry.now at (length bytes.entry.now)))) }
+        (body_or_cut_short len
+        (take len (bytes_between bytes.entry.now at (length bytes.entry.now)))) }
     ensures len { IfOk result (λ body. length body.now ≡ len) }
     ensures within { IfOk result (λ body. at + len ≤ length bytes.entry.now) }
     ensures plain { IfErr result (λ e. is_system_error e ≡ false) }

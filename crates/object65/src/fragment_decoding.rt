@@ -52,7 +52,8 @@ fn check_file(origin: Origin, files: usize) -> Result<(), ObjectFault>
 /// Rejects indices of files, sections and imports that the object doesn't have.
 #[tactic(auto, unfolding(crate::specs::Scanning::check_indices))]
 pub fn check_indices(scan_state: &ScanState, origin: Origin, form: &Norm) -> Result<(), ObjectFault>
-    ensures { result ≡ check_indices (length scan_state.now.files.keys) (length scan_state.now.fills.items)
+    ensures { result ≡ check_indices (length scan_state.now.files.keys)
+        (length scan_state.now.fills.items)
         (length scan_state.now.imports.keys) origin form.now }
 {
     check_file(origin, scan_state.files.len())?;
@@ -173,7 +174,8 @@ pub fn add_value(
     body: &[u8],
 ) -> Result<(SectionFill, Fragment), ObjectFault>
     ensures { Refines is_memory (λ x. x) result
-        (with_value scan_state.now.version (length scan_state.now.files.keys) (length scan_state.now.fills.items)
+        (with_value scan_state.now.version (length scan_state.now.files.keys)
+        (length scan_state.now.fills.items)
         (length scan_state.now.imports.keys) body.now fill) }
 {
     let (width, origin, form) = read_value(scan_state.alloc, scan_state.version, body)?;

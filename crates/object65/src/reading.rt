@@ -26,14 +26,16 @@ pub fn read_within_limit<S: Store>(
     buf: &mut [u8],
 ) -> Result<usize, StoreFault>
     ensures bound { IfOk result (λ n. n ≤ length buf.new) }
-    ensures room { IfOk result (λ n. n ≤ limit - at) }
+    ensures bound_by_limit { IfOk result (λ n. n ≤ limit - at) }
     ensures read { IfSome (S.files store.old)
         (λ m. IsLimitedRead (map.get m name.now) at limit buf.new result) }
     ensures bytes { IfSome (S.files store.old)
         (λ m. HasOnlyBytes (map.get m name.now) result) }
-    ensures frame { StoreFrame S.files S.failures S.last_failure StoreFault.FileError name.now store.old
+    ensures frame { StoreFrame S.files S.failures S.last_failure StoreFault.FileError
+        name.now store.old
         store.new result }
-    ensures within { IsErrOf result StoreFault.FileError → at ≤ limit → FailedWithin (S.last_failure store.new) name.now at limit }
+    ensures within { IsErrOf result StoreFault.FileError → at ≤ limit →
+        FailedWithin (S.last_failure store.new) name.now at limit }
     ensures at_last_count { FailsAtLastCount is_store_system_error (S.failures store.old) result }
 {
     let remaining = limit.saturating_sub(at);
@@ -50,12 +52,15 @@ pub fn read_head<S: Store>(
     limit: u64,
 ) -> Result<(u8, u64), ObjectFault>
     ensures read { IfSome (S.files store.old)
-        (λ m. Refines is_system_error (λ x. x) result (in_file (map.get m name.now) (head_at at limit))) }
+        (λ m. Refines is_system_error (λ x. x) result
+        (in_file (map.get m name.now) (head_at at limit))) }
     ensures bytes { IfSome (S.files store.old)
         (λ m. HasOnlyBytes (map.get m name.now) result) }
-    ensures frame { StoreFrame S.files S.failures S.last_failure FileError name.now store.old store.new
+    ensures frame { StoreFrame S.files S.failures S.last_failure FileError name.now
+        store.old store.new
         result }
-    ensures within { IsErrOf result ObjectFault.FileError → at ≤ limit → FailedWithin (S.last_failure store.new) name.now at limit }
+    ensures within { IsErrOf result ObjectFault.FileError → at ≤ limit →
+        FailedWithin (S.last_failure store.new) name.now at limit }
     ensures at_last_count { FailsAtLastCount is_system_error (S.failures store.old) result }
     ensures version { IfOk result (λ x. is_version x.0 ≡ true) }
     ensures bound { IfOk result (λ x. (x.1 ≡ at + 5) × (x.1 ≤ limit)) }
@@ -73,10 +78,13 @@ pub fn check_end<S: Store>(
     limit: u64,
 ) -> Result<(), ObjectFault>
     ensures read { IfSome (S.files store.old)
-        (λ m. Refines is_system_error (λ u. u) result (in_file (map.get m name.now) (end_at at limit))) }
-    ensures frame { StoreFrame S.files S.failures S.last_failure FileError name.now store.old store.new
+        (λ m. Refines is_system_error (λ u. u) result
+        (in_file (map.get m name.now) (end_at at limit))) }
+    ensures frame { StoreFrame S.files S.failures S.last_failure FileError name.now
+        store.old store.new
         result }
-    ensures within { IsErrOf result ObjectFault.FileError → at ≤ limit → FailedWithin (S.last_failure store.new) name.now at limit }
+    ensures within { IsErrOf result ObjectFault.FileError → at ≤ limit →
+        FailedWithin (S.last_failure store.new) name.now at limit }
     ensures at_last_count { FailsAtLastCount is_system_error (S.failures store.old) result }
 {
     let mut next = [0u8; 1];
@@ -101,7 +109,8 @@ fn read_records<S: Store>(
         (λ m. Refines is_system_error (λ x. x) result
         (in_file (map.get m name.now) (λ bytes.
         records_at (length bytes) (start head.0) head.1 limit bytes))) }
-    ensures frame { StoreFrame S.files S.failures S.last_failure FileError name.now store.old store.new
+    ensures frame { StoreFrame S.files S.failures S.last_failure FileError name.now
+        store.old store.new
         result }
 {
     let (version, first) = head;
@@ -132,7 +141,8 @@ pub fn read_object<S: Store>(
         (in_file (map.get m name.now) (object_at at limit))) }
     ensures bytes { IfSome (S.files store.old)
         (λ m. HasOnlyBytes (map.get m name.now) result) }
-    ensures frame { StoreFrame S.files S.failures S.last_failure FileError name.now store.old store.new
+    ensures frame { StoreFrame S.files S.failures S.last_failure FileError name.now
+        store.old store.new
         result }
     ensures at_last_count { FailsAtLastCount is_system_error (S.failures store.old) result }
     // An object that is read can be written, so its sections are within their limit, even if the

@@ -41,7 +41,12 @@ impl Model for RecordReader {
 
     ghost coded = { Prim.hlevel codes };
 
-    ghost view = { λ r. record { entry = raw_record r.record; begin = r.begin; ahead = take r.buffered r.buffer } };
+    ghost view = { λ r. record {
+      entry = raw_record r.record;
+      begin = r.begin;
+      ahead = take
+          r.buffered r.buffer;
+    } };
 }
 
 /// Returns the first `buffered` bytes, or all if there are fewer.
@@ -109,10 +114,13 @@ impl RecordReader {
     ) -> Result<(), ObjectFault>
         ensures read { IfSome (S.files store.old)
             (λ m. Refines is_system_error (λ _. self.new.ahead) result
-            (in_file (map.get m name.now) (λ bytes. Ok (take 8192 (bytes_between bytes at limit))))) }
-        ensures frame { StoreFrame S.files S.failures S.last_failure FileError name.now store.old store.new
+            (in_file (map.get m name.now) (λ bytes.
+            Ok (take 8192 (bytes_between bytes at limit))))) }
+        ensures frame { StoreFrame S.files S.failures S.last_failure FileError name.now
+            store.old store.new
             result }
-        ensures within { IsErrOf result ObjectFault.FileError → at ≤ limit → FailedWithin (S.last_failure store.new) name.now at limit }
+        ensures within { IsErrOf result ObjectFault.FileError → at ≤ limit →
+            FailedWithin (S.last_failure store.new) name.now at limit }
         ensures at_last_count { FailsAtLastCount is_system_error (S.failures store.old) result }
         ensures begin { OnOk result (self.new.begin ≡ at) }
         ensures none { OnErr result (self.new.ahead ≡ []) }
@@ -140,10 +148,13 @@ impl RecordReader {
             (in_file (map.get m name.now) (record_at version at limit))) }
         ensures ahead { IfSome (S.files store.old) (λ m. IsAhead (map.get m name.now) self.old →
             IsAhead (map.get m name.now) self.new) }
-        ensures frame { StoreFrame S.files S.failures S.last_failure FileError name.now store.old store.new
+        ensures frame { StoreFrame S.files S.failures S.last_failure FileError name.now
+            store.old store.new
             result }
-        ensures within { IsErrOf result ObjectFault.FileError → at ≤ limit → FailedWithin (S.last_failure store.new) name.now at limit }
-        ensures at_last_count { self.old.ahead ≡ [] → FailsAtLastCount is_system_error (S.failures store.old) result }
+        ensures within { IsErrOf result ObjectFault.FileError → at ≤ limit →
+            FailedWithin (S.last_failure store.new) name.now at limit }
+        ensures at_last_count { self.old.ahead ≡ [] →
+            FailsAtLastCount is_system_error (S.failures store.old) result }
         ensures bound { IfOk result (λ n. (n ≡ at + 3 + length self.new.entry.body) × (n ≤ limit) ×
             (n ≤ file_limit)) }
     {
@@ -174,7 +185,8 @@ pub fn read_record<S: Store>(
     ensures read { IfSome (S.files store.old)
         (λ m. Refines is_system_error (λ x. (raw_record x.0, x.1)) result
         (in_file (map.get m name.now) (record_at version at limit))) }
-    ensures frame { StoreFrame S.files S.failures S.last_failure FileError name.now store.old store.new
+    ensures frame { StoreFrame S.files S.failures S.last_failure FileError name.now
+        store.old store.new
         result }
     ensures at_last_count { FailsAtLastCount is_system_error (S.failures store.old) result }
     ensures bound { IfOk result (λ x. (x.1 ≡ at + 3 + length x.0.body.items) × (x.1 ≤ limit) ×

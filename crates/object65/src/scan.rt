@@ -70,7 +70,8 @@ pub struct ScanState {
 pub fn accept_file(scan_state: &mut ScanState, body: &[u8]) -> Result<Item, ObjectFault>
     requires sound { IsWellFormedOutline scan_state.old }
     requires short { length body.now ≤ file_name_limit }
-    ensures { RefinesScan scan_state.old scan_state.new result (scan_file (outline_in scan_state.old) body.now) }
+    ensures { RefinesScan scan_state.old scan_state.new result
+        (scan_file (outline_in scan_state.old) body.now) }
 {
     check(
         scan_state.imports.len() == 0
@@ -89,7 +90,8 @@ pub fn accept_file(scan_state: &mut ScanState, body: &[u8]) -> Result<Item, Obje
 #[tactic(auto, unfolding(crate::specs::Scanning::scan_import))]
 pub fn accept_import(scan_state: &mut ScanState, body: &[u8]) -> Result<Item, ObjectFault>
     requires { IsWellFormedOutline scan_state.old }
-    ensures { RefinesScan scan_state.old scan_state.new result (scan_import (outline_in scan_state.old) body.now) }
+    ensures { RefinesScan scan_state.old scan_state.new result
+        (scan_import (outline_in scan_state.old) body.now) }
 {
     check(
         scan_state.fills.len() == 0 && scan_state.exports.len() == 0 && !scan_state.has_assert,
@@ -117,7 +119,8 @@ fn read_export(alloc: Global, version: u8, body: &[u8]) -> Result<Export, Object
 #[tactic(auto, unfolding(crate::specs::Scanning::scan_export))]
 pub fn accept_export(scan_state: &mut ScanState, body: &[u8]) -> Result<Item, ObjectFault>
     requires { IsWellFormedOutline scan_state.old }
-    ensures { RefinesScan scan_state.old scan_state.new result (scan_export (outline_in scan_state.old) body.now) }
+    ensures { RefinesScan scan_state.old scan_state.new result
+        (scan_export (outline_in scan_state.old) body.now) }
 {
     let full = all_full(scan_state);
     check(full && !scan_state.has_assert, ObjectFault::OutOfOrder)?;
@@ -164,7 +167,8 @@ fn read_assert(alloc: Global, version: u8, body: &[u8]) -> Result<Assert, Object
 #[tactic(auto, unfolding(crate::specs::Scanning::scan_assert))]
 pub fn accept_assert(scan_state: &mut ScanState, body: &[u8]) -> Result<Item, ObjectFault>
     requires { IsWellFormedOutline scan_state.old }
-    ensures { RefinesScan scan_state.old scan_state.new result (scan_assert (outline_in scan_state.old) body.now) }
+    ensures { RefinesScan scan_state.old scan_state.new result
+        (scan_assert (outline_in scan_state.old) body.now) }
 {
     check(all_full(scan_state), ObjectFault::OutOfOrder)?;
     let Assert {
@@ -253,8 +257,9 @@ impl Scan {
         ensures scanned { Refines is_memory (λ item. (self.new, item)) result
             (scan_step self.old (raw_record next.now)) }
         // For each builder's state with this outline, the record has the effect of its item.
-        ensures taken { (s : State) → self.old ≡ outline_of s →
-            Refines is_memory (λ item. with_item s item) result (state_after_record s (raw_record next.now)) }
+        ensures effect { (s : State) → self.old ≡ outline_of s →
+            Refines is_memory (λ item. with_item s item) result
+            (state_after_record s (raw_record next.now)) }
         ensures kept { (s : State) → self.old ≡ outline_of s →
             IfOk result (λ item. self.new ≡ outline_of (with_item s item)) }
         ensures within { IfOk result (λ item. IsWithinLimits self.old item) }

@@ -140,7 +140,7 @@ fn replace_fill(scan_state: &mut ScanState, at: usize, fill: SectionFill)
     requires sound { IsWellFormedOutline scan_state.old }
     requires filling { scan_state.old.search_start ≡ at }
     requires within { at < length scan_state.old.fills.items }
-    ensures put { outline_in scan_state.new ≡
+    ensures updated { outline_in scan_state.new ≡
         record (outline_in scan_state.old) {
           fills = slice_set scan_state.old.fills.items at fill;
           has_fragment = true;
@@ -158,7 +158,8 @@ fn add_fragment(
     fill: SectionFill,
     body: &[u8],
 ) -> Result<(SectionFill, Fragment), ObjectFault>
-    ensures { Refines is_memory (λ x. x) result (with_record_fragment (outline_in scan_state.now) kind body.now fill) }
+    ensures { Refines is_memory (λ x. x) result
+        (with_record_fragment (outline_in scan_state.now) kind body.now fill) }
 {
     match kind {
         LITERAL => add_literal(scan_state.alloc, fill, body),
@@ -172,7 +173,8 @@ fn add_fragment(
 fn accept_part(scan_state: &mut ScanState, kind: u8, body: &[u8]) -> Result<Item, ObjectFault>
     requires { IsWellFormedOutline scan_state.old }
     ensures { RefinesScan scan_state.old scan_state.new result
-        (scan_part (outline_in scan_state.old) (with_record_fragment (outline_in scan_state.old) kind body.now)) }
+        (scan_part (outline_in scan_state.old)
+        (with_record_fragment (outline_in scan_state.old) kind body.now)) }
 {
     let (at, fill) = next_fill(scan_state)?;
     let (grown, fragment) = add_fragment(scan_state, kind, fill, body)?;
@@ -235,7 +237,8 @@ fn add_section(scan_state: &mut ScanState, name: &[u8], size: u32) -> Result<(),
 #[tactic(auto, unfolding(crate::specs::Scanning::scan_section))]
 fn accept_section(scan_state: &mut ScanState, body: &[u8]) -> Result<Item, ObjectFault>
     requires { IsWellFormedOutline scan_state.old }
-    ensures { RefinesScan scan_state.old scan_state.new result (scan_section (outline_in scan_state.old) body.now) }
+    ensures { RefinesScan scan_state.old scan_state.new result
+        (scan_section (outline_in scan_state.old) body.now) }
 {
     check(
         !scan_state.has_fragment && scan_state.exports.len() == 0 && !scan_state.has_assert,
@@ -252,7 +255,8 @@ fn accept_section(scan_state: &mut ScanState, body: &[u8]) -> Result<Item, Objec
 #[tactic(auto, unfolding(crate::specs::Scanning::scan_last))]
 fn accept_end(scan_state: &mut ScanState, body: &[u8]) -> Result<Item, ObjectFault>
     requires { IsWellFormedOutline scan_state.old }
-    ensures { RefinesScan scan_state.old scan_state.new result (scan_last (outline_in scan_state.old) body.now) }
+    ensures { RefinesScan scan_state.old scan_state.new result
+        (scan_last (outline_in scan_state.old) body.now) }
 {
     check(all_full(scan_state), ObjectFault::OutOfOrder)?;
     check(body.is_empty(), ObjectFault::BadSize)?;

@@ -211,7 +211,8 @@ fn encode_contents(
 ) -> Result<(), AllocError>
     requires { list_all is_small_section sections.now ≡ true }
     ensures { OnOk result (out.new.items ≡ out.old.items ++
-        flat_map record_bytes (flat_map (λ s. flat_map fragment_records s.fragments) sections.now)) }
+        flat_map record_bytes
+        (flat_map (λ s. flat_map fragment_records s.fragments) sections.now)) }
 {
     for section in sections {
         encode_fragments(body, out, section.fragments.as_slice())?;
@@ -299,7 +300,8 @@ fn encode_sections(
 /// Appends an EXPORT.
 fn encode_export(body: &mut Vec<u8>, out: &mut Vec<u8>, export: &Export) -> Result<(), AllocError>
     requires { is_small_export export.now ≡ true }
-    ensures { OnOk result (out.new.items ≡ out.old.items ++ record_bytes (export_record export.now)) }
+    ensures { OnOk result (out.new.items ≡
+        out.old.items ++ record_bytes (export_record export.now)) }
 {
     body.clear();
     body.push(export.name.len() as u8)?;
@@ -327,7 +329,8 @@ fn encode_exports(
 /// Appends an ASSERT.
 fn encode_assert(body: &mut Vec<u8>, out: &mut Vec<u8>, assert: &Assert) -> Result<(), AllocError>
     requires { is_small_assert assert.now ≡ true }
-    ensures { OnOk result (out.new.items ≡ out.old.items ++ record_bytes (assert_record assert.now)) }
+    ensures { OnOk result (out.new.items ≡
+        out.old.items ++ record_bytes (assert_record assert.now)) }
 {
     body.clear();
     body.push(assert.action as u8)?;

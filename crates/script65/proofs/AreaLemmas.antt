@@ -1,4 +1,4 @@
--- Areas and their rows, one after another.
+-- Invariants of placing areas and their rows in order.
 use Rattle.std.proofs.lemmas.Grind.{common_steps}
 use Rattle.std.proofs.Common.{◌≡◌, ◌<◌, ℕ, zero, suc, ◌+◌, Bool, true, false, List, [], ◌∷◌, ◌++◌, length, take, drop, get_or, slice_get, slice_set, Some, refl, sym, ap, ◌∙◌, subst, Ok, Err, arith, add-one, ◌≤◌, ◌^◌, map, inl, inr, ◌⊎◌, length-append}
 use Rattle.std.proofs.lemmas.Option.{slice_get-get_or}
@@ -17,9 +17,9 @@ use Rattle.script65.specs.declared.placement.AreaPlacement.{AreaPlacement}
 use Rattle.script65.specs.declared.placement.Placement.{Placement}
 use Rattle.script65.specs.declared.placement.SegmentNeed.{SegmentNeed}
 
--- ---- The rows of an area, one after another.
+-- ---- The rows of an area, in order.
 
--- the item at the start of the rest of a list
+-- ---- The first element of a suffix.
 
 module _ {A : Type 0} where
   pub drop_suc : (xs : List A) (p : ℕ) (x : A) (rest : List A) → drop p xs ≡ x ∷ rest → drop (suc p) xs ≡ rest
@@ -64,7 +64,7 @@ module _ {A : Type 0} where
   take_drop (x ∷ xs) zero = refl
   take_drop (x ∷ xs) (suc p) = ap (λ l. x ∷ l) (take_drop xs p)
 
--- the rows at the front, followed by the result for the rest
+-- the states of the placed rows, followed by the result for the rest
 abbrev pub following : List RowState → Result (List RowState × ℕ) PlaceFault → Result (List RowState × ℕ) PlaceFault
 following done rest = rest >>= λ y. Ok (done ++ y.0, y.1)
 
@@ -75,8 +75,7 @@ after_one : (done : List RowState) (s : RowState) (rest : Result (List RowState 
 after_one done s x = grind (arith, common_steps)
 
 module _ (k : ℕ) (a : MemoryArea) (b : Bounds) (rows : List SegmentRow) (whole : Result (List RowState × ℕ) PlaceFault) where
-  -- the rows and states from an index on are left, and the remaining members are their
-  -- indices
+  -- the rows and states from `index` on remain, and `members` are the indices of those in the area
   pub record Walk (row_states : List RowState) (cursor : ℕ) (members : List ℕ) : Type 0 where
     pub index : ℕ
     pub rs : List SegmentRow
@@ -87,7 +86,7 @@ module _ (k : ℕ) (a : MemoryArea) (b : Bounds) (rows : List SegmentRow) (whole
     pub rest : members ≡ row_indices_in k index rs
     pub same : following (take index row_states) (rows_from k a b rs ss cursor) ≡ whole
 
-  -- the row at an index is the next of the area
+  -- row `m` is the next row of the area
   pub record Next (row_states : List RowState) (cursor : ℕ) (m : ℕ) (members : List ℕ) : Type 0 where
     pub r : SegmentRow
     pub s : RowState
@@ -138,7 +137,7 @@ module _ (k : ℕ) (a : MemoryArea) (b : Bounds) (rows : List SegmentRow) (whole
   pub next_member : (row_states : List RowState) (cursor m : ℕ) (members : List ℕ) → Walk row_states cursor (m ∷ members) → Next row_states cursor m members
   next_member row_states cursor m members w = next_of row_states cursor m members w.rs w.ss w.index w.rows_there w.spots_there w.count w.rest w.same
 
-  -- the row is placed
+  -- placing the row preserves the invariant
   pub walk_on : (row_states : List RowState) (cursor m : ℕ) (members : List ℕ) (n : Next row_states cursor m members) (x : RowState × ℕ) → row_after k a b n.r n.s cursor ≡ Ok x → Walk (slice_set row_states m x.0) x.1 members
   walk_on row_states cursor m members n x e = record {
     index = m + 1;
@@ -160,7 +159,7 @@ module _ (k : ℕ) (a : MemoryArea) (b : Bounds) (rows : List SegmentRow) (whole
   abbrev in_front : RowState → Result (List RowState × ℕ) PlaceFault → Result (List RowState × ℕ) PlaceFault
   in_front s rest = rest >>= λ y. Ok (s ∷ y.0, y.1)
 
-  -- a row that may be in the area, and those after it
+  -- the result from a row on, by whether the row is in the area
   abbrev taken_or : SegmentRow → RowState → List SegmentRow → List RowState → ℕ → Bool → Result (List RowState × ℕ) PlaceFault
   taken_or r s rs ss cursor t = if t then (row_after k a b r s cursor >>= λ x. rows_from k a b rs ss x.1 >>= λ y. Ok (x.0 ∷ y.0, y.1)) else in_front s (rows_from k a b rs ss cursor)
 
@@ -179,7 +178,7 @@ module _ (k : ℕ) (a : MemoryArea) (b : Bounds) (rows : List SegmentRow) (whole
   pub walk_ends : (row_states : List RowState) (cursor : ℕ) → Walk row_states cursor [] → whole ≡ Ok (row_states, cursor)
   walk_ends row_states cursor w = grind (arith, common_steps, none_left, take_drop)
 
-  -- the result of placing one row
+  -- placing row `m` has the result `given`
   abbrev pub Steps : List RowState → ℕ → ℕ → Result (List RowState × ℕ) PlaceFault → Type 0
   Steps row_states cursor m given = (r : SegmentRow) → (s : RowState) → slice_get rows m ≡ Some r → slice_get row_states m ≡ Some s → row_states_after k a b r s cursor m row_states ≡ given
 
@@ -200,7 +199,7 @@ module _ (k : ℕ) (a : MemoryArea) (b : Bounds) (rows : List SegmentRow) (whole
   lost : (n : Result (RowState × ℕ) PlaceFault) (ss : List RowState) (m : ℕ) (e : PlaceFault) → set_in ss m n ≡ Err e → n ≡ Err e
   lost x ss m e h = grind (arith, common_steps)
 
-  -- an error of the row is one of the area, unless it is a system error
+  -- an error of placing the next row, if no system error, is the error of placing the area's rows
   pub walk_refuses : (row_states : List RowState) (cursor m : ℕ) (members : List ℕ) (e : PlaceFault) (outside : Bool) → Walk row_states cursor (m ∷ members) → ((r : SegmentRow) → (s : RowState) → slice_get rows m ≡ Some r → slice_get row_states m ≡ Some s → Unless outside (row_states_after k a b r s cursor m row_states ≡ Err e)) → Unless outside (whole ≡ Err e)
   walk_refuses row_states cursor m members e outside w h =
       let n = next_member row_states cursor m members w in
@@ -214,18 +213,18 @@ module _ (k : ℕ) (a : MemoryArea) (b : Bounds) (rows : List SegmentRow) (whole
   pub spot_within : (row_states : List RowState) (cursor m : ℕ) (members : List ℕ) → Walk row_states cursor (m ∷ members) → m < length row_states
   spot_within row_states cursor m members w = let n = next_member row_states cursor m members w in within row_states m n.s n.ss n.spots_there
 
--- the rest of some numbers from an index begins with the one at that index
+-- a suffix of numbers begins with the number at its index
 pub drop_number : (xs : List ℕ) (i : ℕ) → i < length xs → drop i xs ≡ get_or xs i 0 ∷ drop (i + 1) xs
 drop_number xs i lt = rw add-one (drop_at xs i (get_or xs i 0) (slice_get-get_or xs i 0 lt))
 
--- ---- Areas, one after another.
+-- ---- Areas, in order.
 
 pub bind_ok : {A B : Type 0} (r : Result A PlaceFault) (f : A → Result B PlaceFault) (y : B) → (r >>= f) ≡ Ok y → (x : A) × (r ≡ Ok x) × (f x ≡ Ok y)
 bind_ok x f y h = grind (arith, common_steps)
 
 -- ---- Bounds.
 
--- an area's bounds have this start and size
+-- bounds with this start and size
 pub record Spans (start size : ℕ) (b : Bounds) : Type 0 where
   pub starts : b.start ≡ start
   pub ends : b.end ≡ start + size
@@ -234,7 +233,7 @@ pub record Spans (start size : ℕ) (b : Bounds) : Type 0 where
 pub spans_of : (name : List ℕ) (start size : ℕ) (b : Bounds) → area_bounds name start size ≡ Ok b → Spans start size b
 spans_of name start size b h = grind (arith, common_steps)
 
--- the sums of an area with these bounds
+-- the bounds are the values of the area's sums
 pub record Summed (s : SumContextView) (b : Bounds) : Type 0 where
   pub start : ℕ
   pub size : ℕ
@@ -248,7 +247,7 @@ summed_of s b h = grind (arith, common_steps, bind_ok, spans_of)
 pub bounds_order : (s : SumContextView) (b : Bounds) → bounds_in s ≡ Ok b → b.start ≤ b.end
 bounds_order s b h = grind (arith, common_steps)
 
--- ---- Lists with one more item.
+-- ---- Lists with a further element.
 
 pub get_before : {A : Type 0} (xs : List A) (x : A) (j : ℕ) → j < length xs → slice_get (xs ++ x ∷ []) j ≡ slice_get xs j
 get_before [] x j lt = absurd (omega arith)
@@ -265,29 +264,28 @@ get_last xs k x e = let P : ℕ → Type 0 = λ n. slice_get (xs ++ x ∷ []) n 
 pub one_longer : {A : Type 0} (xs : List A) (k : ℕ) (x : A) → length xs ≡ k → length (xs ++ x ∷ []) ≡ k + 1
 one_longer xs k x e = omega (arith, length-append xs (x ∷ []))
 
--- ---- A property that each area has when it is placed, and keeps, holds for all areas.
+-- ---- If each area satisfies a property when it is placed, and later areas preserve the property, all areas satisfy it.
 
 last_or_before : (j k : ℕ) → j < k + 1 → (j ≡ k) ⊎ (j < k)
 last_or_before j k lt = grind (arith, common_steps)
 
--- a property of the area at an index, by the placements of areas so far and the states of
--- rows
+-- a property of the area at an index, by the areas placed so far and the states of rows
 abbrev pub Saying : Type 1
 Saying = ℕ → List AreaPlacement → List RowState → Type 0
 
--- it holds when that area is placed
+-- placing the area establishes the property
 abbrev pub Made : Script → Saying → Type 0
 Made script Q =
     (k : ℕ) (a : MemoryArea) (placed : List AreaPlacement) (ss ts : List RowState) (b : Bounds) (last : ℕ) → slice_get script.areas k ≡ Some a → length placed ≡ k →
     bounds_in (sum_context_at k script.areas script.rows a placed ss) ≡ Ok b → rows_from k a b script.rows ss b.start ≡ Ok (ts, last) → Q k (placed ++ area_placement b last ∷ []) ts
 
--- and still holds when a later one is placed
+-- placing a later area preserves the property
 abbrev pub Kept : Script → Saying → Type 0
 Kept script Q =
     (j k : ℕ) (a : MemoryArea) (placed : List AreaPlacement) (ss ts : List RowState) (b : Bounds) (last : ℕ) → j < k → length placed ≡ k →
     bounds_in (sum_context_at k script.areas script.rows a placed ss) ≡ Ok b → rows_from k a b script.rows ss b.start ≡ Ok (ts, last) → Q j placed ss → Q j (placed ++ area_placement b last ∷ []) ts
 
--- the states of rows at the end, with the property for each area
+-- the final states of rows, and the property for each area
 pub record Holds (Q : ℕ → List AreaPlacement → List RowState → Type 0) (areas : ℕ) (p : Placement) : Type 0 where
   pub row_states : List RowState
   pub rows : p.rows ≡ map row_placement row_states

@@ -1,4 +1,4 @@
--- Sums without names are checked as they are read: areas with only such sums are fixed.
+-- Sums without names are checked while they are read: areas with only such sums are fixed.
 use Rattle.std.proofs.lemmas.Grind.{common_steps}
 use Rattle.std.proofs.Common.{◌≡◌, ◌≤◌, ℕ, ◌+◌, ◌^◌, Bool, false, not, List, [], ◌∷◌, ◌++◌, find, Some, None, is_some, refl, sym, ap, ◌∙◌, Ok, Err, arith, nat_lt, true, Option, unwrap_or, subst}
 use Rattle.std.specs.Prelude.{Result, if◌then◌else◌, ◌||◌}
@@ -89,7 +89,7 @@ areas_fixed all rows (a ∷ rest) (b ∷ bs) k placed ss h =
 pub only_numbers : ConstantSumsDetermineAreas
 only_numbers script needs bounds h = grind (arith, common_steps, areas_fixed)
 
--- ---- An invariant while a script is read.
+-- ---- The invariant of reading a script.
 
 put_after : {A : Type 0} (P : A → Type 0) (xs : List A) (x : A) → AllByRecursion P xs → P x → AllByRecursion P (xs ++ x ∷ [])
 put_after P [] x h p = (p, tt)
@@ -106,14 +106,14 @@ find_all P p (y ∷ ys) x h e = by (p y) e (λ f. find_all P p ys x h.1 f)
 abbrev takes_sum : List ℕ → Bool
 takes_sum a = bytes_eq (codes "start") a || bytes_eq (codes "size") a
 
--- the value of a sum is that of its terms
+-- the value of a sum is the sum of its terms
 abbrev pub IsSummed : AttributeValue → Type 0
 IsSummed g = (takes_sum g.identifier ≡ true) → sum_of_terms g.parsed_terms ≡ Some g.value
 
 abbrev pub AreSummed : List AttributeValue → Type 0
 AreSummed given = AllByRecursion IsSummed given
 
--- an area whose sums have their values, and which ends at the last address or before it
+-- an area whose sums have their values and whose entry has no error
 pub record IsGood (e : ConfigEntry) : Type 0 where
   pub summed : AreSummed e.assignments
   pub ends : area_entry_fault e ≡ None
@@ -121,7 +121,7 @@ pub record IsGood (e : ConfigEntry) : Type 0 where
 abbrev pub AreGood : Entries → Type 0
 AreGood es = AllByRecursion IsGood es.areas
 
--- a condition for the entries of areas only
+-- a condition only for entries of areas
 abbrev InMemory : Block → Type 0 → Type 0
 InMemory memory P = P
 InMemory _ P = ⊤
@@ -141,7 +141,7 @@ Keeps (before_term b e a ps subtracted) = InMemory b (AreSummed e.assignments)
 Keeps (after_term b e a ps) = InMemory b (AreSummed e.assignments)
 Keeps (after_value b e) = InMemory b (AreSummed e.assignments)
 
--- the effect of a token preserves the invariant
+-- the move of a token preserves the invariant
 abbrev Holds : Move → Type 0
 Holds (accepted es p) = AreGood es × Keeps p
 Holds (finished es) = AreGood es
@@ -293,7 +293,7 @@ entries_good bytes es = by (is_too_long bytes)
 abbrev NoNames : List ParsedTerm → Type 0
 NoNames ps = AllByRecursion (λ (p : ParsedTerm). is_some p.number ≡ true) ps
 
--- the terms of parts without names are their numbers
+-- if no parsed term has a name, the terms are their numbers
 record SameSums (ps : List ParsedTerm) (ts : List Term) : Type 0 where
   pub numbers : AllByRecursion (λ (t : Term). (m : ℕ) × (t.operand ≡ operand.Number m)) ts
   pub added : sum_where (λ (t : Term). not t.minus) (term_value [] []) ts ≡ sum_where (λ (p : ParsedTerm). not p.minus) (λ (p : ParsedTerm). unwrap_or p.number 0) ps
@@ -325,7 +325,7 @@ no_name : (ps : List ParsedTerm) → NoNames ps → list_any (λ (p : ParsedTerm
 no_name [] n = refl
 no_name (p ∷ ps) n = ap (λ b. not b || list_any (λ (p : ParsedTerm). not (is_some p.number)) ps) n.0 ∙ no_name ps n.1
 
--- the value of an attribute's sum without names
+-- the value of an attribute whose sum has no names
 record IsNumber (es : Entries) (a : List ℕ) (e : ConfigEntry) (ts : List Term) : Type 0 where
   pub number : ℕ
   pub given_is : number_for a e ≡ Some number

@@ -1,4 +1,4 @@
--- From each state of the grammar a text can continue up to its end.
+-- From each state of the grammar, some text continues up to its end.
 use Rattle.std.proofs.lemmas.Grind.{common_steps}
 use Rattle.std.proofs.lemmas.Bool.Decides.{nat_tests}
 use Rattle.std.proofs.Common.{arith, ◌≡◌, ◌≢◌, ◌≤◌, ◌<◌, ◌⊎◌, inl, inr, ℕ, zero, suc, ◌+◌, Bool, true, false, List, [], ◌∷◌, ◌++◌, cond, find, is_some, length, drop, Option, Some, None, Result, Ok, Err, refl, sym, ap, ◌∙◌, subst}
@@ -22,7 +22,7 @@ use Rattle.script65.proofs.NoContinuation.{after_place}
 use Rattle.script65.proofs.PrecedingText.{AttributeWord, Before, BlockWord, EntryName, SumBegun, TermsAfter, ValueAfter, block_ends, brace_stands, colon_stands, entry_ends, sum_more, value_ends}
 use Rattle.script65.proofs.ConstantSums.{find_all, not_over}
 
--- ---- Tokens of their own lines.
+-- ---- Tokens on lines of their own.
 
 following : (xs ys : List ℕ) → drop (length xs) (xs ++ ys) ≡ ys
 following [] ys = refl
@@ -60,9 +60,9 @@ module _ (other : List ℕ) where
       let n = gap false (drop at other) in
       ap (λ l. (leading_token l).0) (sym (drop-drop n at other) ∙ ap (λ k. drop k (drop at other)) (ap (gap false) e) ∙ ap (drop 1) e)
 
--- ---- The values that an attribute accepts.
+-- ---- Values that attributes accept.
 
--- such a value is unknown for a sum, and an export for the type of a symbol
+-- the value of a sum is `unknown_sum`, and a symbol type is `exported`; any other value fits
 abbrev pub Fits : ValueKind → Value → Type 0
 Fits a_sum v = v ≡ unknown_sum
 Fits (one_of symbol_role) v = v ≡ keyword (role exported)
@@ -138,7 +138,7 @@ shape_of memory e = (value_for (codes "start") e, value_for (codes "size") e)
 shape_of segments e = value_for (codes "load") e
 shape_of symbols e = (value_for (codes "type") e, value_for (codes "value") e)
 
--- with one more attribute
+-- after one further attribute
 abbrev put : List ℕ → List ℕ → Value → Option Value → Option Value
 put w a v o = option_or o (cond (bytes_eq w a) (Some v) None)
 
@@ -205,11 +205,11 @@ none_given (Some g) k = absurd cc
 
 -- ---- Properties of all attributes of entries.
 
--- a number is below 2 ^ 32
+-- a number is at most `2 ^ 32`
 abbrev IsSmall : Option Value → Type 0
 IsSmall o = number_in o ≤ 2 ^ 32
 
--- the type of a symbol has a symbol type as its value
+-- the value of a symbol's type is a symbol type
 abbrev IsTyped : Option Value → Type 0
 IsTyped None = ⊤
 IsTyped (Some v) = is_some (as_role v) ≡ true
@@ -324,9 +324,9 @@ attributes_sound bytes b _ _ _ _ (attribute e f g at mid to h rest) s =
 sound : (bytes : List ℕ) (b : Block) (es : Entries) (e : ConfigEntry) (at : ℕ) → InEntry bytes b es e at → IsSound b (shape_of b e)
 sound bytes b es e at h = attributes_sound bytes b (new_entry e.name e.at) e h.start at h.gives (none_sound b e.name e.at)
 
--- ---- An error at the `;` with such a value was there before.
+-- ---- Such a value causes no new error at the `;`, unless the symbol is an import.
 
--- the error isn't that an attribute is missing
+-- the error isn't `AttributeMissing`
 not_missing : (fault : Fault) → ◌≡◌ {A = Option Fault} (Some AttributeMissing) (Some fault) → fault ≢ AttributeMissing → ⊥
 not_missing fault k ne = ne (let same : AttributeMissing ≡ fault = cc in sym same)
 
@@ -359,7 +359,7 @@ with_value (Some imported) fault k ne = refl
 with_value (Some exported) fault k ne = absurd (no_fault fault k)
 with_value (Some weak) fault k ne = absurd (no_fault fault k)
 
--- the value of an import
+-- the attribute is the value of an import
 abbrev IsValueOf : Block → ConfigEntry → List ℕ → Type 0
 IsValueOf symbols e a = (a ≡ codes "value") × (role_for e ≡ Some imported)
 IsValueOf _ e a = ⊥
@@ -438,7 +438,7 @@ was_wrong symbols w row known =
       ),
     ) known
 
--- ---- Offsets in an attribute are after its name.
+-- ---- The offsets in an attribute are after its name.
 
 perhaps_after : (bytes : List ℕ) (l : Lexeme) (at next : ℕ) → IsOptionalToken bytes l at next → at ≤ next
 perhaps_after bytes l at next (inl s) = omega (arith, after_place bytes at, s.following)
@@ -456,8 +456,7 @@ sum_after bytes start _ _ _ (next_term ps subtracted mid at terms s) = omega (ar
 attribute_after : (bytes : List ℕ) (b : Block) (es : Entries) (e : ConfigEntry) (row : List ℕ × ValueKind) (at : ℕ) (h : InAttribute bytes b es e row at) → h.begin ≤ at
 attribute_after bytes b es e row at h = omega (arith, after_place bytes h.begin, h.stands.following, perhaps_after bytes equals h.after_keyword at h.equals_sign)
 
--- if an entry is wrong with an attribute that has begun, it was wrong before, or it is an
--- import
+-- if an attribute makes an entry wrong, the entry was wrong before, or it is an import with a value
 wrong_before : (bytes : List ℕ) (b : Block) (es : Entries) (e : ConfigEntry) (row : List ℕ × ValueKind) (at offset : ℕ) → InAttribute bytes b es e row at → at ≤ offset → (v : Value) → Fits row.1 v → (ps : List ParsedTerm) (fault : Fault) → entry_fault b (with_attribute (record { identifier = row.0; value = v; parsed_terms = ps }) e) ≡ Some fault → fault ≢ AttributeMissing → HasWrongAttributes bytes offset
 wrong_before bytes b es e row at offset h le v fits ps fault k ne =
     let more : AttributeValue = record { identifier = row.0; value = v; parsed_terms = ps } in
@@ -496,7 +495,7 @@ shape_text segments s = row_text s
 shape_text symbols s = symbol_text s.0 s.1
 
 module _ (other : List ℕ) where
-  -- an entry with one more attribute
+  -- an entry with one further attribute
   record Gives (b : Block) (es : Entries) (e : ConfigEntry) (a : List ℕ) (v : Value) (at : ℕ) (text : List ℕ) : Type 0 where
     pub parsed_terms : List ParsedTerm
     pub next : ℕ
@@ -522,12 +521,12 @@ module _ (other : List ℕ) where
       let g = filled b es e a value_kind n.next text f (record { begin = at; written = w; after_keyword = n.next; inside = h; stands = n.stands; known = known; once = once; equals_sign = inr refl }) n.rest in
       record { parsed_terms = g.parsed_terms; next = g.next; further = omega (arith, n.further, g.further); inside = g.inside; rest = g.rest }
 
-  -- a text ends as a script or, if W holds, at a `;`
+  -- the text is a script, or `W` is true and the text is wrong at a `;`
   module _ (offset : ℕ) (W : Type 0) where
     abbrev Ends : Type 0
     Ends = IsInGrammar other ⊎ (W × HasWrongEnd other offset)
 
-    -- if an entry is wrong, W holds
+    -- if the entry is wrong, `W` is true
     abbrev IfWrong : Block → ConfigEntry → Type 0
     IfWrong b e = (fault : Fault) → entry_fault b e ≡ Some fault → fault ≢ AttributeMissing → W
 
@@ -551,7 +550,7 @@ module _ (other : List ℕ) where
             let ne : fault ≢ AttributeMissing = λ m. whole (k ∙ ap (λ f. Some f) m) in
             inr (wrong fault k ne, record { block = b; entries = es; entry = e; fault = fault; at = at; inside = h; further = le; ends = n.stands.lexeme; wrong = k; whole = ne })
 
-    -- areas
+    -- entries of areas
     area_whole : (u v : Value) → close memory (Some u, Some v) ≡ Some AttributeMissing → ⊥
     area_whole u v = by (nat_lt (2 ^ 32) (number_in (Some u) + number_in (Some v)))
       where
@@ -599,7 +598,7 @@ module _ (other : List ℕ) where
         (value_is (codes "size") with_start e ∙ or_none (value_for (codes "size") e) ∙ k)
         g.inside g.rest
 
-    -- rows
+    -- entries of rows
     row_is : (e : ConfigEntry) (o : Option Value) → value_for (codes "load") e ≡ o → entry_fault segments e ≡ close segments o
     row_is e o j = closing_is segments e ∙ ap (close segments) j
 
@@ -621,7 +620,7 @@ module _ (other : List ℕ) where
         (row_is (with_attribute with_load e) (Some (area (120 ∷ []))) (value_is (codes "load") with_load e ∙ ap (λ (o : Option Value). option_or o (Some (area (120 ∷ [])))) j))
         g.inside g.rest
 
-    -- symbols
+    -- entries of symbols
     symbol_is : (e : ConfigEntry) (o : Option SymbolType) (v : Option Value) → role_for e ≡ o → value_for (codes "value") e ≡ v → entry_fault symbols e ≡ symbol_entry_fault o (is_some v)
     symbol_is e o v j k =
         closing_is symbols e
@@ -669,7 +668,7 @@ module _ (other : List ℕ) where
     closes segments es e at le wrong h d = row_closes (value_for (codes "load") e) es e at le refl h d
     closes symbols es e at le wrong h d = symbol_closes (value_for (codes "type") e) (value_for (codes "value") e) es e at le wrong refl refl h d
 
-    -- with one more attribute
+    -- an entry after one further attribute
     more_closes : (b : Block) (es : Entries) (e : ConfigEntry) (g : AttributeValue) (at : ℕ) → offset ≤ at → IfWrong b (with_attribute g e) → InEntry other b es (with_attribute g e) at → drop at other ≡ 10 ∷ shape_text b (shape_more b (shape_of b e) g.identifier g.value) → Ends
     more_closes b es e g at le wrong h d = closes b es (with_attribute g e) at le wrong h (d ∙ ap (λ s. 10 ∷ shape_text b s) (sym (shape_is b g e)))
 
@@ -678,7 +677,7 @@ module _ (other : List ℕ) where
         let g = filled b es e row.0 row.1 at (shape_text b (shape_more b (shape_of b e) row.0 f.value)) f h d in
         more_closes b es e (record { identifier = row.0; value = f.value; parsed_terms = g.parsed_terms }) g.next (omega (arith, g.further)) (wrong g.parsed_terms) g.inside g.rest
 
-    -- a sum with a name is unknown
+    -- a sum with a name has the value `unknown_sum`
     or_true : (x : Bool) → (x || true) ≡ true
     or_true true = refl
     or_true false = refl
@@ -703,7 +702,7 @@ module _ (other : List ℕ) where
 
 -- ---- After each state.
 
--- a text that can follow a state of another text
+-- a text that can follow this state in any text
 pub record Closed (bytes : List ℕ) (es : Entries) (p : ParseState) (at : ℕ) : Type 0 where
   pub text : List ℕ
   pub ends : (other : List ℕ) → Before other es p at → drop at other ≡ 10 ∷ text → IsInGrammar other ⊎ (HasWrongAttributes bytes at × HasWrongEnd other at)
@@ -711,7 +710,7 @@ pub record Closed (bytes : List ℕ) (es : Entries) (p : ParseState) (at : ℕ) 
 at_least : (n : ℕ) → n ≤ n
 at_least n = omega arith
 
--- an entry without attributes lacks one
+-- the only error of an entry without attributes is `AttributeMissing`
 nothing_given : (b : Block) (e : ConfigEntry) (name : List ℕ) (at : ℕ) → e ≡ new_entry name at → (fault : Fault) → entry_fault b e ≡ Some fault → fault ≢ AttributeMissing → ⊥
 nothing_given memory e name at new fault k ne = not_missing fault (sym (ap (entry_fault memory) new) ∙ k) ne
 nothing_given segments e name at new fault k ne = not_missing fault (sym (ap (entry_fault segments) new) ∙ k) ne

@@ -1,5 +1,4 @@
--- The entries of a placement; no two rows of an area overlap, and each is within
--- it.
+-- A placement has an entry for each area and row; no two rows of an area overlap, and each is within the area.
 use Rattle.std.proofs.lemmas.Grind.{common_steps}
 use Rattle.std.proofs.Common.{◌≡◌, ℕ, suc, ◌+◌, Bool, true, false, cond, List, [], ◌∷◌, ◌++◌, length, map, Option, Result, Ok, Err, refl, sym, ◌∙◌, ap, arith, ◌≢◌, ◌<◌, ◌≤◌, slice_get, Some, unwrap_or, subst}
 use Rattle.std.specs.Prelude.{if◌then◌else◌, ⊤}
@@ -71,7 +70,7 @@ all_placed script needs p h =
     let none : 0 + length script.areas ≡ length script.areas = omega arith in
     (kept.0 ∙ none, kept.1 ∙ length-map script.rows (unplaced_row needs))
 
--- ---- Each segment that is needed has a row.
+-- ---- Each needed segment has a row.
 
 all_exist : (rows : List SegmentRow) (needs : List SegmentNeed) → rows_exist rows needs ≡ Ok tt → AllByRecursion (λ (n : SegmentNeed). has_row rows n.name ≡ true) needs
 all_exist rows [] h = tt
@@ -98,18 +97,18 @@ rows_alike needs others h (r ∷ rows) = grind (arith, common_steps, (rows_alike
 pub same_needs : PlacementDependsOnSizes
 same_needs script needs others names sizes = grind (arith, common_steps, exist_by_name, names_exist, rows_alike)
 
--- ---- No two rows of an area overlap, and each is within it.
+-- ---- No two rows of an area overlap, and each is within the area.
 
--- the address of a row in an area, by its state
+-- the address of a row in an area, by the row's state
 abbrev at_in : ℕ → SegmentRow → RowState → ℕ
 at_in k r s = address_in k r (row_placement s)
 
 abbrev size_in : RowState → ℕ
 size_in s = unwrap_or s.size 0
 
--- a row in an area
+-- ---- A row in an area.
 
--- the address at which a row was placed, at or after the cursor
+-- the address at which the row was placed is at or after the cursor
 pub record Placed (k : ℕ) (b : Bounds) (r : SegmentRow) (s : RowState) (cursor : ℕ) (x : RowState × ℕ) : Type 0 where
   pub at : ℕ
   pub spot : x.0 ≡ state_after_row k r at s
@@ -140,7 +139,7 @@ moved_elsewhere : (j k at : ℕ) (r : SegmentRow) (s : RowState) → j ≢ k →
 unfolding state_after_row is_in
 moved_elsewhere j k at r s apart i = grind (arith, common_steps)
 
--- the rows of one area
+-- ---- The rows of one area.
 
 abbrev AllFrom : ℕ → ℕ → List SegmentRow → List RowState → Type 0
 AllFrom k cursor (r ∷ rs) (s ∷ ss) = (is_in k r ≡ true → cursor ≤ at_in k r s) × AllFrom k cursor rs ss
@@ -160,7 +159,7 @@ after_from k r s end [] ss e h = tt
 after_from k r s end (later ∷ rs) [] e h = tt
 after_from k r s end (later ∷ rs) (q ∷ qs) e h = ((λ i j. let a = e i in let b = h.0 j in omega arith), after_from k r s end rs qs e h.1)
 
--- rows between a cursor and an end that don't overlap
+-- the rows are disjoint, and between the cursor and the end
 abbrev IsGood : ℕ → ℕ → ℕ → List SegmentRow → List RowState → Type 0
 IsGood k cursor end rs ts = AllFrom k cursor rs ts × AreDisjointRows k rs (map row_placement ts) × AllTo k end rs ts
 
@@ -200,7 +199,7 @@ rows_good k a b (r ∷ rs) (s ∷ ss) ts cursor last capacity h = by (is_in k r)
         subst (IsGood k cursor b.end (r ∷ rs)) (ap (λ z. z.0) e)
         (((λ j. absurd (never j)), good.0), (after_from k r s cursor rs y.0 (λ j. absurd (never j)) good.0, good.1), ((λ j. absurd (never j)), good.2))
 
--- the rows of other areas don't change
+-- ---- The rows of other areas are unchanged.
 
 abbrev Same : ℕ → List SegmentRow → List RowState → List RowState → Type 0
 Same k (r ∷ rs) (s ∷ ss) (t ∷ ts) = (size_in t ≡ size_in s) × (is_in k r ≡ true → at_in k r t ≡ at_in k r s) × Same k rs ss ts
@@ -258,7 +257,7 @@ within_same k placement (r ∷ rs) (s ∷ ss) [] same h = absurd same
 within_same k placement (r ∷ rs) (s ∷ ss) (t ∷ ts) same h =
     ((λ i. let w = h.0 i in let e = same.1 i in let z = same.0 in let low = w.0 in let high = w.1 in (omega arith, omega arith)), within_same k placement rs ss ts same.2 h.1)
 
--- all areas
+-- ---- All areas.
 
 abbrev ApartIn : List SegmentRow → ℕ → List AreaPlacement → List RowState → Type 0
 ApartIn rows j placed ss = AreDisjointRows j rows (map row_placement ss)

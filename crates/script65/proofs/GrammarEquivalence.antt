@@ -31,9 +31,9 @@ module _ (bytes : List ℕ) where
   reads_breaks _ _ _ _ (ends es fs p at e) f same = absurd cc
   reads_breaks _ _ _ _ (stops es p at fault offset e) f same = let is : fault_at fault offset ≡ f = cc in subst (SyntaxErrorAt bytes es p at) is (here es p at fault offset e)
 
-  -- ---- A text of the grammar is read.
+  -- ---- A text in the grammar is read.
 
-  -- the result after the effect of a token
+  -- the result after a move
   abbrev pub Follows : ℕ → Move → Result Entries FaultAt → Type 0
   Follows at (accepted fs q) r = Reads bytes fs q (token bytes at).following r
   Follows at (finished fs) r = r ≡ Ok fs
@@ -44,21 +44,21 @@ module _ (bytes : List ℕ) where
   follows _ _ _ _ (ends es fs p at e) = subst (λ m. Follows at m (Ok fs)) (sym e) refl
   follows _ _ _ _ (stops es p at f offset e) = subst (λ m. Follows at m (Err (fault_at f offset))) (sym e) refl
 
-  -- states in which a token has the same effect have the same results
+  -- states with equal moves have equal results
   pub same_moves : (es fs : Entries) (p q : ParseState) (at : ℕ) (r : Result Entries FaultAt) → move_at_offset bytes es p at ≡ move_at_offset bytes fs q at → Reads bytes fs q at r → Reads bytes es p at r
   same_moves es _ p _ _ _ e (next fs gs q s at r h k) = next es gs p s at r (e ∙ h) k
   same_moves es _ p _ _ _ e (ends fs gs q at h) = ends es gs p at (e ∙ h)
   same_moves es _ p _ _ _ e (stops fs q at f offset h) = stops es p at f offset (e ∙ h)
 
-  -- one token of the text
+  -- reading one token of the text
   pub steps : (es fs : Entries) (p q : ParseState) (l : Lexeme) (at to : ℕ) (r : Result Entries FaultAt) → TokenAt bytes l at to → token_move es p l (token bytes at).at ≡ accepted fs q → Reads bytes fs q to r → Reads bytes es p at r
   steps es fs p q l at to r s e k = next es fs p q at r (ap (λ l. token_move es p l (token bytes at).at) s.lexeme ∙ e) (subst (λ n. Reads bytes fs q n r) (sym s.following) k)
 
-  -- the first state rejects a token, or both states treat it in the same way
+  -- the moves are equal, or the first rejects the token with a syntax error
   abbrev Either : Move → Move → ℕ → Type 0
   Either m n at = (n ≡ m) ⊎ (m ≡ rejected SyntaxError at)
 
-  -- no syntax error
+  -- the result is no syntax error
   abbrev pub IsFine : Result Entries FaultAt → Type 0
   IsFine r = (at : ℕ) → r ≡ Err (fault_at SyntaxError at) → ⊥
 
@@ -161,7 +161,7 @@ module _ (bytes : List ℕ) where
   -- ---- A text that is read is in the grammar.
 
   module _ (fs : Entries) where
-    -- the rest of the text after each state, if these are the entries of the text
+    -- the rest of the text after each state, if `fs` are the entries of the text
     record RestBlocks (es : Entries) (at : ℕ) : Type 0 where
       pub end : ℕ
       pub blocks : AreBlocks bytes es fs at end
@@ -242,7 +242,7 @@ module _ (bytes : List ℕ) where
     Rest es (after_term b e a ps) at = SumEnds b es e a ps at ⊎ SignAfter b es e a ps at
     Rest es (after_value b e) at = RestComma b es e at
 
-    -- the rest of the text after a token, by its effect
+    -- the rest of the text after a token, by the token's move
     abbrev After : ℕ → Move → Type 0
     After at (accepted es p) = Rest es p (token bytes at).following
     After at (finished es) = es ≡ fs

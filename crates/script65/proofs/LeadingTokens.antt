@@ -1,4 +1,4 @@
--- The tokens at the front and after the last byte, and last terms.
+-- Lemmas about the tokens at the beginning and after the end of a text, and about last terms.
 use Rattle.std.proofs.Common.{arith, ◌≡◌, ◌<◌, ◌≤◌, ℕ, zero, suc, ◌+◌, ◌-◌, Bool, true, false, List, [], ◌∷◌, length, take, drop, slice_get, slice_index_or, refl, sym, ap, ◌∙◌}
 use Rattle.std.specs.Prelude.{if◌then◌else◌}
 use Rattle.std.specs.Char.{is_ascii_digit}
@@ -34,7 +34,7 @@ passed : {A : Type 0} (x : Bool) (a c : A) → x ≡ false → (if x then a else
 passed true a c h = absurd cc
 passed false a c h = refl
 
--- a word, or a number, at the front
+-- an identifier or a number at the beginning
 pub front_word : (here : List ℕ) → 1 ≤ length here → is_letter (slice_index_or here 0 0) ≡ true → let n = prefix_len is_identifier_byte (take (length here - 1) (drop 1 here)) in (identifier (take (1 + n) here), 1 + n) ≡ leading_token here
 front_word [] le h = absurd (omega arith)
 front_word (b ∷ bs) le h = rw (rest_is b bs) (words b bs ∙ sym (chosen (is_letter b) _ _ h))
@@ -47,7 +47,7 @@ take_none : (n : ℕ) → ◌≡◌ {A = List ℕ} (take n []) []
 take_none zero = refl
 take_none (suc n) = refl
 
--- there is no token after the end of a text
+-- after the end of a text there is no token
 pub none_after : (bytes : List ℕ) (at : ℕ) → length bytes < at → [] ≡ token_bytes bytes (token bytes at)
 unfolding token
 none_after bytes at h =

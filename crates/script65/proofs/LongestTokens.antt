@@ -1,4 +1,4 @@
--- A token is the longest at its offset.
+-- A token is the longest one at its offset.
 use Rattle.std.proofs.lemmas.Grind.{common_steps}
 use Rattle.std.proofs.Common.{arith, ◌≡◌, ◌≤◌, ◌<◌, ℕ, zero, suc, ◌+◌, Bool, true, false, List, [], ◌∷◌, ◌++◌, length, take, drop, find, Option, Some, None, refl, sym, ap, ◌∙◌, subst, cond, eqb-true, eq-eqb, length-append, length-drop}
 use Rattle.std.specs.Option.{option_map_or}
@@ -15,7 +15,7 @@ use Rattle.script65.proofs.ConstantSums.{find_all}
 use Rattle.script65.specs.Laws.{TokensAreLongest}
 use Rattle.script65.specs.Tokens.{Lexeme, IsLeadingToken, IsLongest, SpellsToken, spells_identifier, spells_decimal, spells_hex, spells_string, spells_output, spells_punctuator, identifier, numeral, string, output, none, is_letter, is_identifier_byte, is_string_byte, begins_with, string_after, hex_after, identifier_after, decimal_after, punctuators, punctuator}
 
--- ---- Texts all of whose bytes satisfy a predicate.
+-- ---- Texts whose bytes all satisfy a predicate.
 
 all_front : (p : ℕ → Bool) (xs : List ℕ) → list_all p (take_while p xs) ≡ true
 all_front p [] = refl
@@ -25,7 +25,7 @@ all_front p (x ∷ xs) = by (p x) refl (all_front p xs)
     by false e h = refl
     by true e h = let s : 1 + prefix_len p xs ≡ suc (prefix_len p xs) = omega arith in rw s (ap (λ c. c && list_all p (take (prefix_len p xs) xs)) e ∙ h)
 
--- m bytes at the front satisfy the predicate
+-- if the first `m` bytes satisfy the predicate, `m` is at most the length of the prefix
 at_most : (p : ℕ → Bool) (m : ℕ) (xs : List ℕ) → m ≤ length xs → list_all p (take m xs) ≡ true → m ≤ prefix_len p xs
 at_most p zero xs le h = omega arith
 at_most p (suc m) [] le h = absurd (omega arith)
@@ -72,7 +72,7 @@ some_text _ _ (spells_string text h k m) e = absurd cc
 some_text _ _ spells_output e = absurd cc
 some_text _ _ (spells_punctuator b l h) e = absurd cc
 
--- a property of each token's length, by its first bytes
+-- a property of the length of each token, by the token's first bytes
 module _ (b : ℕ) (bs : List ℕ) (P : ℕ → Type 0) (bound : (m : ℕ) → m ≤ length bs → Begins b (take m bs) → P (suc m)) where
   by_begin : (m : ℕ) (k : Lexeme) → m ≤ length (b ∷ bs) → SpellsToken (take m (b ∷ bs)) k → P m
   by_begin zero k le h = absurd (some_text (take 0 (b ∷ bs)) k h refl)
@@ -81,7 +81,7 @@ module _ (b : ℕ) (bs : List ℕ) (P : ℕ → Type 0) (bound : (m : ℕ) → m
 none_left : (m : ℕ) (xs : List ℕ) → m ≤ length xs → take m xs ≡ [] → m ≡ 0
 none_left m xs le e = omega (arith, length-take m xs, ap length e)
 
--- ---- Predicates that exclude each other.
+-- ---- Mutually exclusive predicates.
 
 letter_no_digit : (b : ℕ) → is_letter b ≡ true → is_ascii_digit b ≡ true → ⊥
 letter_no_digit b h k = grind (arith, common_steps, nat_tests)
@@ -192,7 +192,7 @@ closed zero (c ∷ cs) h = ap (λ c. c ∷ []) (eqb-true c 34 h)
 closed (suc n) [] h = absurd cc
 closed (suc n) (c ∷ cs) h = ap (λ l. c ∷ l) (closed n cs h)
 
--- a text of a string and its end
+-- the text of a string, and its closing quote
 split : (s bs : List ℕ) (m : ℕ) → take m bs ≡ s ++ 34 ∷ [] → list_all is_string_byte s ≡ true → (take_while is_string_byte bs ≡ s) × (begins_with 34 (drop (length s) bs) ≡ true)
 split [] bs zero e h = absurd cc
 split [] [] (suc m) e h = absurd cc
@@ -294,7 +294,7 @@ output_front bs = by bs (begins_with 79 bs) refl
           longest = by_begin 37 (c ∷ cs) (λ m. m ≤ 2) (λ m le b. omega (arith, (output_bound (c ∷ cs) m le b).0));
         }
 
--- ---- Marks.
+-- ---- Punctuators.
 
 found : {A : Type 0} (p : A → Bool) (xs : List A) (x : A) → find p xs ≡ Some x → p x ≡ true
 found p [] x e = absurd cc

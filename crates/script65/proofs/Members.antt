@@ -1,4 +1,4 @@
--- The rows of each area, their names, and the needs of segments.
+-- Lemmas about the rows of each area, their names, and the needs of segments.
 use Rattle.std.proofs.lemmas.Grind.{common_steps}
 use Rattle.std.proofs.Common.{◌≡◌, ◌≢◌, ◌<◌, ◌≤◌, ℕ, ◌+◌, Bool, true, false, List, [], ◌∷◌, ◌++◌, length, drop, get_or, Option, Some, None, refl, sym, ap, ◌∙◌, arith, ◌-◌, cond, map, Err, nat_lt, take, position, MatchOption, length-append}
 use Rattle.std.specs.Prelude.{◌==◌, ◌||◌, if◌then◌else◌, find, codes}
@@ -20,7 +20,7 @@ use Rattle.script65.specs.Internal.Tables.{owner_index_by_ending}
 
 -- ---- The rows of each area.
 
--- one more item, if a test holds
+-- append an index if a test is true
 abbrev pub with_if : Bool → ℕ → List ℕ → List ℕ
 with_if b i m = if b then m ++ i ∷ [] else m
 
@@ -32,7 +32,7 @@ pub added_once : (k i : ℕ) (r : SegmentRow) (o : Option (List ℕ)) → r.load
 unfolding is_in
 added_once k i r o same = grind (arith, common_steps)
 
--- the members so far and those in the rest of the rows
+-- the members so far, and the members among the remaining rows
 abbrev pub Collects : ℕ → List SegmentRow → ℕ → Option (List ℕ) → Type 0
 Collects k rows i o = (m : List ℕ) × (o ≡ Some m) × (m ++ row_indices_in k i (drop i rows) ≡ row_indices_in k 0 rows)
 
@@ -79,7 +79,7 @@ size_step needs i n name old new pos le at e inv = grind (arith, common_steps, s
 pub map_more : {A B : Type 0} (f : A → B) (xs : List A) (i : ℕ) (x : A) (done : List B) (y : B) → i < length xs → x ≡ get_or xs i x → y ≡ f x → done ++ map f (drop i xs) ≡ map f xs → (done ++ y ∷ []) ++ map f (drop (i + 1) xs) ≡ map f xs
 map_more f xs i x done y lt at e inv = grind (arith, common_steps)
 
--- ---- The names for parts of areas and rows.
+-- ---- The names of attributes of areas and rows.
 
 pub match_map : {X : Type 0} (o : Option X) (A P : Type 0) (B Q : X → Type 0) → (A → P) → ((x : X) → B x → Q x) → MatchOption o A B → MatchOption o P Q
 match_map x y z u v f g h = grind (arith, common_steps)
@@ -107,11 +107,11 @@ no_ending rest n end e is = grind (arith, common_steps, length-append, drop-appe
 pub same_rest : (a b : List ℕ) → codes "__" ++ a ≡ codes "__" ++ b → a ≡ b
 same_rest a b e = cc
 
--- the name of an attribute of a named area or row
+-- the name of an attribute of an area or row
 abbrev part_name : List ℕ → List ℕ → List ℕ
 part_name name end = codes "__" ++ (name ++ end)
 
--- names with the same ending are equal exactly if the names in them are
+-- names with the same ending are equal if and only if the names of their owners are
 inner_name : (n m end : List ℕ) → bytes_eq (part_name n end) (part_name m end) ≡ bytes_eq n m
 inner_name n m end = grind (arith, common_steps, append_cancel_right, same_rest, same_bytes, itself, bytes_eq-Decides)
 
@@ -129,7 +129,7 @@ not_less n = grind (arith, nat_tests)
 nowhere : {A : Type 0} (xs : List A) → position (λ x. false) xs ≡ None
 nowhere xs = ap (λ n. cond (nat_lt n (length xs)) (Some n) None) (past_all xs) ∙ ap (λ b. cond b (Some (length xs)) None) (not_less (length xs))
 
--- a name without this form
+-- a name that isn't of this form
 pub named_nowhere : (es : List ConfigEntry) (name end : List ℕ) → ((n : List ℕ) → name ≢ part_name n end) → owner_index_by_ending es name end ≡ None
 named_nowhere es name end never =
     let P : ConfigEntry → Bool = λ e. bytes_eq name (part_name e.name end) in

@@ -1,4 +1,4 @@
--- No text that begins with the tokens up to the one that reveals a first error is a script.
+-- No text that begins with the tokens up to the token of the first error is a script.
 use Rattle.std.proofs.Common.{◌≡◌, ◌∙◌, ◌⊎◌, inl, inr, ◌≤◌, ℕ, Bool, true, false, List, [], Option, Some, None, Result, Ok, Err, refl, sym, ap, subst, arith}
 use Rattle.std.specs.Prelude.{⊤, if◌then◌else◌}
 use Rattle.std.specs.Option.{option_map_or}
@@ -14,7 +14,7 @@ use Rattle.script65.proofs.ReadingUniqueness.{reads_one}
 use Rattle.script65.proofs.TokenByToken.{Reads, next, stops}
 use Rattle.script65.proofs.GrammarEquivalence.{read_of}
 
--- ---- An error is at its token, or it is a number out of range.
+-- ---- An error is at its token, or a number is out of range.
 
 abbrev pub IsAt : ℕ → Move → Type 0
 IsAt at (accepted es p) = ⊤
@@ -112,7 +112,7 @@ unfolding token
 after_place bytes at = omega arith
 
 module _ (bytes : List ℕ) where
-  -- the offset of an error, which each text with the same tokens up to there has too
+  -- the offset of the error; each text with the same tokens up to this offset has the same error
   record Found (es : Entries) (p : ParseState) (at : ℕ) (f : FaultAt) : Type 0 where
     offset : ℕ
     from : at ≤ offset

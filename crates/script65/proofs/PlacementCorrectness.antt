@@ -1,5 +1,4 @@
--- Placing with a cursor computes the placement or the first error of the
--- definition.
+-- Placing with a cursor computes the placement or the first error of the definition.
 use Rattle.std.proofs.lemmas.Grind.{common_steps, div_ceil_times}
 use Rattle.std.proofs.Common.{◌≡◌, ◌≢◌, ◌<◌, ◌≤◌, ℕ, suc, ◌+◌, ◌*◌, Bool, true, false, List, [], ◌∷◌, ◌++◌, map, length, refl, sym, ap, ◌∙◌, subst, Result, Ok, Err, arith, nat_lt, Option, Some, None, unwrap_or, ◌⊎◌, inl, inr, not, ◌-◌, append_assoc, length-append, is_some, mul-le-mul_right, append-nil}
 use Rattle.std.specs.Prelude.{if◌then◌else◌, ⊤, ◌==◌, ◌&&◌}
@@ -31,7 +30,7 @@ use Rattle.script65.proofs.AreaLemmas.{following, whole_of, bounds_order}
 
 -- ---- The end of rows.
 
--- an end, and the end after one more row
+-- the end of the last of these rows that is in the area; otherwise `low`
 abbrev end_from : ℕ → ℕ → List PlacedRow → ℕ
 end_from k low rows = last_or low (ends_in k rows)
 
@@ -137,9 +136,9 @@ begins_same k b r low at h = by (same_or r.run k)
     by (inl e) = begin_running k b r low e ∙ by_begin_same b r.begin r.align low at (h.runs e)
     by (inr n) = begin_loaded k b r low n ∙ least_same (unit_of r.align_load) low (rounded_up low r.align_load) at (rounded_least low r.align_load) (h.loads n)
 
--- ---- A row, as the cursor places it.
+-- ---- The placement of a row by the cursor.
 
--- the state of a row once the areas before an index are placed
+-- the state of a row after the areas before `k` are placed
 abbrev spot : List SegmentNeed → ℕ → PlacedRow → RowState
 spot needs k x = record { size = size_of needs x.0.name; run = if nat_lt x.0.run k then x.1.run else 0; load = if nat_lt x.0.load k then x.1.load else 0 }
 
@@ -176,7 +175,7 @@ row_fails needs k a b r s low f (read_only ro here other) = grind (arith, common
 row_fails needs k a b r s low f (below n at may size begins lt) = let e = begins_same k b r low at begins in let t = may_test k a r may in grind (arith, common_steps, nat_tests, e, t)
 row_fails needs k a b r s low f (over n at more may size begins le some ends) = let e = begins_same k b r low at begins in let t = may_test k a r may in grind (arith, common_steps, nat_tests, e, t)
 
--- ---- The rows of an area, as the cursor places them.
+-- ---- The placement of an area's rows by the cursor.
 
 row_in : (k : ℕ) (a : MemoryArea) (b : Bounds) (r : SegmentRow) (rs : List SegmentRow) (s : RowState) (ss : List RowState) (low : ℕ) (t : RowState) (end : ℕ) → is_in k r ≡ true → row_after k a b r s low ≡ Ok (t, end) → rows_from k a b (r ∷ rs) (s ∷ ss) low ≡ (rows_from k a b rs ss end >>= λ y. Ok (t ∷ y.0, y.1))
 row_in k a b r rs s ss low t end i e = rw (i, e) refl
@@ -200,7 +199,7 @@ module _ (needs : List SegmentNeed) (k : ℕ) (a : MemoryArea) (b : Bounds) wher
   abbrev StandsIn : ℕ → PlacedRow → Type 0
   StandsIn low x = IsPlacedAt k a b x.0 (size_of needs x.0.name) low (address_in k x.0 x.1)
 
-  -- each of these rows that is in the area is after the one before it
+  -- each row that is in the area follows the one before it
   abbrev Goes : ℕ → List PlacedRow → Type 0
   Goes low [] = ⊤
   Goes low (x ∷ xs) = (is_in k x.0 ≡ true → StandsIn low x) × Goes (next k low x) xs
@@ -284,7 +283,7 @@ bounds_agree k a areas rows placed ss us settled =
     by (Ok n) = ap (λ q. q >>= λ size. area_bounds a.name n size) (sum_agrees k a areas rows placed ss us (Some n) a.size settled)
     by (Err f) = refl
 
--- ---- The areas, as the cursor places them.
+-- ---- The placement of the areas by the cursor.
 
 abbrev areas_of : List PlacedArea → List MemoryArea
 areas_of xs = map (λ (x : PlacedArea). x.0) xs
@@ -316,7 +315,7 @@ count_more : (before : List PlacedArea) (x : PlacedArea) → length (before ++ x
 count_more before x = omega (arith, length-append before (x ∷ []))
 
 module _ (script : Script) (needs : List SegmentNeed) (rows : List PlacedRow) (these : rows_of rows ≡ script.rows) (each : AllByRecursion (IsRow needs) rows) where
-  -- the bounds are the same by the states of rows and by their placements
+  -- the bounds by the states of rows are the bounds by their placements
   bounds_there : (before : List PlacedArea) (a : MemoryArea) → bounds_in (looked (length before) a script.areas script.rows (ranges_of before) (map (spot needs (length before)) rows) None) ≡ bounds_in (sum_context script before rows a)
   bounds_there before a =
       let settled : Settled (length before) script.rows (map (full needs) rows) (map (spot needs (length before)) rows) = subst (λ l. Settled (length before) l (map (full needs) rows) (map (spot needs (length before)) rows)) these (full_settled needs (length before) rows) in
@@ -378,7 +377,7 @@ one_lacks script (m ∷ before) after n h no_row = rw h.0 (one_lacks script befo
 from_needs : (script : Script) (needs : List SegmentNeed) → HaveRows script needs → place_of script needs ≡ areas_from 0 script.areas script.rows script.areas [] (map (unplaced_row needs) script.rows)
 from_needs script needs h = ap (λ q. q >>= λ u. areas_from 0 script.areas script.rows script.areas [] (map (unplaced_row needs) script.rows)) (all_have script needs h)
 
--- ---- A placement by the definition is the one that the cursor computes.
+-- ---- A placement by the definition is the placement that the cursor computes.
 
 shown : (needs : List SegmentNeed) (n : ℕ) (xs : List PlacedRow) → AllByRecursion (IsRow needs) xs → AllByRecursion (HasZeroAddress n) xs → map row_placement (map (spot needs n) xs) ≡ places_of xs
 shown needs n [] each other = refl
@@ -464,7 +463,7 @@ row_comes k a b r o low capacity = by (may_or k a r)
     by (inl may) = sized_comes k a b r o low capacity may
     by (inr h) = inr (ReadOnlyArea r.name, read_only h.0 h.1 h.2)
 
--- ---- Rows of which only those of one area change.
+-- ---- Only the rows of one area change.
 
 record Fresh (k : ℕ) (x y : PlacedRow) : Type 0 where
   pub row : y.0 ≡ x.0
@@ -572,7 +571,7 @@ settled_fresh needs j k (x ∷ xs) (y ∷ ys) le f =
       settled_fresh needs j k xs ys le f.1,
     )
 
--- ---- The rows of an area have addresses, or one has the first error.
+-- ---- The rows of an area have addresses, or one of them has the first error.
 
 record FaultFrom (needs : List SegmentNeed) (k : ℕ) (a : MemoryArea) (b : Bounds) (low : ℕ) (rows : List PlacedRow) : Type 0 where
   pub f : PlaceFault
@@ -745,7 +744,7 @@ module _ (script : Script) (needs : List SegmentNeed) (have : HaveRows script ne
               let whole : areas_of (areas ++ x ∷ []) ++ rest ≡ script.areas = ap (λ l. l ++ rest) (areas_more areas x) ∙ append_assoc (areas_of areas) (a ∷ []) rest ∙ all in
               again (areas ++ x ∷ []) ys (stand_more script needs areas ys x stand one) whole away
 
--- rows before any is placed
+-- a row before any area is placed
 abbrev unmoved : List SegmentNeed → SegmentRow → PlacedRow
 unmoved needs r = (r, record { load = 0; run = 0; size = unwrap_or (size_of needs r.name) 0 })
 

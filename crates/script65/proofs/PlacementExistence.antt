@@ -1,4 +1,4 @@
--- There is a placement, or a first error that isn't a system error.
+-- There is a placement, or a first error that is no system error.
 use Rattle.std.proofs.Common.{◌+◌, ◌++◌, ℕ, List, [], ◌∷◌, Option, Some, None, refl, map}
 use Rattle.base65.proofs.SystemErrors.{Own, bad, choice, good, next}
 use Rattle.script65.proofs.PlacementCorrectness.{one_placement}

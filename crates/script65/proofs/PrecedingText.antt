@@ -1,4 +1,4 @@
--- The text before each state of the grammar, and the errors of tokens after it.
+-- The text before each state of the grammar, and the errors of the tokens after it.
 use Rattle.std.proofs.Common.{◌≡◌, ◌⊎◌, inl, inr, ℕ, Bool, true, false, List, [], ◌∷◌, ◌++◌, Option, Some, None, Result, Ok, Err, refl, sym, ap, ◌∙◌, subst}
 use Rattle.std.specs.Prelude.{IfErr, if◌then◌else◌, nat_le, ◌&&◌, ⊤}
 use Rattle.std.specs.Option.{option_map_or}
@@ -14,7 +14,7 @@ use Rattle.script65.specs.FirstFaults.{HasFault, InAttribute, InBlock, InEntry, 
 use Rattle.script65.specs.Grammar.{AreAttributes, AreBlocks, AreEntries, AreTerms, IsAttribute, IsBlock, IsEntry, IsTerm, IsValue, IsOptionalToken, TokenAt, attribute, block, entry, more, no_attribute, no_block, no_entry, one, sign}
 use Rattle.script65.specs.Tokens.{Lexeme, brace, colon, comma, end_brace, equals, minus, numeral, output, plus, semicolon, string, the_end, token, identifier}
 
--- ---- Errors of a token that an attribute or a sum doesn't accept.
+-- ---- Errors of tokens that an attribute or a sum doesn't accept.
 
 abbrev pub IsOfValue : Fault → Type 0
 IsOfValue f = (f ≡ SyntaxError) ⊎ (f ≡ OutOfRange)
@@ -54,7 +54,7 @@ part_faults subtracted at (identifier w) = tt
 part_faults subtracted at _ = inl refl
 
 module _ (bytes : List ℕ) where
-  -- ---- One more at the end.
+  -- ---- Appending one further element.
 
   pub blocks_more : (es fs gs : Entries) (at mid next : ℕ) → AreBlocks bytes es fs at mid → IsBlock bytes fs gs mid next → AreBlocks bytes es gs at next
   blocks_more _ _ gs _ _ next (no_block es at) h = block es gs gs at next next h (no_block gs next)
@@ -132,7 +132,7 @@ module _ (bytes : List ℕ) where
   Before es (after_term b e a ps) at = TermsAfter b es e a ps at
   Before es (after_value b e) at = ValueAfter b es e at
 
-  -- likewise after a token; or its error is a syntax error, or one by the text before it
+  -- the text before the state that follows a token; a rejection is a syntax error or an error by the text before it
   abbrev pub Following : ℕ → Move → Type 0
   Following at (accepted es p) = Before es p (token bytes at).following
   Following at (finished es) = ⊤
@@ -141,7 +141,7 @@ module _ (bytes : List ℕ) where
   stood : (l : Lexeme) (at : ℕ) → (token bytes at).lexeme ≡ l → TokenAt bytes l at (token bytes at).following
   stood l at e = record { lexeme = e; following = refl }
 
-  -- a block begins
+  -- the beginning of a block
   pub brace_stands : (b : Block) (es : Entries) (at next : ℕ) → BlockWord b es at → TokenAt bytes brace at next → InBlock bytes b es next
   brace_stands b es at next h s = record {
     before = es;
@@ -156,7 +156,7 @@ module _ (bytes : List ℕ) where
     entries_before = no_entry es next;
   }
 
-  -- an entry begins
+  -- the beginning of an entry
   pub colon_stands : (b : Block) (es : Entries) (e : ConfigEntry) (at next : ℕ) → EntryName b es e at → TokenAt bytes colon at next → InEntry bytes b es e next
   colon_stands b es e at next h s = record {
     begin = h.begin;
@@ -170,7 +170,7 @@ module _ (bytes : List ℕ) where
     gives = subst (λ o. AreAttributes bytes b o e next next) h.new (no_attribute e next);
   }
 
-  -- an attribute ends, with an optional `,`
+  -- the end of an attribute, with an optional `,`
   pub value_ends : (b : Block) (es : Entries) (e : ConfigEntry) (at next : ℕ) → ValueAfter b es e at → IsOptionalToken bytes comma at next → InEntry bytes b es e next
   value_ends b es e at next h c =
       let word_is = h.inside in
@@ -201,7 +201,7 @@ module _ (bytes : List ℕ) where
       } in
       subst (λ e. InEntry bytes b es e next) (sym h.same) whole
 
-  -- an entry ends
+  -- the end of an entry
   pub entry_ends : (b : Block) (es : Entries) (e : ConfigEntry) (at next : ℕ) → InEntry bytes b es e at → entry_fault b e ≡ None → TokenAt bytes semicolon at next → InBlock bytes b (with_entry b e es) next
   entry_ends b es e at next h whole s =
       let block_is = h.inside in
@@ -230,7 +230,7 @@ module _ (bytes : List ℕ) where
         entries_before = entries_more b block_is.before es e block_is.start h.begin next block_is.entries_before is;
       }
 
-  -- a block ends
+  -- the end of a block
   pub block_ends : (b : Block) (es : Entries) (at next : ℕ) → InBlock bytes b es at → TokenAt bytes end_brace at next → AreBlocks bytes no_entries es 0 next
   block_ends b es at next h s =
       let is : IsBlock bytes h.before es h.begin next = record {
@@ -303,7 +303,7 @@ module _ (bytes : List ℕ) where
   give_leads es b f row at (Err fault) k is h (inr range) =
       inr (subst (λ f. HasFault bytes (fault_at f (token bytes at).at)) (sym range) (wrong_number b es f row at h (subst (λ (f : Fault). value_of row.1 (token bytes at).lexeme ≡ Err f) range k)))
 
-  -- a term, which ends a sum or not
+  -- a term, at the end of a sum or before a sign
   term_leads : (es : Entries) (b : Block) (f : ConfigEntry) (a : List ℕ) (ps : List ParsedTerm) (subtracted : Bool) (at : ℕ) → SumBegun b es f a ps subtracted at → Following at (breaks.add_term es b f a ps (token bytes at).at (parsed_term subtracted (token bytes at).at (token bytes at).lexeme))
   term_leads es b f a ps subtracted at h = by (parsed_term subtracted (token bytes at).at (token bytes at).lexeme) refl (part_faults subtracted (token bytes at).at (token bytes at).lexeme)
     where

@@ -1,4 +1,4 @@
--- A text has one script, or one first error.
+-- A text has exactly one result: a script or a first error.
 use Rattle.std.proofs.Common.{arith, ◌≡◌, ◌≤◌, ◌<◌, ℕ, zero, suc, ◌+◌, Bool, true, false, List, [], ◌∷◌, length, length-drop, drop, Option, Some, None, refl, sym, ap, ◌∙◌, subst, ◌⊎◌, inl, inr}
 use Rattle.std.specs.Prelude.{◌==◌, ◌&&◌, not, if◌then◌else◌, Result, Ok, Err}
 use Rattle.std.specs.List.{list_any, take_while}
@@ -19,7 +19,7 @@ use Rattle.script65.proofs.GrammarEquivalence.{Follows, follows, reads_of}
 use Rattle.script65.specs.Scripts.{IsParseResult, IsScript, UnlessTooLong, is_too_long, script_from, with_line}
 use Rattle.script65.specs.Tokens.{Lexeme, the_end, leading_token, gap, hex_after, punctuator, string_after, token, begins_with, is_letter, is_string_byte, is_identifier_byte, identifier_after, decimal_after, output, none}
 
--- ---- At most one.
+-- ---- At most one result.
 
 module _ (bytes : List ℕ) where
   pub reads_one : (es : Entries) (p : ParseState) (at : ℕ) (r q : Result Entries FaultAt) → Reads bytes es p at r → Reads bytes es p at q → r ≡ q
@@ -37,9 +37,9 @@ module _ (bytes : List ℕ) where
 pub one_reading : ReadingIsUnique
 one_reading bytes r q h k = h.2 ∙ ap (λ x. with_line bytes (x >>= script_from)) (entries_one bytes h.0 k.0 (reads_of bytes h.0 h.1) (reads_of bytes k.0 k.1)) ∙ sym k.2
 
--- ---- At least one.
+-- ---- At least one result.
 
--- a token has at least one byte, unless it is the end
+-- a token that isn't the end has at least one byte
 pub some_bytes : (b : ℕ) (bs : List ℕ) → 0 < (leading_token (b ∷ bs)).1
 some_bytes b bs = by (is_letter b) (is_ascii_digit b) (b == 36) (b == 34) (b == 37)
   where
@@ -63,7 +63,7 @@ some_bytes b bs = by (is_letter b) (is_ascii_digit b) (b == 36) (b == 34) (b == 
     by false false false false true = capital (begins_with 79 bs)
     by false false false false false = omega arith
 
--- the token has a next state
+-- the token is accepted
 abbrev pub Leads : Move → Type 0
 Leads (accepted es p) = Unit {0}
 Leads _ = ⊥
@@ -89,7 +89,7 @@ end_leads es (after_term b e a ps) at h = no_sum es b e a ps (sum_of_terms ps) a
 end_leads es (after_value b e) at h = h
 
 module _ (bytes : List ℕ) where
-  -- a token that isn't the end ends after the offset
+  -- a token that isn't the end ends after its offset
   further : (at : ℕ) → ((token bytes at).lexeme ≡ the_end) ⊎ ((at < length bytes) × (at < (token bytes at).following))
   unfolding token
   further at = by (drop (at + gap false (drop at bytes)) bytes) refl
@@ -98,7 +98,7 @@ module _ (bytes : List ℕ) where
       by [] e = inl refl
       by (b ∷ bs) e = inr (omega (arith, length-drop (at + gap false (drop at bytes)) bytes, ap length e), omega (arith, some_bytes b bs))
 
-  -- a result from each offset from which at most n bytes are left
+  -- there is a result from each offset with at most `n` remaining bytes
   abbrev Some_from : ℕ → Type 0
   Some_from n = (at : ℕ) (es : Entries) (p : ParseState) → length bytes ≤ at + n → (r : Result Entries FaultAt) × Reads bytes es p at r
 
@@ -131,7 +131,7 @@ module _ (bytes : List ℕ) where
 
 -- ---- Texts that are too long.
 
--- they all have the same error
+-- all texts that are too long have the same error
 pub long_texts : (text bytes : List ℕ) (q : Result Script ScriptFault) → is_too_long text ≡ true → is_too_long bytes ≡ true → IsScript text q → IsScript bytes q
 long_texts text bytes q h k s =
     let long : Result Entries FaultAt = Err (fault_at TooLong 0) in

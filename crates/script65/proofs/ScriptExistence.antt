@@ -19,12 +19,12 @@ use Rattle.script65.specs.Tokens.{Lexeme, brace, colon, comma, end_brace, equals
 use Rattle.script65.proofs.ReadingUniqueness.{entries_some}
 use Rattle.script65.proofs.GrammarEquivalence.{has_of}
 
--- ---- The effect of a token.
+-- ---- Moves.
 
 abbrev IsOwnFault : Fault → Type 0
 IsOwnFault f = is_memory_fault f ≡ false
 
--- the token is allowed, or its error isn't *out of memory*
+-- the token is accepted, or its error isn't *out of memory*
 abbrev Goes : Move → Type 0
 Goes (accepted es p) = ⊤
 Goes (finished es) = ⊤

@@ -1,5 +1,4 @@
--- The effects of tokens one after another, and that the entry that isn't closed yet keeps a new
--- name.
+-- Each accepted token preserves that the name of the open entry is new.
 use Rattle.std.proofs.Common.{◌≡◌, ◌≢◌, ℕ, Bool, true, false, List, [], Option, Some, None, Result, Ok, Err, refl, subst, sym}
 use Rattle.std.specs.Prelude.{if◌then◌else◌, ⊤}
 use Rattle.base65.specs.Outcome.{Unless}
@@ -106,7 +105,7 @@ module _ (es : Entries) (at : ℕ) where
   fresh (after_term b e a ps) l h = signs b e a ps l h
   fresh (after_value b e) l h = following b e h l
 
--- ---- Step by step.
+-- ---- One step.
 
 module _ (bytes : List ℕ) (es : Entries) (p : ParseState) (at : ℕ) (t : Token) (is : t ≡ token bytes at) where
   goes_on : (fs : Entries) (o : Option ParseState) (q : ParseState) → RefinesMoveOrEnd fs (Ok o) (token_move es p t.lexeme t.at) → o ≡ Some q → token_move es p t.lexeme t.at ≡ accepted fs q

@@ -1,4 +1,4 @@
--- Each area has the start and size of its sums under the placement itself.
+-- Each area has the start and size that its sums have by the placement itself.
 use Rattle.std.proofs.lemmas.Grind.{common_steps}
 use Rattle.std.proofs.Common.{◌≡◌, ◌<◌, ◌≤◌, ℕ, zero, suc, Bool, true, false, List, [], ◌∷◌, map, slice_get, refl, ap, ◌∙◌, subst, Ok, arith, ◌+◌, ◌^◌, not, ◌++◌, find, length, Option, Some, None, is_some, sym}
 use Rattle.std.specs.Prelude.{Result, if◌then◌else◌, ⊤}
@@ -27,9 +27,9 @@ use Rattle.script65.specs.PlacingLaws.{HasSum, AreasSatisfySums}
 use Rattle.script65.specs.declared.placement.AreaPlacement.{AreaPlacement}
 use Rattle.script65.specs.declared.placement.RowPlacement.{RowPlacement}
 
--- ---- The addresses of rows in the areas before an index don't change.
+-- ---- The addresses of rows in the areas before an index are unchanged.
 
--- a row whose areas are before an index, with its state before and after
+-- the states of a row agree on its size and on its addresses in the areas before `k`
 pub record Stays (k : ℕ) (r : SegmentRow) (s t : RowState) : Type 0 where
   pub size : t.size ≡ s.size
   pub run : r.run < k → t.run ≡ s.run
@@ -58,7 +58,7 @@ front s rest = rest >>= λ y. Ok (s ∷ y.0, y.1)
 same_pair : (x y : Reached) → ◌≡◌ {A = Result Reached PlaceFault} (Ok x) (Ok y) → x ≡ y
 same_pair x y h = cc
 
--- placing the rows of an area changes none in the areas before an index that isn't after it
+-- placing the rows of area `k` doesn't change the addresses in the areas before `j`, if `j` is at most `k`
 pub rows_settled : (j k : ℕ) (a : MemoryArea) (b : Bounds) (rs : List SegmentRow) (ss ts : List RowState) (cursor last : ℕ) → j ≤ k → rows_from k a b rs ss cursor ≡ Ok (ts, last) → Settled j rs ss ts
 rows_settled j k a b [] ss ts cursor last le h = tt
 rows_settled j k a b (r ∷ rs) [] ts cursor last le h = grind (arith, common_steps, same_pair)
@@ -82,7 +82,7 @@ rows_settled j k a b (r ∷ rs) (s ∷ ss) ts cursor last le h = by (is_in k r) 
 part_stays : (k : ℕ) (part : RowAttribute) (r : SegmentRow) (s t : RowState) → Stays k r s t → is_row_known k part r ≡ true → row_value part (row_placement t) ≡ row_value part (row_placement s)
 part_stays k x r s t h known = grind (arith, common_steps)
 
--- known values of a row don't change
+-- known values of a row are unchanged
 pub value_stays : (k : ℕ) (part : RowAttribute) (rs : List SegmentRow) (ss ts : List RowState) (i : ℕ) → Settled k rs ss ts → option_map_or (is_row_known k part) (slice_get rs i) false ≡ true → option_map_or (row_value part) (slice_get (map row_placement ts) i) 0 ≡ option_map_or (row_value part) (slice_get (map row_placement ss) i) 0
 value_stays k part [] ss ts i h known = absurd cc
 value_stays k part (r ∷ rs) [] [] i h known = refl
@@ -100,7 +100,7 @@ pub none_found : (known : Term → Bool) (ts : List Term) → find (λ t. not (k
 none_found known [] h = refl
 none_found known (t ∷ ts) h = grind (arith, common_steps, (none_found known ts))
 
--- all terms are known, and this is their sum
+-- all terms are known, and `n` is their sum
 record Found (s : SumContextView) (ts : List Term) (n : ℕ) : Type 0 where
   pub known : list_all (is_known s.k (is_some s.start) s.rows) ts ≡ true
   pub sum : HasSum (known_placements s) s.row_placements ts n
@@ -109,16 +109,15 @@ record Found (s : SumContextView) (ts : List Term) (n : ℕ) : Type 0 where
 found_of : (s : SumContextView) (ts : List Term) (n : ℕ) → sum_in s ts ≡ Ok n → Found s ts n
 found_of s ts n h = grind (arith, common_steps, the_difference, none_found)
 
--- ---- The values of known terms don't change.
+-- ---- The values of known terms are unchanged.
 
--- the sum of terms under other placements, if known terms have the same values there
+-- sums by values that agree on the known terms are equal
 module _ (known : Term → Bool) (v w : Term → ℕ) (same : (t : Term) → known t ≡ true → w t ≡ v t) where
   pub come_same : (is : Term → Bool) (ts : List Term) → list_all known ts ≡ true → sum_where is w ts ≡ sum_where is v ts
   come_same is [] h = refl
   come_same is (t ∷ ts) h = grind (arith, common_steps, (come_same is ts))
 
--- placements of areas that agree on those before an index, and on the start of the one at
--- the index
+-- placements that agree on the areas before `k`, and, if `begun`, on the start of area `k`
 pub record Agree (k : ℕ) (begun : Bool) (ps qs : List AreaPlacement) : Type 0 where
   pub before : (j : ℕ) → j < k → slice_get qs j ≡ slice_get ps j
   pub own : begun ≡ true → option_map_or (area_value area.Start) (slice_get qs k) 0 ≡ option_map_or (area_value area.Start) (slice_get ps k) 0
@@ -134,7 +133,7 @@ operand_same k begun rows ps qs ss ts (operand.Row i part) a s known = value_sta
 sum_same : (k : ℕ) (begun : Bool) (rows : List SegmentRow) (ps qs : List AreaPlacement) (ss us : List RowState) (ts : List Term) (n : ℕ) → Agree k begun ps qs → Settled k rows ss us → list_all (is_known k begun rows) ts ≡ true → HasSum ps (map row_placement ss) ts n → HasSum qs (map row_placement us) ts n
 sum_same k begun rows ps qs ss us ts n a s known h = grind (arith, common_steps, operand_same, come_same)
 
--- ---- Area by area.
+-- ---- Induction on the areas.
 
 record SumsSo (k : ℕ) (rows : List SegmentRow) (placed : List AreaPlacement) (ss : List RowState) (a : MemoryArea) (placement : AreaPlacement) : Type 0 where
   pub start : HasSum placed (map row_placement ss) a.start placement.start
@@ -148,7 +147,7 @@ record SumsSo (k : ℕ) (rows : List SegmentRow) (placed : List AreaPlacement) (
 abbrev SumsIn : Script → ℕ → List AreaPlacement → List RowState → Type 0
 SumsIn script j placed ss = (a : MemoryArea) (placement : AreaPlacement) → slice_get script.areas j ≡ Some a → slice_get placed j ≡ Some placement → SumsSo j script.rows placed ss a placement
 
--- with one more placement, the ones before it agree
+-- appending a placement preserves the earlier ones
 longer_agrees : (k : ℕ) (begun : Bool) (placed : List AreaPlacement) (x : AreaPlacement) → k < length placed → Agree k begun placed (placed ++ x ∷ [])
 longer_agrees k begun placed x lt = grind (arith, common_steps, get_before)
 

@@ -20,7 +20,7 @@ use Rattle.script65.proofs.PrecedingText.{Before, Following, fault_of, moved}
 use Rattle.script65.proofs.TokenByToken.{Reads, next, stops}
 use Rattle.script65.proofs.GrammarEquivalence.{is_read, read_of, written_reads}
 
--- ---- The end and a byte that begins no token have no next state.
+-- ---- The end, and a byte with which no token begins, have no next state.
 
 no_value : (es : Entries) (b : Block) (e : ConfigEntry) (a : List ℕ) (t : ValueKind) (at : ℕ) → Leads (attribute_value es b e a t none at) → ⊥
 no_value es b e a a_sum at h = h
@@ -58,7 +58,7 @@ module _ (bytes : List ℕ) where
   itself other _ _ (no_token at) = no_token at
   itself other _ _ (same_token at to e rest) = same_token at to refl (itself other (token bytes at).following to rest)
 
-  -- the state after allowed tokens, up to one that isn't allowed
+  -- the state after accepted tokens, before the token that is rejected
   record Reached (es : Entries) (p : ParseState) (at : ℕ) (f : FaultAt) : Type 0 where
     pub fs : Entries
     pub q : ParseState
@@ -104,7 +104,7 @@ module _ (bytes : List ℕ) where
     reads = λ other u s k. k;
   }
 
-  -- ---- The first such token.
+  -- ---- The first rejected token.
 
   module _ (f : FaultAt) (h : SyntaxErrorAt bytes no_entries between_blocks 0 f) where
     there : Reached no_entries between_blocks 0 f
@@ -162,13 +162,13 @@ module _ (bytes : List ℕ) where
           let same : fault_at SyntaxError (token bytes (there f h).offset).at ≡ f = ap (λ n. fault_at SyntaxError n) (found_there f h syntax) ∙ ap (λ (c : Fault). fault_at c f.at) (sym syntax) in
           subst (IsFirstScriptFault bytes) same (syntax_error (there f h).offset (no_fault f h syntax) (least f h syntax))
 
-  -- ---- Only one token is the first such token.
+  -- ---- The first rejected token is unique.
 
   goes_less : (text : List ℕ) (p q : ℕ) → p ≤ q → IsInGrammar text ⊎ (HasWrongAttributes bytes q × HasWrongEnd text q) → IsInGrammar text ⊎ HasWrongEnd text p
   goes_less text p q le (inl w) = inl w
   goes_less text p q le (inr w) = inr (record { block = w.1.block; entries = w.1.entries; entry = w.1.entry; fault = w.1.fault; at = w.1.at; inside = w.1.inside; further = omega (arith, w.1.further); ends = w.1.ends; wrong = w.1.wrong; whole = w.1.whole })
 
-  -- of two offsets of tokens one is after the other, or they are equal
+  -- a token ends at or after its offset
   after_token : (at : ℕ) → at ≤ (token bytes at).following
   unfolding token
   after_token at = omega arith
@@ -177,7 +177,7 @@ module _ (bytes : List ℕ) where
   along x _ _ (no_token at) = omega arith
   along x _ _ (same_token at to e rest) = omega (arith, after_token at, along x (token bytes at).following to rest)
 
-  -- a text has the same tokens up to an offset and at it
+  -- the text has the same tokens up to an offset and at it
   record Passes (x : List ℕ) (at offset : ℕ) : Type 0 where
     pub same : SameTokensUpTo bytes x at offset
     pub there : token x offset ≡ token bytes offset

@@ -17,7 +17,7 @@ module _ {X Y Z : Type 0} (f : X → Y) (g : X → Z) (p : Y → Bool) (q : Z �
   firsts [] h = refl
   firsts (x ∷ xs) h = rw (h.0, firsts xs h.1) refl
 
-  -- the first index is the same in two lists mapped from one
+  -- the first index is the same in two lists that are mapped from one list
   pub position-same : (xs : List X) → AllByRecursion (λ (x : X). p (f x) ≡ q (g x)) xs → position p (map f xs) ≡ position q (map g xs)
   position-same xs h = ap (λ n. cond (nat_lt n (length (map f xs))) (Some n) None) (firsts xs h) ∙ ap (λ m. cond (nat_lt (position_or_len q (map g xs)) m) (Some (position_or_len q (map g xs))) None) (lengths xs)
 
@@ -25,13 +25,13 @@ module _ {K V : Type 0} (p : K → Bool) (q : V → Bool) where
   abbrev Same : K × V → Type 0
   Same e = p e.0 ≡ q e.1
 
-  -- a key is found exactly if an item satisfies the test
+  -- a key is found if and only if an element satisfies the test
   pub is_some-lookup : (es : List (K × V)) → AllByRecursion Same es → is_some (lookup p es) ≡ list_any q (map (λ e. e.1) es)
   is_some-lookup [] h = refl
   is_some-lookup (e ∷ es) h = grind (arith, common_steps, (is_some-lookup es h.1))
 
 module _ {K V Z : Type 0} (eq : K → K → Bool) (g : K × V → Z) (q : V → Bool) (k : K) (v : V) where
-  -- a new key is inserted last
+  -- a new key is appended
   pub map-insert_entry : (es : List (K × V)) → AllByRecursion (Same (eq k) q) es → list_any q (map (λ e. e.1) es) ≡ false → map g (insert_entry eq es k v) ≡ map g es ++ g (k, v) ∷ []
   map-insert_entry [] same h = refl
   map-insert_entry (e ∷ es) same h = grind (arith, common_steps, (map-insert_entry es same.1))
@@ -47,7 +47,7 @@ named_too [] e h own = (own, tt)
 named_too (f ∷ es) e h own = (h.0, named_too es e h.1 own)
 
 module _ {K : Type 0} (key : K → List ℕ) (eq : K → K → Bool) (is : (k l : K) → eq k l ≡ bytes_eq (key k) (key l)) where
-  -- an entry with a new name is inserted last
+  -- an entry with a new name is appended
   pub pushed : (es : List (K × ConfigEntry)) (k : K) (v : ConfigEntry) (old : List ConfigEntry) → map (λ e. e.1) es ≡ old → key k ≡ v.name → KeysMatchNames (map (λ e. (key e.0, e.1)) es) → list_any (λ (e : ConfigEntry). bytes_eq v.name e.name) old ≡ false → {Z : Type 0} (g : K × ConfigEntry → Z) → map g (insert_entry eq es k v) ≡ map g es ++ g (k, v) ∷ []
   pushed es k v old seen own named new g = map-insert_entry eq g (λ (e : ConfigEntry). bytes_eq v.name e.name) k v es (same es named) (rw seen new)
     where

@@ -17,7 +17,7 @@ use Rattle.script65.proofs.PrecedingText.{fault_of}
 use Rattle.script65.proofs.TokenByToken.{Reads, stops}
 use Rattle.script65.proofs.GrammarEquivalence.{IsFine, attributes_read, blocks_read, entries_read, equals_passes, is_read, passes, same_moves, sign_goes, steps, terms_read}
 
--- ---- Errors that are no syntax errors.
+-- ---- Errors other than syntax errors.
 
 fine_at : (fault : Fault) (offset : ℕ) → (fault ≡ SyntaxError → ⊥) → (at : ℕ) → ◌≡◌ {A = Result Entries FaultAt} (Err (fault_at fault offset)) (Err (fault_at SyntaxError at)) → ⊥
 fine_at fault offset own at e = let same : fault_at fault offset ≡ fault_at SyntaxError at = cc in own (ap (λ (s : FaultAt). s.fault) same)
@@ -103,7 +103,7 @@ module _ (bytes : List ℕ) where
         begins (inl s) = steps bytes es es (after_keyword b e row) (before_value b e row) equals h.after_keyword at r s refl k
         begins (inr same) = passes bytes es r fine (before_value b e row) (after_keyword b e row) h.after_keyword (equals_passes bytes es b e row.0 row.1 (token bytes h.after_keyword).lexeme (token bytes h.after_keyword).at) (subst (λ n. Reads bytes es (before_value b e row) n r) (sym same) k)
 
-    -- before the next term
+    -- before the next term of a sum
     sum_read : (b : Block) (es : Entries) (e : ConfigEntry) (a : List ℕ) (start at : ℕ) (ps : List ParsedTerm) (subtracted : Bool) → InAttribute bytes b es e (a, a_sum) start → InSum bytes start ps subtracted at → Reads bytes es (before_term b e a ps subtracted) at r → Reads bytes no_entries between_blocks 0 r
     sum_read b es e a start _ _ _ h first_term k =
         attribute_read b es e (a, a_sum) start h (same_moves bytes es es (before_value b e (a, a_sum)) (before_term b e a [] false) start r refl k)

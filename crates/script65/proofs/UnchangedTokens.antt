@@ -1,4 +1,4 @@
--- Tokens of a text don't change if it is cut after them and continues in a new line.
+-- Tokens of a text are unchanged if it is cut after them and continues on a new line.
 use Rattle.std.proofs.Common.{arith, ◌≡◌, ◌≤◌, ◌<◌, ◌-◌, ℕ, zero, suc, ◌+◌, Bool, true, false, List, [], ◌∷◌, ◌++◌, cond, length, length-drop, take, drop, refl, sym, ap, ◌∙◌, subst}
 use Rattle.std.specs.Prelude.{◌==◌, ◌&&◌, not, if◌then◌else◌, ⊤}
 use Rattle.std.specs.List.{list_any, prefix_len, take_while}
@@ -8,7 +8,7 @@ use Rattle.script65.proofs.LongestTokens.{longest_tokens}
 use Rattle.script65.proofs.ReadingUniqueness.{some_bytes}
 use Rattle.script65.specs.Tokens.{IsLeadingToken, Lexeme, Token, leading_token, gap, begins_with, decimal_after, hex_after, is_blank, is_letter, is_string_byte, is_identifier_byte, punctuator, none, output, string, string_after, the_end, token, token_from, identifier_after}
 
--- a text that equals another up to n bytes, and then continues in a new line
+-- the second text equals the first one up to `n` bytes, and then continues on a new line
 pub data Cut : ℕ → List ℕ → List ℕ → Type 0 where
   ends : (xs rest : List ℕ) → Cut 0 xs (10 ∷ rest)
   goes : (n x : ℕ) (xs ys : List ℕ) → Cut n xs ys → Cut (suc n) (x ∷ xs) (x ∷ ys)
@@ -40,7 +40,7 @@ gap_kept false _ _ _ (goes n x xs ys h) lt = by (x == 35) (is_blank x) (λ lt. g
     by false true in_comment in_gap lt = ap (λ k. 1 + k) (in_gap (omega arith))
     by false false in_comment in_gap lt = refl
 
--- ---- Bytes at the front.
+-- ---- Bytes at the beginning.
 
 while_on : (p : ℕ → Bool) (x : ℕ) (xs : List ℕ) → p x ≡ true → take_while p (x ∷ xs) ≡ x ∷ take_while p xs
 while_on p x xs h =
@@ -71,7 +71,7 @@ begins_kept c (suc k) _ _ _ (goes n x xs ys h) lt = begins_kept c k n xs ys h (o
 
 -- ---- Tokens.
 
--- a token that is neither the end nor a byte that begins no token
+-- a token that is neither the end nor a byte with which no token begins
 abbrev pub IsSolid : Lexeme → Type 0
 IsSolid the_end = ⊥
 IsSolid none = ⊥

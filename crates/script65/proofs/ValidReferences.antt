@@ -23,9 +23,9 @@ use Rattle.script65.specs.declared.script.AreaAttribute.TheVariants as area_part
 use Rattle.script65.specs.declared.script.Operand.TheVariants as operand
 use Rattle.script65.specs.Laws.{ReferencesAreValid, AreValidTerms, IsValidOperand}
 
--- ---- Lists made item by item.
+-- ---- Lists that are built element by element.
 
--- a successful call and the one after it
+-- a success of `>>=` is a success of both calls
 pub and_then : {E A B : Type 0} (r : Result A E) (f : A → Result B E) (y : B) → (r >>= f) ≡ Ok y → (x : A) × (r ≡ Ok x) × (f x ≡ Ok y)
 and_then x f y h = grind (arith, common_steps)
 
@@ -40,7 +40,7 @@ each_length f (x ∷ xs) ys h =
     let e : first.0 ∷ rest.0 ≡ ys = cc in
     ap length (sym e) ∙ ap suc (each_length f xs rest.0 rest.1)
 
--- a property of each result, if it follows from one of each item
+-- if `f` maps `Q` to `P`, all results satisfy `P`
 pub each_holds : {E A B : Type 0} (f : A → Result B E) (Q : A → Type 0) (P : B → Type 0) → ((x : A) (y : B) → Q x → f x ≡ Ok y → P y) → (xs : List A) (ys : List B) → AllByRecursion Q xs → try_map f xs ≡ Ok ys → AllByRecursion P ys
 each_holds f Q P made [] ys q h = let e : [] ≡ ys = cc in subst (AllByRecursion P) e tt
 each_holds f Q P made (x ∷ xs) ys q h =
@@ -100,7 +100,7 @@ terms_are es a e ts h =
     let ps = terms_for a e in
     each_holds (term_from es) (λ p. Unit {0}) (λ (t : Term). Draws es t.operand) (λ p t q e. term_is es p t e) ps ts (always ps) h
 
--- the two sums of an area, as they are given
+-- the two sums of an area, as the script states them
 pub record Extent (es : Entries) (e : ConfigEntry) (x : List Term × List Term) : Type 0 where
   pub start : sum_for es (codes "start") e ≡ Ok x.0
   pub size : sum_for es (codes "size") e ≡ Ok x.1
@@ -110,7 +110,7 @@ extent_is es e x h = grind (arith, common_steps)
 
 -- ---- Scripts.
 
--- the parts of a script
+-- the areas and rows of a script
 pub record Made (es : Entries) (s : Script) : Type 0 where
   pub areas : try_map (area_from es) es.areas ≡ Ok s.areas
   pub rows : try_map (row_from es) es.rows ≡ Ok s.rows

@@ -17,7 +17,8 @@ mod sums;
 /// Places the areas and rows of a script, or returns the first error. Of two needs with one name the
 /// first counts.
 pub fn place(alloc: Global, script: &Script, needs: &[SegmentNeed]) -> Result<Placement, PlaceFault>
-    ensures stands { RefinesProp is_place_system_error (PlacementResult script.now needs.now) result }
+    ensures placement { RefinesProp is_place_system_error
+        (PlacementResult script.now needs.now) result }
     ensures value { Refines is_place_system_error (λ p. p) result (place_of script.now needs.now) }
 {
     let rows = script.rows.as_slice();

@@ -1,4 +1,4 @@
--- Segments whose sections grow.
+-- Segments of which one grows or one is added.
 use Rattle.std.proofs.Common.{◌≡◌, ◌∙◌, ℕ, zero, suc, ◌+◌, ◌<◌, Bool, true, false, nat_eq, cond, List, [], ◌∷◌, ◌++◌, length, map, Option, Some, None, refl, sym, ap, arith}
 use Rattle.std.specs.Prelude.{◌||◌}
 use Rattle.std.specs.List.{AllByRecursion, position_from}
@@ -46,7 +46,7 @@ place_below p (g ∷ gs) i j e = by (p g) e (place_below p gs (i + 1) j)
 pub found_below : (gs : List Segment) (n : List ℕ) (j : ℕ) → segment_index gs n ≡ Some j → j < length gs
 found_below gs n j e = let lt = place_below (λ (g : Segment). bytes_eq g.name n) gs 0 j (sym (position_from-zero (λ (g : Segment). bytes_eq g.name n) gs) ∙ e) in omega (arith, lt)
 
--- ---- A segment that grows.
+-- ---- Growth of one segment.
 
 pub grown_other : (gs : List Segment) (i h count alignment : ℕ) → nat_eq i h ≡ false → segment_at (with_grown_segment gs i count alignment) h ≡ segment_at gs h
 grown_other [] i h count alignment apart = refl
@@ -55,7 +55,7 @@ grown_other (g ∷ gs) zero (suc h) count alignment apart = refl
 grown_other (g ∷ gs) (suc i) zero count alignment apart = refl
 grown_other (g ∷ gs) (suc i) (suc h) count alignment apart = grown_other gs i h count alignment (grind (arith, nat_tests))
 
--- the segment in which a statement stands has so many bytes more, and the others stay as they were
+-- the current segment is longer by `count` bytes; all names, and the ends of the other segments, are unchanged
 pub record Grows (gs hs : List Segment) (current count : ℕ) : Type 0 where
   pub names : map (λ (g : Segment). g.name) hs ≡ map (λ (g : Segment). g.name) gs
   pub size : length hs ≡ length gs
@@ -73,9 +73,9 @@ grows gs current count alignment lt = record {
 pub grows_none : (gs : List Segment) (current : ℕ) → Grows gs gs current 0
 grows_none gs current = record { names = refl; size = refl; here = omega arith; others = λ g e. refl }
 
--- ---- One more segment.
+-- ---- A further segment.
 
--- a name without a place is none of theirs
+-- a name without an index is not the name of a segment
 pub not_among : (n : List ℕ) (gs : List Segment) → segment_index gs n ≡ None → is_among (map (λ (g : Segment). g.name) gs) n ≡ false
 not_among n gs e = from 0 gs (sym (position_from-zero (λ (g : Segment). bytes_eq g.name n) gs) ∙ e)
   where

@@ -26,7 +26,8 @@ pub record Cursor : Type 0 where
   pub region : ℕ
   -- the number of unnamed labels
   pub unnamed : ℕ
-  -- the segments in order of first use, each with its size and its alignment up to here
+  -- the segments: CODE, and then each other one at its first `.segment`; with its address size, and with its alignment and the
+  -- end of its section up to here
   pub segments : List Segment
   -- the segment of the next statement
   pub current : ℕ
@@ -154,6 +155,7 @@ cursor_after y w x = record {
 
 -- ---- All statements, each with its location.
 
+-- a module's statements at their offsets, and the cursor after them
 pub record Layout : Type 0 where
   pub laid : List LaidOutStatement
   pub cursor : Cursor

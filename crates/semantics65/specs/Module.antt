@@ -222,7 +222,7 @@ pub record Outcome : Type 0 where
   pub out : List ℕ
   pub err : List ℕ
 
--- the error of a line comes before all others, and before the warnings of assertions
+-- The error of a line comes before all others. After such an error the warnings of assertions aren't printed.
 abbrev pub outcome_of : Layout → Option LocatedFault → Outcome
 outcome_of y None = record { result = object_of y; out = stdout_text y.laid; err = all_warnings y.laid }
 outcome_of y (Some e) = record { result = Err e; out = stdout_text y.laid; err = warning_text y.laid }

@@ -34,7 +34,7 @@ fold_result (Err form.TooLarge) = Err TooLarge
 abbrev pub address_of : Context → Form
 address_of s = sec s.segment (pos s.offset)
 
--- the form of an expression, given the form of each operand
+-- the form of an expression, given a form for each name in it
 abbrev pub form_by : (Tree → Result Form AsmFault) → Context → Tree → Result Form AsmFault
 form_by operand s (number v) = Ok (lit (pos v))
 form_by operand s here = Ok (address_of s)

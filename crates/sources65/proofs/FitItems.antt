@@ -1,4 +1,5 @@
--- What is left of a source is fit: its tokens; and no line, block or body brings more of them than its lines may have.
+-- Reading a line or block preserves that the remaining input's tokens fit into an object and that their number is within the
+-- limit.
 use Rattle.std.proofs.lemmas.Grind.{common_steps}
 use Rattle.std.proofs.Common.{arith, ◌≡◌, ℕ, zero, suc, ◌+◌, ◌*◌, ◌≤◌, List, [], ◌∷◌, ◌++◌, length, map, Some, None, refl, sym, ap, subst}
 use Rattle.std.specs.Prelude.{⊤, Result, Ok, Err}
@@ -18,13 +19,13 @@ use Rattle.sources65.proofs.SoundForms.{all_append}
 
 -- ---- Tokens.
 
--- how many tokens stand there
+-- the number of tokens in label rests
 abbrev pub tokens_in : List Item → ℕ
 tokens_in [] = 0
 tokens_in (label_rest ts ∷ is) = length ts + tokens_in is
 tokens_in (_ ∷ is) = tokens_in is
 
--- and how many more may be given
+-- a bound for the number of tokens that expansion may still return
 abbrev pub tokens_left : RemainingInput → ℕ
 tokens_left l = 4096 * l.room + tokens_in l.items
 
@@ -44,14 +45,14 @@ localised_tokens names (body_line r ts ∷ is) = localised_tokens names is
 localised_tokens names (_ ∷ is) = localised_tokens names is
 
 module _ (m : Files) where
-  -- ---- What is left.
+  -- ---- The remaining input.
 
   abbrev pub IsItemFit : Item → Type 0
   IsItemFit (body_line r ts) = IsReplacingFit m r × AreFit m ts
   IsItemFit (label_rest ts) = AreFit m ts
   IsItemFit _ = ⊤
 
-  -- what is left behind so many tokens
+  -- the remaining input after `n` tokens: its items fit, and the total number of tokens is at most `most`
   pub record IsLeftFit (n : ℕ) (l : RemainingInput) : Type 0 where
     pub items : AllByRecursion IsItemFit l.items
     pub few : n + tokens_left l ≤ most
@@ -59,9 +60,9 @@ module _ (m : Files) where
   pub fewer : (k n : ℕ) (l : RemainingInput) → k ≤ n → IsLeftFit n l → IsLeftFit k l
   fewer k n l le h = let few = h.few in record { items = h.items; few = omega (arith, le, few) }
 
-  -- ---- Lines that are put in.
+  -- ---- Pushed lines.
 
-  -- nothing behind a label stands among them
+  -- the items fit and contain no label rests
   abbrev pub AreLines : List Item → Type 0
   AreLines is = AllByRecursion IsItemFit is × (tokens_in is ≡ 0)
 
@@ -83,7 +84,7 @@ module _ (m : Files) where
       let all = tokens_append (map (body_line (in_iteration (repeat_substitution variable) t)) body) (iterations (repeat_substitution variable) body (t + 1) n) in
       (all_append IsItemFit (map (body_line (in_iteration (repeat_substitution variable) t)) body) (iterations (repeat_substitution variable) body (t + 1) n) first.0 more.0, omega (arith, all, one, two))
 
-  -- lines and an end mark in front of what is left
+  -- pushing lines and an end mark onto the remaining input
   pub pushed_fit : (n : ℕ) (is : List Item) (k : InputEnd) (l : RemainingInput) (p : SourceLocation) → IsLeftFit n l → AreLines is → IsLeftFit n (remaining_input (is ++ end_mark k ∷ l.items) l.room p)
   pushed_fit n is k l p h lines =
       let few = h.few in
@@ -91,7 +92,7 @@ module _ (m : Files) where
       let all = tokens_append is (end_mark k ∷ l.items) in
       record { items = all_append IsItemFit is (end_mark k ∷ l.items) lines.0 (tt, h.items); few = omega (arith, few, none, all) }
 
-  -- ---- Names of an expansion's own, and what is left behind it.
+  -- ---- Local names, and the input after an expansion.
 
   pub localised_fit : (names : List (List ℕ)) (is : List Item) → AreBases names → AllByRecursion IsItemFit is → AllByRecursion IsItemFit (with_local_names names is)
   localised_fit names [] bases h = tt
@@ -113,7 +114,7 @@ module _ (m : Files) where
   outside_fit n (end_mark k ∷ is) room p h = let j = after_mark n k is room p h in grind (arith, common_steps, j, (outside_fit n is room (restored_location p k.return_location) j))
   outside_fit n (i ∷ is) room p h = outside_fit n is room p (after_item n i is room p h)
 
-  -- ---- A line that is taken.
+  -- ---- A line that is read.
 
   abbrev pub IsTakenFit : ℕ → LineAndRest → Type 0
   IsTakenFit n (Ok (Some ts, x)) = AreFit m ts × IsLeftFit (n + length ts) x

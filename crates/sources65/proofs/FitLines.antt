@@ -1,4 +1,4 @@
--- What stands in lines of bodies once names are replaced is fit: what is given for names, and the names that expansion makes.
+-- Substitution preserves that the tokens of body lines fit into an object: arguments and generated local names fit.
 use Rattle.std.proofs.lemmas.Grind.{common_steps}
 use Rattle.std.proofs.Common.{◌≡◌, ℕ, ◌+◌, ◌≤◌, Bool, true, false, List, [], ◌∷◌, ◌++◌, length, Option, None, refl, sym, subst, arith, append_assoc, map, Some}
 use Rattle.std.specs.Prelude.{codes, decimal, ◌==◌, ⊤, slice_get, unwrap_or}
@@ -22,9 +22,9 @@ use Rattle.expand65.specs.Macros.{is_generated_name, new_names, arguments_of, br
 use Rattle.sources65.proofs.FitTokens.{all_drop, all_take, AreFit, IsFit, IsTokenFit}
 use Rattle.sources65.proofs.SoundForms.{all_append}
 
--- ---- Names that are made.
+-- ---- Generated names.
 
--- no more tokens than these stand in the lines of a source
+-- a bound for the number of tokens of a source
 abbrev pub most : ℕ
 most = 4294967296
 
@@ -41,11 +41,11 @@ decimal_printed n small = digits_printed (decimal n) (digits_decimal (numerals_b
 decimal_short : (n : ℕ) → n ≤ most → length (decimal n) ≤ 10
 decimal_short n small = length-decimal-le 10 n (omega arith) (omega (arith, small)) (omega (arith, small))
 
--- `?` and the number behind it
+-- `?` and the number after it
 abbrev tail_of : ℕ → List ℕ
 tail_of number = codes "?" ++ decimal number
 
--- a name that may be given an expansion's own
+-- a name of which a local name may be generated
 abbrev pub IsBase : List ℕ → Type 0
 IsBase name = (is_name name ≡ true) × (length name ≤ 200)
 
@@ -66,7 +66,7 @@ own_fit m name number base small = (subst (IsFit m token.Identifier) (sym (appen
         let digits = decimal_printed number small in
         grind (arith, common_steps, nat_tests)
 
--- ---- What is read of lists that may not be there.
+-- ---- Elements of lists that may be absent.
 
 abbrev pub Each : {A : Type 0} → (A → Type 0) → Option A → Type 0
 Each P None = ⊤
@@ -76,7 +76,7 @@ pub lookup_each : {K X : Type 0} (P : X → Type 0) (test : K → Bool) (es : Li
 lookup_each P test [] h = tt
 lookup_each P test (e ∷ es) h = grind (arith, common_steps, (lookup_each P test es h.1))
 
--- ---- How many arguments there are.
+-- ---- The number of arguments.
 
 first_few : (t : Lexeme) (parts : List (List Lexeme)) → length (prepend_to_first t parts) ≤ length parts + 1
 first_few t x1 = grind arith
@@ -89,9 +89,9 @@ pub arguments_few : (ts : List Lexeme) → length (arguments_of ts) ≤ length t
 arguments_few [] = omega arith
 arguments_few (t ∷ ts) = let same = length-map (arguments_within 0 (t ∷ ts)) without_braces in let few = parts_few 0 (t ∷ ts) in omega (arith, same, few)
 
--- ---- What is replaced, and by what.
+-- ---- Substitutions.
 
--- none of them was made
+-- if none of the names is generated, local names may be generated of all
 bases : (m : Files) (names : List (List ℕ)) → list_any is_generated_name names ≡ false → AllByRecursion (IsFit m token.Identifier) names → AreBases names
 bases m [] none h = tt
 bases m (n ∷ names) none h = grind (arith, common_steps, (bases m names))
@@ -100,7 +100,7 @@ module _ (m : Files) where
   abbrev IsNameFit : List ℕ → Type 0
   IsNameFit name = IsFit m token.Identifier name
 
-  -- what stands for names, by the names or in their order
+  -- the arguments of a substitution, or the lines of a body, fit
   abbrev pub AreAllFit : List (List Lexeme) → Type 0
   AreAllFit tss = AllByRecursion (AreFit m) tss
 
@@ -146,7 +146,7 @@ module _ (m : Files) where
   pub arguments_fit : (ts : List Lexeme) → AreFit m ts → AreAllFit (arguments_of ts)
   arguments_fit x1 h = grind (arith, common_steps, all_unbraced, parts_fit)
 
-  -- ---- Names of an expansion's own.
+  -- ---- Local names.
 
   name_fit : (k : TokenKind) (t : List ℕ) → IsFit m k t → Each IsNameFit (name_in (k, t))
   name_fit x1 t h = grind (arith, common_steps)

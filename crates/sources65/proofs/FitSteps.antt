@@ -1,5 +1,5 @@
--- Each step of expansion keeps what is left fit, and gives fit tokens, no more than are left; and no more macros are called
--- than tokens were taken.
+-- Each expansion step preserves that the remaining input fits, and returns tokens that fit; the number of macro calls is at
+-- most the number of tokens.
 use Rattle.std.proofs.lemmas.Grind.{common_steps}
 use Rattle.std.proofs.Common.{arith, ◌≡◌, ℕ, zero, suc, ◌+◌, Bool, true, false, List, [], ◌∷◌, length, drop, map, Option, Some, None, refl, sym, subst}
 use Rattle.std.specs.Prelude.{⊤, Result, Ok, Err}
@@ -38,12 +38,12 @@ tokens_of (label ts) = ts
 tokens_of (plain ts) = ts
 
 module _ (m : Files) where
-  -- so many tokens were given, or are acted on, and each macro that was called took one more
+  -- the state after `n` tokens were returned or executed, and one further token for each macro call
   pub record IsStateFit (n : ℕ) (s : State) : Type 0 where
     pub left : IsLeftFit m (n + s.expansions) s.left
     pub macros : AllByRecursion (λ e. AreAllFit m e.1.body) s.macros
 
-  -- fewer were given
+  -- the invariant for fewer tokens
   pub fewer_given : (n k : ℕ) (s : State) → IsStateFit (n + k) s → IsStateFit n s
   fewer_given n k s fit = record { left = fewer m (n + s.expansions) ((n + k) + s.expansions) s.left (omega arith) fit.left; macros = fit.macros }
 
@@ -57,7 +57,7 @@ module _ (m : Files) where
     IsKept (ends t) = ⊤
     IsKept (raises e) = ⊤
 
-    -- a step that leads to nothing else, whatever it reads
+    -- a step whose results all preserve the invariant
     abbrev Keeps : ExpansionStep → Type 0
     Keeps (finishes x) = IsKept x
     Keeps (parses ts next) = (q : Result (Tree × ℕ) ExprFault) → Keeps (next q)
@@ -75,7 +75,7 @@ module _ (m : Files) where
     led_fit (reads_block k l next) r fit (Err e, p, h) = subst IsKept (sym h) tt
     led_fit (searches l names next) r fit h = led_fit (next (first_file m names)) r (fit (first_file m names)) h
 
-    -- ---- What steps go through.
+    -- ---- Control flow of steps.
 
     unless : {A : Type 0} (s : State) (q : Result A ExpandFault) (after : A → ExpansionStep) → ((x : A) → q ≡ Ok x → Keeps (after x)) → Keeps (and_then_step s q after)
     unless s (Ok x) after h = h x refl
@@ -123,7 +123,7 @@ module _ (m : Files) where
       local_on : (ts : List Lexeme) → AreFit m ts → IsKept (local_line s ts)
       local_on ts h = grind (arith, common_steps, localised_tokens, (localised_fit m), (new_names_fit m ts h))
 
-      -- ---- Repeats and included files.
+      -- ---- Repetitions and included files.
 
       repeats_on : (count : ℕ) (variable : List (List ℕ)) → Keeps (iterations_step s count variable)
       repeats_on count variable = λ b x p. (let h = block kind.Repeat b x p in enters (with_remaining s x) (iterations (repeat_substitution variable) b.0 0 count) (new_end_mark s false None) x.place (record { left = h.1; macros = fit.macros }) (turns_lines m variable b.0 0 count h.0))
@@ -149,7 +149,7 @@ module _ (m : Files) where
       directed_on k Error ts h = unless s (ok_or_not_understood (string_of ts)) (λ text. finishes (raises (faults.Error text, s.left.place))) (λ text e. tt)
       directed_on k End ts h = alone s ts (finishes (continues (with_items s []))) (let few = fit.left.few in record { left = record { items = tt; few = omega (arith, few) }; macros = fit.macros })
 
-    -- ---- Calls, and other lines.
+    -- ---- Macro calls and other lines.
 
     calls_on : (s : State) (ts : List Lexeme) → IsStateFit (n + suc (length ts)) s → AreFit m ts → (d : Definition) → AreAllFit m d.body → IsKept (call_result s d (arguments_of ts))
     calls_on s ts fit h d body =
@@ -190,7 +190,7 @@ module _ (m : Files) where
     after_on k s fit (Ok (None, x)) h = mark_on (with_remaining s x) x.items (record { left = h; macros = fit.macros }) h
     after_on k s fit (Err e) h = tt
 
-    -- the first line, and what else is left
+    -- the step that the first item of the input selects
     from_on : (k : EnvironmentView) (s : State) (is : List Item) → IsStateFit n s → IsLeftFit m (n + s.expansions) (remaining_input is s.left.room s.left.place) → Keeps (step_from k s is)
     from_on k s (label_rest ts ∷ is) fit h = let few = h.few in acted_on k (with_items s is) ts (first_directive ts) (record { left = record { items = h.items.1; few = omega (arith, few) }; macros = fit.macros }) h.items.0
     from_on k s (elseif_rest ts ∷ is) fit h = if_on (with_items s is) (record { left = record { items = h.items.1; few = h.few }; macros = fit.macros }) k True ts
@@ -200,7 +200,7 @@ module _ (m : Files) where
   unfolding IsStep
   step_fit n k s r fit step = led_fit n (step_from k s s.left.items) r (from_on n k s s.left.items fit fit.left) step
 
-  -- ---- What comes next.
+  -- ---- The next result.
 
   abbrev pub IsNextFit : ℕ → Next → Type 0
   IsNextFit n (statement x t) = AreFit m (tokens_of x) × IsStateFit (n + length (tokens_of x)) t
@@ -212,7 +212,7 @@ module _ (m : Files) where
   next_fit n k s x fit (yielded _ t y step) = step_fit n k s (yields y t) fit step
   next_fit n k s x fit _ = tt
 
-  -- ---- A source's first state.
+  -- ---- The first state of a source.
 
   first_fit : (file : List ℕ) (folders : List (List ℕ)) (bytes : List ℕ) → IsStateFit 0 (first_state file folders bytes)
   first_fit file folders bytes =

@@ -1,4 +1,5 @@
--- The tokens of lines are fit: identifiers are names that objects can hold. No line has more tokens than bytes.
+-- The tokens of a line fit into an object: identifiers are names of at most 200 bytes. A line has at most as many tokens as
+-- bytes.
 use Rattle.std.proofs.lemmas.Grind.{common_steps}
 use Rattle.std.proofs.Common.{arith, ◌≡◌, ℕ, zero, suc, ◌<◌, ◌≤◌, Bool, true, false, List, [], ◌∷◌, length, take, drop, Option, None, sym, subst}
 use Rattle.std.specs.Prelude.{⊤, Ok}
@@ -15,7 +16,7 @@ use Rattle.object65.specs.Objects.{is_name}
 use Rattle.expand65.specs.Macros.{is_generated_name}
 use Rattle.semantics65.specs.Numbering.{AreSymbolNames, IsSymbolName}
 use Rattle.semantics65.proofs.Segments.{all_same}
-use Rattle.sources65.proofs.Sounding.{short_name}
+use Rattle.sources65.proofs.WellFormedLines.{short_name}
 
 -- ---- Parts of lists.
 
@@ -31,7 +32,7 @@ all_take P (suc n) (x ∷ xs) h = (h.0, all_take P n xs h.1)
 
 -- ---- Tokens.
 
--- an identifier is a name, and a short one unless it was made
+-- an identifier is a name, and is at most 200 bytes long unless it is generated
 abbrev pub IsFit : Files → TokenKind → List ℕ → Type 0
 IsFit m token.Identifier t = (is_name t ≡ true) × (is_generated_name t ≡ false → length t ≤ 200)
 IsFit m _ t = ⊤
@@ -75,7 +76,7 @@ tokens_few first line (t ∷ ts) end h =
     let rest = length-drop (length t.1) (without_leading_blanks line) in
     omega (arith, few, some, room, text, rest)
 
--- a line's tokens are fit, and no more than these
+-- the tokens of a line fit, and there are at most 4096 of them
 abbrev pub IsLineFit : Files → List Lexeme → Type 0
 IsLineFit m ts = AreFit m ts × (length ts ≤ 4096)
 

@@ -1,4 +1,4 @@
--- The contents of sound statements.
+-- The contents of a well-formed layout are well-formed.
 use Rattle.std.proofs.lemmas.Grind.{common_steps}
 use Rattle.std.proofs.Common.{◌≡◌, ◌∙◌, ℕ, suc, ◌+◌, ◌<◌, Bool, true, false, nat_eq, refl, sym, ap, subst, arith, List, [], ◌∷◌, ◌++◌, append_assoc, length, map, take, slice_get, Option, Some, None, Result, Ok, Err}
 use Rattle.std.specs.Prelude.{⊤, IfOk, sum_by, if◌then◌else◌}
@@ -23,13 +23,13 @@ use Rattle.semantics65.specs.Module.{PieceResult, Piece, Purpose, Slot, undefine
 use Rattle.semantics65.specs.Module as purpose
 use Rattle.semantics65.specs.Norms.{defined_form, norm_of}
 use Rattle.semantics65.specs.Numbering.{all_declarations, distinct_keys, parts_in, section_keys, segment_requests, IsMeasured, IsWellFormedStatement, IsWellFormedContent, part_len, statements_in}
-use Rattle.semantics65.proofs.Found.{AreFound, found_all_so, found_each, found_split, names_append}
+use Rattle.semantics65.proofs.SlotResolution.{AreFound, found_all_so, found_each, found_split, names_append}
 use Rattle.sources65.proofs.SoundForms.{Asks, all_append, definitions_pass, well_then}
 use Rattle.sources65.proofs.SoundParts.{IsKnown, any_ok, asked_in, below, content_is, if_found, placed_ok, slots_long}
 use Rattle.sources65.proofs.SoundPieces.{IsSoundPiece, IsWellMade, names_all, piece_sound, pieces_sound}
 use Rattle.sources65.proofs.Resolving.{new_append}
 
--- ---- Keys, each once.
+-- ---- Keys without repetitions.
 
 known_key : (found : List ℕ) (g k : ℕ) → asked_in found g ≡ true → asked_in (if list_any (nat_eq k) found then found else found ++ k ∷ []) g ≡ true
 known_key found g k h = grind (arith, common_steps)
@@ -67,7 +67,7 @@ all_names (x ∷ ls) known h (sound, all) =
 imports_below : (y : Symbols) (n : List ℕ) (k : ℕ) → import_index y n ≡ Some k → below (length y.imports) k ≡ true
 imports_below y n k e = grind (arith, common_steps)
 
--- ---- What is asked.
+-- ---- Section requests.
 
 asks_more : (q r : ℕ → Bool) → ((g : ℕ) → q g ≡ true → r g ≡ true) → (ls : List LaidOutStatement) → AllByRecursion (Asks q) ls → AllByRecursion (Asks r) ls
 asks_more q r h [] every = tt
@@ -83,7 +83,7 @@ asked_after : (cs ds : List Content) (g : ℕ) → asked_in (segment_requests ds
 asked_after [] ds g h = h
 asked_after (c ∷ cs) ds g h = asked_more c (cs ++ ds) g (asked_after cs ds g h)
 
--- a statement that asks for its section does so before all else
+-- the first content of a statement that needs its section is the request of the section
 asks_first : (z : Symbols) (names : List (List ℕ)) (l : LaidOutStatement) (b : Bool) (xs : List Slot) (cs ds : List Content) → b ≡ true → AreFound z names ((if b then resolved (section_request l.context.segment) ∷ [] else []) ++ xs) cs → asked_in (segment_requests (cs ++ ds)) l.context.segment ≡ true
 asks_first z names l true xs [] ds e h = absurd h
 asks_first z names l true xs (c ∷ cs) ds e (w, made, h) = (let is : section_request l.context.segment ≡ c = content_is (without_warning (section_request l.context.segment)) (record { content = c; warning = w }) made in subst (λ (d : Content). asked_in (segment_requests (d ∷ cs ++ ds)) l.context.segment ≡ true) is (asked_first (section_request l.context.segment) (cs ++ ds) refl))
@@ -105,13 +105,13 @@ asked_keys z ls cs h = asks_more (asked_in (segment_requests cs)) (asked_in (sec
 
 -- ---- Contents.
 
--- what is known of each statement
+-- the invariant of each statement
 record IsSafe (requested : List ℕ) (bound : ℕ) (l : LaidOutStatement) : Type 0 where
   sound : IsWellFormedStatement l.stated
   standing : l.context.segment < bound
   requests_section : Asks (asked_in requested) l
 
--- and of each of its slots
+-- the invariant of each slot of such a statement
 abbrev IsSafeSlot : List ℕ → ℕ → ℕ → Slot → Type 0
 IsSafeSlot requested count bound (resolved c) = IsWellFormedContent requested count c × (c.segment < bound) × (c.said ≡ [])
 IsSafeSlot requested count bound (deferred w) = IsSoundPiece requested count w.context w.piece × (w.context.segment < bound)
@@ -134,9 +134,9 @@ slots_safe requested count bound (l ∷ ls) h =
     (waiting_safe requested count bound l h.0.standing ps (pieces_sound requested count l.context l.length l.encoding l.stated h.0.sound h.0.requests_section)))
     (slots_safe requested count bound ls h.1)
 
--- ---- Names of exports, each once.
+-- ---- Exported names are distinct.
 
--- what a piece says exports a name that wasn't exported before, if any
+-- the names that a piece exports, if any, are new
 abbrev IsNew : List (List ℕ) → PieceResult → Type 0
 IsNew names m = are_names names ≡ true → are_names (names ++ exported_names m.content.said) ≡ true
 
@@ -150,7 +150,7 @@ written_new names n location f good new = by (is_file_name location.file)
     by true = λ h. names_push names n h good new
     by false = tt
 
--- what says no export
+-- a piece without exports
 quiet_new : (names : List (List ℕ)) (r : Result PieceResult AsmFault) → IfOk r (λ m. exported_names m.content.said ≡ []) → IfOk r (IsNew names)
 quiet_new names (Ok m) e = λ h. ap (λ ns. are_names (names ++ ns)) e ∙ no_more names h
 quiet_new names (Err f) e = tt
@@ -184,7 +184,7 @@ export_new names y location must n good new (Some j) = by (defined_form y j)
     by (Ok f) = written_new names n location f good new
     by (Err f) = tt
 
--- each piece that waits says no name again
+-- a deferred piece exports only new names
 coming_new : (requested : List ℕ) (count : ℕ) (y : Symbols) (names : List (List ℕ)) (location : SourceLocation) (s : Context) (p : Piece) → IsSoundPiece requested count s p → IfOk (slot_result y names (deferred (record { place = location; context = s; piece = p }))) (IsNew names)
 coming_new requested count y names location s (exported must n) good = by (list_any (bytes_eq n) names) refl
   where
@@ -198,7 +198,7 @@ coming_new requested count y names location s (expression_value why e) good =
 coming_new requested count y names location s (purpose.imported n) good = placed_ok (IsNew names) location (unrepeated_result y location s (purpose.imported n)) (import_new names n y)
 coming_new requested count y names location s (forced_import n) good = no_more names
 
--- slots that say nothing, and pieces that wait
+-- a resolved slot has no declarations, and a deferred piece is well-formed
 abbrev IsNamedSlot : List ℕ → ℕ → Slot → Type 0
 IsNamedSlot requested count (resolved c) = c.said ≡ []
 IsNamedSlot requested count (deferred w) = IsSoundPiece requested count w.context w.piece
@@ -221,7 +221,7 @@ named_slots requested count bound [] h = tt
 named_slots requested count bound (resolved c ∷ xs) h = (h.0.2, named_slots requested count bound xs h.1)
 named_slots requested count bound (deferred w ∷ xs) h = (h.0.0, named_slots requested count bound xs h.1)
 
--- what each slot comes to
+-- the content of each slot is well-formed and in an existing segment
 abbrev IsWell : List ℕ → ℕ → ℕ → Content → Type 0
 IsWell requested count bound c = IsWellFormedContent requested count c × (c.segment < bound)
 
@@ -235,7 +235,7 @@ parted : (P Q : Content → Type 0) (cs : List Content) → AllByRecursion (λ c
 parted P Q [] h = (tt, tt)
 parted P Q (c ∷ cs) h = (let rest = parted P Q cs h.1 in ((h.0.0, rest.0), (h.0.1, rest.1)))
 
--- so it is with all where it is so with each at its place
+-- if each element at an index satisfies `P`, all elements do
 all_places : {A : Type 0} (P : A → Type 0) (xs : List A) → ((i : ℕ) (x : A) → slice_get xs i ≡ Some x → P x) → AllByRecursion P xs
 all_places P [] h = tt
 all_places P (x ∷ xs) h = (h 0 x refl, all_places P xs (λ i y e. h (suc i) y e))
@@ -244,7 +244,7 @@ safe_all : (requested : List ℕ) (bound : ℕ) (ls : List LaidOutStatement) →
 safe_all requested bound [] s b a = tt
 safe_all requested bound (l ∷ ls) (s, ss) (b, bs) (a, every) = (record { sound = s; standing = b; requests_section = a }, safe_all requested bound ls ss bs every)
 
--- ---- Room.
+-- ---- Section sizes.
 
 abbrev IsMeasuredSome : LaidOutStatement → Type 0
 IsMeasuredSome l = (before : Symbols) × IsMeasured before l
@@ -270,7 +270,7 @@ same_room z names g (l ∷ ls) cs m h =
     ∙ ap (λ n. (if nat_eq l.context.segment g then l.length else 0) + n) (same_room z (names ++ exported_names (all_declarations both.first)) g ls both.last m.1 both.following)
     ∙ sym (length_first l ls g)
 
--- ---- What holds of all contents.
+-- ---- All contents.
 
 pub sound_contents : ContentsAreWellFormed
 sound_contents = λ y cs s e.

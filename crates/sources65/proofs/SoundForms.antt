@@ -1,4 +1,4 @@
--- The forms of expressions by the symbol table of sound statements.
+-- By the symbol table of well-formed statements, expressions have well-formed forms.
 use borrow.Author.Rules.{rules}
 use Rattle.std.proofs.lemmas.Grind.{common_steps}
 use Rattle.syntax65.specs.Trees as tree
@@ -22,9 +22,9 @@ use Rattle.ast65.specs.declared.language.Statement.{Statement}
 use Rattle.semantics65.specs.Symbols.{LaidOutStatement, needs_section, has_here, Binding, defined_at, imported_as, backward_binding, first_found, last_of, binding_of, member_binding, binding_or_fault, plain_binding, scope_from, scoped_binding, scopes_from, scope_path, display_name, unnamed_binding, Definition, Symbols, definition_index, definition_with, definitions_of, import_index, key_defined, named, unnamed_at, value_defined}
 use Rattle.semantics65.specs.declared.contexts.Context.{Context}
 
--- ---- The sections and imports that forms hold.
+-- ---- The sections and imports in forms.
 
--- its sections pass one test, and its imports another
+-- the sections of a form pass the test `q`, and its imports the test `r`
 abbrev pub Holds : (ℕ → Bool) → (ℕ → Bool) → Form → Type 0
 Holds q r (lit v) = ⊤
 Holds q r (sec k a) = q k ≡ true
@@ -53,12 +53,12 @@ one_well q r op f w = well_folded q r (fold1 op f) (λ h e. normal_law.0 op f h 
 pub two_well : (q r : ℕ → Bool) (op : Op2) (f g : Form) → IsWell q r f → IsWell q r g → IfOk (fold_result (fold2 op f g)) (IsWell q r)
 two_well q r op f g v w = well_folded q r (fold2 op f g) (λ h e. normal_law.1 op f g h v.folded w.folded e) (two_holds q r op f g v.holds w.holds)
 
--- ---- The forms of expressions by the symbol table of sound statements.
+-- ---- The forms of expressions.
 
 pub well_then : {A B E : Type 0} (P : A → Type 0) (Q : B → Type 0) (r : Result A E) (f : A → Result B E) → IfOk r P → ((x : A) → P x → IfOk (f x) Q) → IfOk (r >>= f) Q
 well_then x1 x2 x3 f h k = grind (arith, common_steps)
 
--- a statement's segment passes where it asks for a section
+-- if a statement needs its section, its segment passes the test
 abbrev pub Asks : (ℕ → Bool) → LaidOutStatement → Type 0
 Asks q l = needs_section l.stated ≡ true → q l.context.segment ≡ true
 
@@ -83,12 +83,12 @@ form_well q r operand s h (tree.binary op e g) k =
     well_then (IsWell q r) (IsWell q r) (form_by operand s e) (λ f. form_by operand s g >>= (λ z. fold_result (fold2 op f z))) (form_well q r operand s h e (λ a. k (or_left (has_here e) (has_here g) a)))
     (λ f v. well_then (IsWell q r) (IsWell q r) (form_by operand s g) (λ z. fold_result (fold2 op f z)) (form_well q r operand s h g (λ a. k (or_right (has_here e) (has_here g) a))) (λ z w. two_well q r op f z v w))
 
--- ---- What is defined.
+-- ---- Definitions.
 
 abbrev FormsWell : (ℕ → Bool) → (ℕ → Bool) → (Context → Tree → Result Form AsmFault) → Type 0
 FormsWell q r a = (s : Context) (e : Tree) → (has_here e ≡ true → q s.segment ≡ true) → IfOk (a s e) (IsWell q r)
 
--- the segment of a definition passes where its value holds an address there
+-- if the value of a definition depends on its address, its segment passes the test
 abbrev ValuePasses : (ℕ → Bool) → ℕ → Option Tree → Type 0
 ValuePasses q g None = q g ≡ true
 ValuePasses q g (Some e) = has_here e ≡ true → q g ≡ true
@@ -96,7 +96,7 @@ ValuePasses q g (Some e) = has_here e ≡ true → q g ≡ true
 abbrev Passes : (ℕ → Bool) → Definition → Type 0
 Passes q d = ValuePasses q d.context.segment d.value
 
--- all definitions pass, and the imports
+-- the segments of all definitions that need it pass `q`, and the indices of all imports pass `r`
 pub record Pass (q r : ℕ → Bool) (y : Symbols) : Type 0 where
   pub definitions : AllByRecursion (Passes q) y.definitions
   pub imports : (n : List ℕ) (k : ℕ) → import_index y n ≡ Some k → r k ≡ true
@@ -109,7 +109,7 @@ item_of P [] j x h e = absurd cc
 item_of P (y ∷ xs) zero x (a, h) e = (let same : y ≡ x = cc in subst P same a)
 item_of P (y ∷ xs) (suc j) x (a, h) e = item_of P xs j x h e
 
--- what a meaning leads to passes
+-- the import of a binding passes the test
 abbrev MeansWell : (ℕ → Bool) → Binding → Type 0
 MeansWell r (defined_at j) = ⊤
 MeansWell r (imported_as k) = r k ≡ true
@@ -157,7 +157,7 @@ norm_well q r y pass = norm_each q r y pass (suc (length y.definitions))
 pub export_well : (q r : ℕ → Bool) (y : Symbols) → Pass q r y → (j : ℕ) → IfOk (defined_form y j) (IsWell q r)
 export_well q r y pass j = meaning_well q r y (norm_of y) pass (norm_well q r y pass) (defined_at j) tt
 
--- ---- The definitions of statements that ask for their sections.
+-- ---- The definitions of statements whose segments pass.
 
 one_passes : (q : ℕ → Bool) (s : Context) (own : AddressSize) (x : Statement) → (needs_section x ≡ true → q s.segment ≡ true) → AllByRecursion (Passes q) (definition_with (key_defined s x) (value_defined x) s own)
 one_passes q s own x1 h = grind (arith, common_steps)

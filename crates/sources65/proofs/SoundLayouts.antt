@@ -1,4 +1,4 @@
--- What statements lay is sound: names of segments, statements, their lengths, and the room in each section.
+-- Layouts are well-formed: segment names, statements, lengths and section sizes.
 use Rattle.std.proofs.lemmas.Grind.{common_steps}
 use Rattle.std.proofs.Common.{◌≡◌, ◌∙◌, ℕ, zero, suc, ◌+◌, ◌<◌, ◌≤◌, Bool, true, false, nat_eq, cond, List, [], ◌∷◌, ◌++◌, length, map, take, slice_get, Option, Some, None, Ok, refl, sym, ap, subst, arith}
 use Rattle.std.specs.Prelude.{sum_by}
@@ -21,7 +21,7 @@ use Rattle.semantics65.specs.Norms.{length_of, encoding_of}
 use Rattle.semantics65.specs.Numbering.{IsMeasured, IsWellFormedStatement, IsWellFormedLayout, statements_in}
 use Rattle.semantics65.proofs.Segments.{Grows, all_more, all_same, end_after, grows, grows_none, not_among, one_longer}
 
--- ---- Faults that there aren't.
+-- ---- Statements without line errors.
 
 has_room : (y : Symbols) (w : Cursor) (x : Statement) → line_fault y w x ≡ None → (segment_at w.segments w.current).end + length_of y (context_of w) (own_size w) x ≤ section_limit
 has_room y w x h = grind (arith, common_steps)
@@ -32,14 +32,14 @@ abbrev is_segment : Statement → Bool
 is_segment (statement.Segment n own) = true
 is_segment _ = false
 
--- only a constant has a size of its own, and it places nothing
+-- only a constant has a size of its own, and its length is 0
 same_length : (y : Symbols) (s : Context) (own : AddressSize) (x : Statement) → length_of y s own x ≡ length_of y s (size_stated y s own x) x
 same_length y s own x1 = grind (arith, common_steps)
 
 same_settled : (y : Symbols) (s : Context) (own : AddressSize) (x : Statement) → encoding_of y s own x ≡ encoding_of y s (size_stated y s own x) x
 same_settled y s own x1 = grind (arith, common_steps)
 
--- ---- What holds behind each statement.
+-- ---- The invariant after each statement.
 
 abbrev total_in : List LaidOutStatement → ℕ → ℕ
 total_in ls g = sum_by (λ (l : LaidOutStatement). l.length) (statements_in ls g)
@@ -50,7 +50,7 @@ stands_in count l = l.context.segment < count
 abbrev are_below : ℕ → List ℕ → Type 0
 are_below count ks = AllByRecursion (λ k. k < count) ks
 
--- so it is with each statement and those before it
+-- each statement satisfies `M` with the statements before it
 abbrev EachAfter : (List LaidOutStatement → LaidOutStatement → Type 0) → List LaidOutStatement → Type 0
 EachAfter M ls = (i : ℕ) (l : LaidOutStatement) → slice_get ls i ≡ Some l → M (take i ls) l
 
@@ -64,7 +64,7 @@ pub record Good (ls : List LaidOutStatement) (gs : List Segment) (current : ℕ)
   ends : (g : ℕ) → total_in ls g ≡ (segment_at gs g).end
   limit : (g : ℕ) → (segment_at gs g).end ≤ section_limit
 
--- a statement is measured behind these
+-- the length of a statement is measured with the symbols of the statements before it
 abbrev MeasuredAfter : List LaidOutStatement → LaidOutStatement → Type 0
 MeasuredAfter before l = IsMeasured (symbols_of before) l
 
@@ -80,7 +80,7 @@ after_push M (y ∷ ys) l h m (suc i) x e = after_push (λ zs z. M (y ∷ zs) z)
 total_push : (ls : List LaidOutStatement) (l : LaidOutStatement) (g : ℕ) → total_in (ls ++ l ∷ []) g ≡ total_in ls g + cond (nat_eq l.context.segment g) l.length 0
 total_push ls l g = grind (arith, common_steps)
 
--- one more statement in the current segment
+-- appending a statement in the current segment preserves the invariant
 good_push : (ls : List LaidOutStatement) (gs hs : List Segment) (current : ℕ) (kept : List ℕ) (l : LaidOutStatement) → Good ls gs current kept → Grows gs hs current l.length → l.context.segment ≡ current → IsWellFormedStatement l.stated → MeasuredAfter ls l → (segment_at gs current).end + l.length ≤ section_limit → Good (ls ++ l ∷ []) hs current kept
 good_push ls gs hs current kept l good more at sound measured room = record {
   named = ap are_names more.names ∙ good.named;
@@ -108,7 +108,7 @@ good_push ls gs hs current kept l good more at sound measured room = record {
         subst (λ n. n ≤ section_limit) (sym (same_here g e)) (subst (λ h. (segment_at gs h).end + l.length ≤ section_limit) same room)
     limit_at g false e = subst (λ n. n ≤ section_limit) (sym (more.others g e)) (good.limit g)
 
--- ---- One more segment.
+-- ---- A further segment.
 
 good_named : (ls : List LaidOutStatement) (gs : List Segment) (current : ℕ) (kept : List ℕ) (n : List ℕ) (own : Option AddressSize) (location : Option ℕ) → Good ls gs current kept → is_name n ≡ true → segment_index gs n ≡ location → Good ls (named_segments gs n own location) current kept
 good_named ls gs current kept n own x1 good fine e = grind (arith, common_steps, one_longer, map-append, names_push, not_among, all_same, end_after)
@@ -145,7 +145,7 @@ good_statement y z location x good sound h = by (line_fault (symbols_of y.laid) 
         let same : layout_after y location x ≡ z = cc in
         subst IsGood same (good_step y location x good sound is)
 
--- ---- The first and the last.
+-- ---- The first and the last state.
 
 pub nothing_good : IsGood empty_layout
 nothing_good = grind (arith, common_steps)

@@ -1,4 +1,4 @@
--- The forms of sound statements, and how long what their pieces put is.
+-- The forms of well-formed statements are well-formed, and the parts of a statement have the statement's length.
 use Rattle.std.proofs.lemmas.Grind.{common_steps}
 use Rattle.std.proofs.Common.{◌≡◌, ◌∙◌, ℕ, ◌+◌, Bool, true, false, nat_eq, nat_lt, refl, sym, ap, subst, arith, List, [], ◌∷◌, ◌++◌, length, map, take, drop, Option, Some, None, Result, Ok, Err}
 use Rattle.std.specs.Prelude.{⊤, ℤ, IfOk, ◌&&◌, sum_by, if◌then◌else◌}
@@ -34,7 +34,7 @@ use Rattle.semantics65.specs.Module.{PieceResult, Piece, undefined_export_result
 use Rattle.semantics65.specs.Module as purpose
 use Rattle.semantics65.specs.Norms.{norm_of, address_mode, branch_mode, bytes_between, fill_encoding, first_of, is_branch, item_len, length_of, mode_len, mode_of, mode_encoding, operand_len, incbin_len as file_len, part_start, encoding_of, size_of, width_of}
 use Rattle.semantics65.specs.Numbering.{imports_in, IsMeasured, IsWellFormedLocatedForm, IsWellFormedForm, part_len, parts_in, sections_in}
-use Rattle.semantics65.proofs.Found.{AreFound}
+use Rattle.semantics65.proofs.SlotResolution.{AreFound}
 use Rattle.sources65.proofs.SoundForms.{Holds, IsWell, Pass, norm_well, well_then}
 
 -- ---- Forms.
@@ -65,14 +65,14 @@ imports_pass q r (binary op f g) (h, i) = list_all-append r (imports_in f) (impo
 pub sound_form : (requested : List ℕ) (count : ℕ) (f : Form) → IsWell (asked_in requested) (below count) f → IsWellFormedForm requested count f
 sound_form requested count f w = record { folded = w.folded; sections = sections_pass (asked_in requested) (below count) f w.holds; imports = imports_pass (asked_in requested) (below count) f w.holds }
 
--- what is known of all statements
+-- the invariant of the symbol table of all statements
 abbrev pub IsKnown : List ℕ → ℕ → Symbols → Type 0
 IsKnown requested count y = Pass (asked_in requested) (below count) y
 
 pub form_sound : (requested : List ℕ) (count : ℕ) (y : Symbols) → IsKnown requested count y → (s : Context) (e : Tree) → (has_here e ≡ true → asked_in requested s.segment ≡ true) → IfOk (norm_of y s e) (IsWell (asked_in requested) (below count))
 form_sound requested count y k s e h = norm_well (asked_in requested) (below count) y k s e h
 
--- ---- What is written with its place.
+-- ---- Values with a checked file name.
 
 pub written_with : {A : Type 0} (P : A → Type 0) (location : SourceLocation) (x : A) → (is_file_name location.file ≡ true → P x) → IfOk (with_file_name_check location x) P
 written_with {A} P location x h = grind (arith, common_steps)
@@ -85,18 +85,18 @@ value_len x1 v = grind (arith, common_steps)
 
 -- ---- Pieces.
 
--- how many bytes a piece puts
+-- the length of a piece's part
 abbrev pub piece_len : Piece → ℕ
 piece_len (known_part p) = part_len p
 piece_len (expression_value (datum width) e) = width_len width
 piece_len (expression_value (purpose.operand width) e) = width_len width
 piece_len _ = 0
 
--- so many bytes in a segment, where it is this one
+-- a length if the segment is this one, otherwise 0
 abbrev pub there : Bool → ℕ → ℕ
 there b n = if b then n else 0
 
--- what is made puts so many bytes into the segment, and none into others
+-- the content adds `len` bytes to its segment and none to others
 abbrev IsLong : ℕ → ℕ → Content → Type 0
 IsLong segment len c = (g : ℕ) → sum_by part_len (parts_in (c ∷ []) g) ≡ there (nat_eq segment g) len
 
@@ -161,7 +161,7 @@ pub placed_ok : {A : Type 0} (P : A → Type 0) (location : SourceLocation) (r :
 placed_ok P location (Ok x) h = h
 placed_ok P location (Err e) h = tt
 
--- what is so of what is made of a piece, and of nothing where an export is repeated
+-- a property of a piece's result and of an empty result, which a repeated export has
 pub coming_so : (P : PieceResult → Type 0) (y : Symbols) (names : List (List ℕ)) (location : SourceLocation) (s : Context) (p : Piece) →
     ((must : Bool) (n : List ℕ) → p ≡ exported must n → P (without_warning (declaration_content []))) → IfOk (unrepeated_result y location s p) P →
     IfOk (slot_result y names (deferred (record { place = location; context = s; piece = p }))) P
@@ -179,7 +179,7 @@ coming_long : (y : Symbols) (names : List (List ℕ)) (location : SourceLocation
 coming_long y names location s p =
     coming_so (λ m. IsLong s.segment (piece_len p) m.content) y names location s p (λ must n e. subst (λ q. IsLong s.segment (piece_len q) (declaration_content [])) (sym e) (told_long s.segment [])) (made_long y location s p)
 
--- ---- Slots of a statement.
+-- ---- The slots of a statement.
 
 parts_cons : (c : Content) (cs : List Content) (g : ℕ) → sum_by part_len (parts_in (c ∷ cs) g) ≡ sum_by part_len (parts_in (c ∷ []) g) + sum_by part_len (parts_in cs g)
 parts_cons c cs g = by (nat_eq c.segment g)
@@ -228,9 +228,9 @@ asked_long y names l g true (c ∷ cs) (w, made, h) =
     ∙ none_first (sum_by part_len (parts_in cs g))
     ∙ pieces_long y (names ++ exported_names c.said) l g (pieces_of l.length l.encoding l.stated) cs h
 
--- ---- Forms of instructions.
+-- ---- Encodings of instructions.
 
--- the instruction has this form, and without an operand nothing is stored behind its code
+-- the instruction has an opcode in this mode; without an operand, no bytes follow the opcode
 record IsForm (m : Mnemonic) (t : Option Tree) (mode : Mode) : Type 0 where
   code : part_len (opcode_part (opcode_of m mode)) ≡ 1
   alone : t ≡ None → width_of mode ≡ None
@@ -292,7 +292,7 @@ between_taken bytes start x1 = grind (arith, common_steps)
 file_taken : (before : Symbols) (s : Context) (bytes : Option (List ℕ)) (start len : Option Tree) → length (file_bytes (file_len before s bytes start len) bytes (FileOffset (part_start before s start))) ≡ file_len before s bytes start len
 file_taken before s x1 start len = grind (arith, common_steps, between_taken)
 
--- ---- The pieces of a statement are as long as it is.
+-- ---- The pieces of a statement have the statement's length.
 
 items_long : (width : Width) (its : List Item) → sum_by piece_len (map (item_piece width) its) ≡ sum_by (item_len width) its
 items_long width [] = refl
@@ -337,7 +337,7 @@ measured_long before s own (ForceImport names) = sum_by-append piece_len (map im
 measured_long before s own (Assert e act words) = refl
 measured_long before s own _ = refl
 
--- a statement's contents put as many bytes into its segment as it places
+-- the contents of a statement add as many bytes to its segment as the statement is long
 pub slots_long : (y : Symbols) (names : List (List ℕ)) (before : Symbols) (l : LaidOutStatement) (g : ℕ) (cs : List Content) → IsMeasured before l → AreFound y names (slots_of l) cs → sum_by part_len (parts_in cs g) ≡ (if nat_eq l.context.segment g then l.length else 0)
 slots_long y names before l g cs e h =
     asked_long y names l g (needs_section l.stated) cs h

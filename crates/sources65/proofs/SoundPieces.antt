@@ -1,4 +1,4 @@
--- What the pieces of sound statements put and say.
+-- The pieces of well-formed statements have well-formed contents.
 use Rattle.std.proofs.lemmas.Grind.{common_steps}
 use Rattle.std.proofs.Common.{arith, ◌≡◌, List, [], ◌∷◌, refl, Result, Ok, Err, ℕ, zero, suc, ◌<◌, ◌≤◌, Bool, true, false, length, map, pos, negsuc, Option, Some, None}
 use Rattle.std.specs.Prelude.{⊤, IfOk, ◌&&◌}
@@ -45,7 +45,7 @@ names_all (n ∷ ns) h = (first (is_name n) (list_all is_name ns) h, names_all n
     rest true b k = k
     rest false b k = absurd cc
 
--- ---- Sound pieces, of a statement that stands here.
+-- ---- Well-formed pieces.
 
 abbrev pub IsSoundPiece : List ℕ → ℕ → Context → Piece → Type 0
 IsSoundPiece requested count s (known_part p) = IsWellFormedPart requested count p
@@ -56,7 +56,7 @@ IsSoundPiece requested count s (expression_value (asserted act words) e) = (leng
 IsSoundPiece requested count s (exported must n) = is_name n ≡ true
 IsSoundPiece requested count s p = ⊤
 
--- what is made of a piece is sound, and stands in no later segment than its statement
+-- the result of a piece is well-formed, and its segment is at most that of the statement
 abbrev pub IsWellMade : List ℕ → ℕ → Context → PieceResult → Type 0
 IsWellMade requested count s m = IsWellFormedContent requested count m.content × (m.content.segment ≤ s.segment)
 
@@ -118,7 +118,7 @@ pub piece_sound : (requested : List ℕ) (count : ℕ) (y : Symbols) → IsKnown
     IfOk (slot_result y names (deferred (record { place = location; context = s; piece = p }))) (IsWellMade requested count s)
 piece_sound requested count y k names location s p h = coming_so (IsWellMade requested count s) y names location s p (λ must n e. (record { parts = tt; said = tt }, omega arith)) (made_sound requested count y k location s p h)
 
--- ---- The pieces of a sound statement are sound.
+-- ---- The pieces of a well-formed statement are well-formed.
 
 mapped : {A : Type 0} (P : A → Type 0) (Q : Piece → Type 0) (make : A → Piece) → ((x : A) → P x → Q (make x)) → (xs : List A) → AllByRecursion P xs → AllByRecursion Q (map make xs)
 mapped P Q make so [] h = tt

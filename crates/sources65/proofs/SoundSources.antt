@@ -1,4 +1,4 @@
--- What a source lays is sound: its statements are of names that objects can hold.
+-- The layout of a source is well-formed: the names in its statements fit into an object.
 use Rattle.std.proofs.lemmas.Grind.{common_steps}
 use Rattle.std.proofs.Common.{arith, ◌≡◌, ℕ, ◌+◌, List, [], ◌∷◌, length, Option, Some, None, refl, sym, subst}
 use Rattle.std.specs.Prelude.{Result, Ok, Err}
@@ -17,16 +17,16 @@ use Rattle.ast65.specs.declared.language.Statement.TheVariants.{Constant}
 use Rattle.semantics65.specs.Layout.{Layout, empty_layout}
 use Rattle.semantics65.specs.Numbering.{AreSymbolNames, IsWellFormedStatement}
 use Rattle.ast65.specs.Parsing.{IsStatement, label_with_colon, label_of}
-use Rattle.sources65.proofs.Sounding.{statement_sound}
+use Rattle.sources65.proofs.WellFormedLines.{statement_sound}
 use Rattle.sources65.specs.Machine.{LayoutIsWellFormed}
 use Rattle.sources65.specs.Reading.{IsLaidOut, layout_semantics, DefinesConstants, AssemblesRest, statement_assembled, statement_rejected, expansion_rejected, source_ended, Define, AssemblesOpeningResult, AssemblesExpanded, AssemblesLabelTokens, AssemblesLabel, AssemblesTokens, Job, ReachedState, with_bytes}
 use Rattle.sources65.proofs.FitSteps.{IsStateFit, opened_fit, next_fit, tokens_of}
 use Rattle.sources65.proofs.FitTokens.{are_named}
 use Rattle.sources65.proofs.SoundLayouts.{IsGood, good_statement, nothing_good, sound_from}
 
--- ---- A label and what stands behind it.
+-- ---- A label and the rest of its line.
 
--- a label is sound, and what stands behind it are names
+-- a label is well-formed, and the identifiers after it are valid names
 pub record IsLabelSound (p : Option Statement × List Lexeme) : Type 0 where
   pub label : (x : Statement) → p.0 ≡ Some x → IsWellFormedStatement x
   pub rest : AreSymbolNames p.1
@@ -49,7 +49,7 @@ good_labelled : (y z : Layout) (location : SourceLocation) (o : Option Statement
 good_labelled y z location None good sound h = let same : y ≡ z = cc in subst IsGood same good
 good_labelled y z location (Some x) good sound h = good_statement y z location x good (sound x refl) h
 
--- bytes hand nothing else to the object
+-- the bytes of a file preserve well-formedness
 pub bytes_sound : (m : Files) (location : SourceLocation) (x : Statement) → IsWellFormedStatement x → IsWellFormedStatement (with_bytes m location x)
 bytes_sound m location x1 sound = grind (arith, common_steps)
 
@@ -85,7 +85,7 @@ good_taken m n s y r fit good (statement_rejected _ t x _ e reaches is) = good
 good_taken m n s y r fit good (expansion_rejected _ _ e location reaches) = good
 good_taken m n s y r fit good (source_ended _ t _ reaches) = good
 
--- a constant of the command line has no name that an object holds
+-- `-D` constants preserve the invariant: their names aren't part of the object
 good_defined : (y z : Layout) (location : SourceLocation) (ds : List Define) → IsGood y → DefinesConstants IsLaidOut y location ds (Ok z) → IsGood z
 good_defined y z location [] good h = let same : y ≡ z = cc in subst IsGood same good
 good_defined y z location (d ∷ ds) good h = by h.0 h.1 h.2 (λ w. good_defined w z location ds)

@@ -1,4 +1,4 @@
--- Constants without whose number or address others have none.
+-- Blockers: an expression has no number and no address if the constant that blocks it has none.
 use Rattle.std.proofs.Common.{◌≡◌, ◌∙◌, ℕ, suc, ◌+◌, refl, sym, ap, arith, length, Option, Some, None, slice_get, Ok}
 use Rattle.std.specs.Prelude.{IfSome}
 use Rattle.std.specs.Option.{option_and_then, unwrap_or}
@@ -11,15 +11,15 @@ use Rattle.semantics65.specs.Norms.{defined_form, form_of_definition, norm, norm
 use Rattle.semantics65.specs.Symbols.{Definition, Symbols, binding_of, defined_at}
 use Rattle.symbols65.specs.Resolving.{IsBlocked, IsBlockedAt, HasFinalBinding, binary_form, plain_form, plain_result, prefix_form}
 use Rattle.symbols65.specs.Tables.{HasBlocker}
-use Rattle.symbols65.proofs.Sizing.{binary_plain, left_alone, operand_norm, prefix_plain}
-use Rattle.symbols65.proofs.Turns.{norm_is_last}
-use Rattle.symbols65.proofs.Words.{get_stays}
+use Rattle.symbols65.proofs.PlainForms.{binary_plain, left_alone, operand_norm, prefix_plain}
+use Rattle.symbols65.proofs.ExpansionDepths.{norm_is_last}
+use Rattle.symbols65.proofs.InternedNames.{get_stays}
 
 pub if_some : {P Q : ℕ → Type 0} (o : Option ℕ) → ((r : ℕ) → P r → Q r) → IfSome o P → IfSome o Q
 if_some None f h = tt
 if_some (Some r) f h = f r h
 
--- an operand has the form of the definition that it means
+-- the normal form of an operand that is bound to a definition is the form of that definition
 pub operand_defined : (z : Symbols) (s : Context) (e : Tree) (j : ℕ) → binding_of z s e ≡ Ok (defined_at j) → norm_of z s e ≡ defined_form z j
 operand_defined z s e j h =
     let one : 1 + length z.definitions ≡ suc (length z.definitions) = omega arith in
@@ -41,7 +41,7 @@ module _ (y : Symbols) where
       ∙ ap (λ o. option_and_then plain_form (binary_form op (plain_result (norm_of z s e)) o)) (h z more none)
       ∙ ap (option_and_then plain_form) (left_alone op (plain_result (norm_of z s e)))
 
-  -- what is kept with a definition
+  -- the blocker that is stored with a definition blocks the definition
   pub stored_blocks : (j : ℕ) (d : Definition) (b : Option ℕ) (r : ℕ) → slice_get y.definitions j ≡ Some d → HasBlocker y d b → b ≡ Some r → IsBlockedAt y j r
   stored_blocks j d b r at h is = λ z more none.
       ap plain_result (ap (λ ds. form_of_definition (norm_of z) (slice_get ds j)) more.definitions ∙ ap (form_of_definition (norm_of z)) (get_stays y.definitions more.later_definitions j (slice_get_within y.definitions j d at) ∙ at))

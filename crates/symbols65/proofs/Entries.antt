@@ -1,4 +1,4 @@
--- Entries of searches: which constants are met, and what one entry more says.
+-- Entries of searches: the number of constants without an entry, and the effect of a further entry.
 use Rattle.std.proofs.Common.{◌≡◌, ◌≢◌, ℕ, zero, suc, ◌+◌, ◌<◌, ◌≤◌, refl, sym, ap, ◌∙◌, arith, Option, Some, None, Bool, true, false, nat_eq, ◌⊎◌, inl, inr}
 use Rattle.std.specs.Prelude.{if◌then◌else◌}
 use Rattle.std.specs.Option.{option_and_then}
@@ -9,7 +9,7 @@ use Rattle.symbols65.specs.Views.{entry_form}
 use Rattle.symbols65.specs.declared.table.symbols.SearchEntry.{SearchEntry}
 use Rattle.symbols65.specs.declared.table.symbols.SearchEntry.TheVariants.{KnownForm, NoForm}
 
--- ---- How many constants a search hasn't met.
+-- ---- The number of constants that a search hasn't visited.
 
 abbrev is_new : {X : Type 0} → Option X → ℕ
 is_new None = 1
@@ -19,12 +19,12 @@ abbrev pub unmet : {X : Type 0} → (ℕ → Option X) → ℕ → ℕ
 unmet met zero = 0
 unmet met (suc n) = is_new (met n) + unmet met n
 
--- one more is met
+-- the new entries are the old ones, with the entry at one index set to `x`
 abbrev pub Meets : {X : Type 0} → (ℕ → Option X) → (ℕ → Option X) → ℕ → X → Type 0
 Meets old new j x = (i : ℕ) → new i ≡ (if nat_eq j i then Some x else old i)
 
 module _ {X : Type 0} (old new : ℕ → Option X) (j : ℕ) (x : X) (h : Meets old new j x) where
-  -- what is known of an index
+  -- an index is the one that was set, or its entry is unchanged
   pub meets_cases : (i : ℕ) → ((i ≡ j) × (new i ≡ Some x)) ⊎ ((i ≢ j) × (new i ≡ old i))
   meets_cases i = go (nat_eq j i) refl
     where
@@ -70,7 +70,7 @@ entry_same count (Some (NoForm n)) = by (nat_eq n count) (entry_at count (Some (
     by true o is = sym (ap (option_and_then (λ x. x)) is)
     by false o is = sym (ap (option_and_then (λ x. x)) is)
 
--- one entry more
+-- `entry_at` distributes over `if`
 entry_pushed : (count : ℕ) (b : Bool) (x : SearchEntry) (o : Option SearchEntry) → entry_at count (if b then Some x else o) ≡ (if b then entry_at count (Some x) else entry_at count o)
 entry_pushed count true x o = refl
 entry_pushed count false x o = refl

@@ -1,4 +1,4 @@
--- What one walk finds of an expression, by what it finds of its parts.
+-- The evaluation of an expression from those of its operands, and of a statement from those of its expressions.
 use Rattle.std.proofs.lemmas.Grind.{common_steps}
 use Rattle.std.proofs.Common.{◌≡◌, ◌∙◌, ◌⊎◌, inl, inr, ◌<◌, ◌++◌, ℕ, zero, suc, get_or, List, [], ◌∷◌, length, Bool, true, false, Option, Some, None, Result, Ok, Err, refl, sym, ap, subst, arith, append-nil}
 use Rattle.std.specs.Prelude.{ℤ, IfOk, is_some, pos, slice_get, if◌then◌else◌}
@@ -30,12 +30,12 @@ use Rattle.symbols65.specs.Resolving.{IsFinalWithin, IsReference, binary_form, p
 use Rattle.symbols65.specs.declared.constants.Evaluation.{Evaluation}
 use Rattle.symbols65.specs.declared.measuring.trees.Evaluations.{Evaluations}
 use Rattle.symbols65.proofs.Finals.{binary_stays, prefix_stays}
-use Rattle.symbols65.proofs.Measures.{left_after, refused_first, refused_same, unless_then}
-use Rattle.symbols65.proofs.Turns.{extends_itself}
-use Rattle.symbols65.proofs.Words.{get_more}
-use Rattle.symbols65.proofs.Sizing.{binary_plain, folded_plain, left_alone, plain_again, plain_known, plain_twice, plain_value, prefix_plain}
+use Rattle.symbols65.proofs.StatementLayouts.{left_after, refused_first, refused_same, unless_then}
+use Rattle.symbols65.proofs.ExpansionDepths.{extends_itself}
+use Rattle.symbols65.proofs.InternedNames.{get_more}
+use Rattle.symbols65.proofs.PlainForms.{binary_plain, folded_plain, left_alone, plain_again, plain_known, plain_twice, plain_value, prefix_plain}
 
--- ---- Folding forms, of which some are held that are no number and no address.
+-- ---- The number or address of an operation depends only on those of its operands.
 
 prefix_drops : (op : Op1) (o : Option Form) → option_and_then plain_form (prefix_form op o) ≡ option_and_then plain_form (prefix_form op (option_and_then plain_form o))
 prefix_drops op None = refl
@@ -56,7 +56,7 @@ binary_held op o p q r h k =
     ∙ ap (λ x. option_and_then plain_form (binary_form op (plain_result q) x)) k
     ∙ binary_plain op q r
 
--- ---- What is held of a form.
+-- ---- The form that an evaluation stores.
 
 abbrev held : Bool → Option Form → Option Form
 held b o = if b then o else option_and_then plain_form o
@@ -73,13 +73,14 @@ held_whole false o p f h e is = absurd cc
 value_held : (y : Symbols) (s : Context) (e : Tree) (o : Option Form) → option_and_then plain_form o ≡ plain_result (norm_of y s e) → option_and_then (λ f. literal_in (Ok f)) o ≡ constant_in y s e
 value_held y s e o h = plain_value o ∙ ap (option_and_then (λ f. literal_in (Ok f))) h ∙ plain_known (norm_of y s e)
 
--- an evaluation is made of a form, which may be final, and of a size without a value
+-- an evaluation is built from a form, from whether the form is final, and from a size, which applies if the form is no
+-- number
 pub record IsMadeOf (r : Evaluation) (o : Option Form) (b : Bool) (other : AddressSize) : Type 0 where
   pub form : r.form ≡ held b o
   pub final : r.is_final ≡ b
   pub size : r.size ≡ size_by other (option_and_then (λ f. literal_in (Ok f)) o)
 
--- so it is that of an expression with this form
+-- conditions under which such an evaluation is that of an expression
 made : (y : Symbols) (s : Context) (own : AddressSize) (e : Tree) (r : Evaluation) (o : Option Form) (b : Bool) (other : AddressSize) →
     IsMadeOf r o b other → option_and_then plain_form o ≡ plain_result (norm_of y s e) → (b ≡ true → (f : Form) → o ≡ Some f → IsFinalWithin (length y.definitions) y s e f) →
     size_by other (constant_in y s e) ≡ size_of y s own e → IsEvaluation y s own e r
@@ -108,7 +109,7 @@ module _ (y : Symbols) (s : Context) (own : AddressSize) where
       (λ yes f is. binary_stays (length y.definitions) y s op e g v.form u.form (h.stays (left yes)) (k.stays (right yes)) f (sym folds ∙ is))
       (ap (λ a. size_by a (constant_in y s (binary op e g))) (sized ∙ ap (λ a. larger a u.size) h.size ∙ ap (larger (size_of y s own e)) k.size))
 
-  -- ---- Numbers and places.
+  -- ---- Numbers and `*`.
 
   pub number_found : (n : ℕ) (r : Evaluation) → r.form ≡ Some (lit (pos n)) → r.size ≡ size_of_value (pos n) → IsEvaluation y s own (number n) r
   number_found n r form sized = record {
@@ -136,7 +137,7 @@ module _ (y : Symbols) (s : Context) (own : AddressSize) where
   reference_size (forward n) h = refl
   reference_size (backward n) h = refl
 
-  -- what means nothing yet
+  -- the normal form of a reference without a binding is the error of the lookup
   absent_norm : (e : Tree) (z : AsmFault) → IsReference e → binding_of y s e ≡ Err z → norm_of y s e ≡ Err z
   absent_norm (number n) z h is = absurd h
   absent_norm here z h is = absurd h
@@ -155,7 +156,7 @@ module _ (y : Symbols) (s : Context) (own : AddressSize) where
       (λ no. absurd cc)
       (ap (λ n. size_by size.Absolute (literal_in n)) none ∙ sym (ap (λ n. size_by (size_of_binding y n) (constant_in y s e)) is ∙ ap (λ n. size_by size.Absolute (literal_in n)) none) ∙ sym (reference_size e h))
 
-  -- what means something by the statements so far
+  -- a reference with a binding, whose form isn't known to be final
   pub meant_found : (e : Tree) (means : Binding) (r : Evaluation) (o : Option Form) (other : AddressSize) → IsReference e → binding_of y s e ≡ Ok means → o ≡ plain_result (norm_of y s e) → other ≡ size_of_binding y (Ok means) →
       IsMadeOf r o false other → IsEvaluation y s own e r
   meant_found e means r o other h is has sized m =
@@ -165,7 +166,7 @@ module _ (y : Symbols) (s : Context) (own : AddressSize) where
       (ap (λ a. size_by a (constant_in y s e)) (sized ∙ ap (size_of_binding y) (sym is)) ∙ sym (reference_size e h))
 
 module _ (y : Symbols) (s : Context) (own : AddressSize) where
-  -- what means something, and has a final form
+  -- a reference with a binding and a final form
   pub final_found : (e : Tree) (means : Binding) (f : Form) (r : Evaluation) (other : AddressSize) → IsReference e → binding_of y s e ≡ Ok means → IsFinalWithin (length y.definitions) y s e f → other ≡ size_of_binding y (Ok means) →
       IsMadeOf r (Some f) true other → IsEvaluation y s own e r
   final_found e means f r other h is keeps sized m =
@@ -174,7 +175,7 @@ module _ (y : Symbols) (s : Context) (own : AddressSize) where
       (λ yes g at. (let same : f ≡ g = cc in subst (IsFinalWithin (length y.definitions) y s e) same keeps))
       (ap (λ a. size_by a (constant_in y s e)) (sized ∙ ap (size_of_binding y) (sym is)) ∙ sym (reference_size y s own e h))
 
--- ---- Names whose scope isn't there.
+-- ---- Names whose scope doesn't exist.
 
 module _ (y : Symbols) (s : Context) (own : AddressSize) where
   abbrev lost : Tree → Option AsmFault
@@ -189,7 +190,7 @@ module _ (y : Symbols) (s : Context) (own : AddressSize) where
   pub none_lost : (op : Op2) (e g : Tree) → lost e ≡ None → lost g ≡ None → lost (binary op e g) ≡ None
   none_lost op e g none also = ap (λ f. or_then f (lost g)) none ∙ also
 
-  -- a name that was checked before it is looked up
+  -- if the check of the scopes of an expression fails, its evaluation fails with the same error
   pub name_lost : (e : Tree) (z : AsmFault) → Unless (is_out_of_memory z) (unless_fault {A = Unit {0}} (lost e) tt ≡ Err z) → EvaluatesTree y s own e (Err z)
   name_lost e z h = unless_then (is_out_of_memory z) (λ p. there (lost e) p) h
     where
@@ -204,7 +205,7 @@ module _ (y : Symbols) (s : Context) (own : AddressSize) where
 
   -- ---- Lists of expressions.
 
-  -- a constant's value is that of the form that is held
+  -- the constant value of an expression is that of the form in its evaluation
   pub number_is : (e : Tree) (v : Evaluation) → IsEvaluation y s own e v → option_and_then (λ f. literal_in (Ok f)) v.form ≡ constant_in y s e
   number_is e v h = value_held y s e v.form h.form
 
@@ -214,7 +215,7 @@ module _ (y : Symbols) (s : Context) (own : AddressSize) where
   pub first_there : (e : Tree) (es : List Tree) → lost e ≡ None → missing_scopes_fault y.scopes s.scope (e ∷ es) ≡ missing_scopes_fault y.scopes s.scope es
   first_there e es none = ap (λ f. or_then f (missing_scopes_fault y.scopes s.scope es)) none
 
--- ---- The values of expressions that may be left out.
+-- ---- The values of optional expressions.
 
 module _ (y : Symbols) (s : Context) (own : AddressSize) where
   pub found_number : (e : Option Tree) (o : Option Evaluation) (k : Option ℤ) → IsEvaluated y s own e o → is_some o ≡ true → ((t : Tree) → IsEvaluated y s own (Some t) o → k ≡ constant_in y s t) → (d : ℤ) → optional_value y s e d ≡ k
@@ -240,7 +241,7 @@ operand_trees_are (operands.Indirect e) = refl
 operand_trees_are (operands.IndirectX e) = refl
 operand_trees_are (operands.IndirectY e) = refl
 
--- those of a statement other than a list
+-- the expressions of a statement other than a list are its first and its second one, if it has them
 pub trees_are : (x : Statement) → ((width : Width) (items : List Item) → x ≡ statement.Values width items → ⊥) → trees_of x ≡ optional_tree (first_tree x) ++ optional_tree (second_tree x)
 trees_are (statement.Values width items) h = absurd (h width items refl)
 trees_are (statement.Constant n e) h = refl
@@ -251,7 +252,7 @@ trees_are (statement.Align n v) h = refl
 trees_are (statement.Incbin bytes start len) h = refl
 trees_are _ h = refl
 
--- what the first of two lists of expressions is refused for, and the second one where it isn't
+-- the first missing scope of two lists of expressions is that of the first list, or else that of the second
 pub either_lost : (cs : List Scope) (scope : ℕ) (es gs : List Tree) → missing_scopes_fault cs scope (es ++ gs) ≡ or_then (missing_scopes_fault cs scope es) (missing_scopes_fault cs scope gs)
 either_lost cs scope [] gs = refl
 either_lost cs scope (e ∷ es) gs = ap (or_then (missing_scope_fault cs scope e)) (either_lost cs scope es gs) ∙ or_then_assoc (missing_scope_fault cs scope e) (missing_scopes_fault cs scope es) (missing_scopes_fault cs scope gs)
@@ -266,7 +267,7 @@ left_of_two cs scope es gs e h = refused_same e _ _ (ap (λ f. unless_fault {A =
 pub right_of_two : (cs : List Scope) (scope : ℕ) (es gs : List Tree) → unless_fault {A = Unit {0}} (missing_scopes_fault cs scope es) tt ≡ Ok tt → unless_fault {A = Unit {0}} (missing_scopes_fault cs scope (es ++ gs)) tt ≡ unless_fault {A = Unit {0}} (missing_scopes_fault cs scope gs) tt
 right_of_two cs scope es gs none = ap (λ f. unless_fault {A = Unit {0}} f tt) (either_lost cs scope es gs ∙ left_after (missing_scopes_fault cs scope es) (missing_scopes_fault cs scope gs) tt tt none)
 
--- ---- What is found of all expressions of a statement.
+-- ---- The evaluations of all expressions of a statement.
 
 pub all_found : (y : Symbols) (s : Context) (own : AddressSize) (x : Statement) (a b : Option Tree) (r : Result Evaluations AsmFault) → a ≡ first_tree x → b ≡ second_tree x → IfOk r (λ v. IsEvaluated y s own a v.first) → IfOk r (λ v. IsEvaluated y s own b v.second) → IfOk r (λ v. v.forms.items ≡ []) → IfOk r (AreEvaluations y s own x)
 all_found y s own x a b (Err e) p q f g h = tt
@@ -283,7 +284,7 @@ item_at [] i x lt e = absurd (omega arith)
 item_at (z ∷ items) zero x lt e = ap Some (sym e)
 item_at (z ∷ items) (suc i) x lt e = item_at items i x (omega arith) e
 
--- one more form, of the next element
+-- appending the form of the next element preserves `HaveFinals`, if that form is final
 pub finals_more : (y : Symbols) (s : Context) (items : List Item) (forms : List (Option Form)) (k : ℕ) (item : Item) (form : Option Form) → length forms ≡ k → slice_get items k ≡ Some item →
     HaveFinals y s items forms → HasFinal y s (item_tree item) form → HaveFinals y s items (forms ++ form ∷ [])
 finals_more y s items forms k item form long at h own = λ i x o there held. by i x o there (get_more forms form o i held)
@@ -295,6 +296,6 @@ finals_more y s items forms k item form long at h own = λ i x o there held. by 
         let same : item ≡ x = cc in
         subst (λ (z : Item). HasFinal y s (item_tree z) o) same (subst (HasFinal y s (item_tree item)) is own)
 
--- what fewer elements have of what all have
+-- `HaveFinals` of a list implies `HasFinal` of its first element and `HaveFinals` of the rest
 pub finals_rest : (y : Symbols) (s : Context) (item : Item) (items : List Item) (form : Option Form) (forms : List (Option Form)) → HaveFinals y s (item ∷ items) (form ∷ forms) → HasFinal y s (item_tree item) form × HaveFinals y s items forms
 finals_rest y s item items form forms h = (h zero item form refl refl, λ i x o there held. h (suc i) x o there held)

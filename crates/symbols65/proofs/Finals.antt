@@ -1,4 +1,4 @@
--- What stays whatever statements follow.
+-- Final bindings and final forms, which are preserved whatever statements follow.
 use Rattle.std.proofs.lemmas.Grind.{common_steps}
 use Rattle.std.proofs.Common.{◌≡◌, ℕ, zero, suc, ◌+◌, ◌-◌, ◌≤◌, Bool, true, false, List, [], ◌∷◌, length, take, position, Option, Some, None, IfSome, IfOk, slice_get, Result, Ok, Err, refl, sym, ap, ◌∙◌, arith}
 use Rattle.std.specs.Prelude.{nat_le, if◌then◌else◌}
@@ -25,16 +25,16 @@ use Rattle.std.specs.Option.{option_map, unwrap_or}
 use Rattle.symbols65.specs.Resolving.{IsFinalWithin, binary_form, prefix_form, attempt_definition, attempt_value, known_form, plain_part, HasFinalBinding}
 use Rattle.symbols65.specs.Views.{final_form, key_at, table_of, interned_names_of}
 use Rattle.symbols65.proofs.Scopes.{name_is, name_meaning}
-use Rattle.symbols65.proofs.Words.{first_passes, first_within, get_mapped, get_stays, position_stays}
-use Rattle.symbols65.proofs.Settling.{final_among}
-use Rattle.symbols65.proofs.Turns.{extends_itself, expression_course, expression_is, ok_later}
+use Rattle.symbols65.proofs.InternedNames.{first_passes, first_within, get_mapped, get_stays, position_stays}
+use Rattle.symbols65.proofs.KnownForms.{final_among}
+use Rattle.symbols65.proofs.ExpansionDepths.{extends_itself, expression_course, expression_is, ok_later}
 
 -- ---- Definitions.
 
 defined_stays : (y z : Symbols) → Extends y z → (k : Key) (j : ℕ) → definition_index y k ≡ Some j → definition_index z k ≡ Some j
 defined_stays y z more k j e = ap (position (λ d. same_key d.key k)) more.definitions ∙ position_stays (λ d. same_key d.key k) y.definitions more.later_definitions j e
 
--- what means the definition of a key, wherever that is defined
+-- an operand has a final binding if each extension of the table binds it to the definition of the same key
 by_key : (y : Symbols) (s : Context) (e : Tree) (k : Key) (j : ℕ) → definition_index y k ≡ Some j → ((z : Symbols) (j : ℕ) → Extends y z → definition_index z k ≡ Some j → binding_of z s e ≡ Ok (defined_at j)) → HasFinalBinding y s e j
 by_key y s e k j at means = (first_within (λ d. same_key d.key k) y.definitions j at, λ z more. means z j more (defined_stays y z more k j at))
 
@@ -68,7 +68,7 @@ own_member y s global parts q i plain le found h = by_key y s (name global parts
     member z zero j e = ap (λ o. binding_or_fault (Undefined (display_name global parts)) o (import_index z (last_of parts))) e
     member z (suc i) j e = ap (λ o. binding_or_fault (Undefined (display_name global parts)) o None) e
 
--- ---- Operands by the definitions that they mean.
+-- ---- Operands that are bound to definitions.
 
 found_is : (z : AsmFault) (o other : Option ℕ) (j : ℕ) → binding_or_fault z o other ≡ Ok (defined_at j) → o ≡ Some j
 found_is z None None j e = absurd cc
@@ -83,7 +83,7 @@ found_in f (q ∷ ss) j e = by (f q) refl e (λ rest. found_in f ss j rest)
     by None is e rest = rest e
     by (Some i) is e rest = (q, is ∙ e)
 
--- a name that the scope of its use defines
+-- the binding of a plain name to a definition in the scope of its use is final
 pub plain_final : (y : Symbols) (s : Context) (n m : List ℕ) (j : ℕ) (d : Definition) → slice_get y.definitions j ≡ Some d → d.key ≡ named s.scope m → binding_of y s (name false (n ∷ [])) ≡ Ok (defined_at j) → HasFinalBinding y s (name false (n ∷ [])) j
 plain_final y s n m j d at key means =
     let found = found_is (Undefined n) (first_found (λ q. definition_index y (named q n)) (scopes_from y.scopes s.scope)) (import_index y n) j means in
@@ -108,7 +108,7 @@ member_is y n absent lost None j e = absurd cc
 member_is y n absent lost (Some zero) j e = (zero, refl, found_is absent (definition_index y (named zero n)) (import_index y n) j e)
 member_is y n absent lost (Some (suc i)) j e = (suc i, refl, found_is absent (definition_index y (named (suc i) n)) None j e)
 
--- a name with `::`, whose scopes were opened before
+-- the binding of a name with `::` to a definition is final, if the table contains the scopes opened before its use
 pub scoped_final : (y : Symbols) (s : Context) (global : Bool) (parts : List (List ℕ)) (j : ℕ) → plain_part global parts ≡ None → s.opened ≤ length y.scopes → binding_of y s (name global parts) ≡ Ok (defined_at j) → HasFinalBinding y s (name global parts) j
 scoped_final y s global parts j plain le means =
     let scoped = sym (name_is y s global parts ∙ ap (name_meaning y s global parts) plain) ∙ means in
@@ -130,7 +130,7 @@ backward_final y s n j means = by (nat_le n s.unnamed) refl means
 folds : (r : Result Form FormFault) (f : Form) → result_ok r ≡ Some f → fold_result r ≡ Ok f
 folds x f q = grind (arith, common_steps)
 
--- where the part of an operation stays, so does the whole
+-- the form of an operation is final if those of its operands are final
 pub prefix_stays : (n : ℕ) (y : Symbols) (s : Context) (op : Op1) (e : Tree) (o : Option Form) → ((g : Form) → o ≡ Some g → IsFinalWithin n y s e g) → (f : Form) → prefix_form op o ≡ Some f → IsFinalWithin n y s (unary op e) f
 prefix_stays n y s op e None h f q = absurd cc
 prefix_stays n y s op e (Some g) h f q = λ z more. ap (λ r. r >>= (λ x. fold_result (fold1 op x))) (h g refl z more) ∙ folds (fold1 op g) f q
@@ -163,7 +163,7 @@ module _ (t : code.Symbols) (s : Context) where
           let at : slice_get z.definitions j ≡ Some d = ap (λ ds. slice_get ds j) more.definitions ∙ get_stays y.definitions more.later_definitions j lt ∙ is in
           value_ok (length y.definitions) z j (final_form t j) d f (λ g k. ap (form_of_definition (norm (length y.definitions) z)) (sym at) ∙ final_among t z more (length y.definitions) j g lt k) d.value refl e
 
-  -- so an operand that means the same keeps the form that is final
+  -- an operand with a final binding has a final form, if its definition is a label or has a final form
   pub operand_stays : (e : Tree) (j : ℕ) (f : Form) → HasFinalBinding y s e j → attempt_definition (λ q v. known_form j (final_form t j)) (slice_get y.definitions j) ≡ Ok f → IsFinalWithin (length y.definitions) y s e f
   operand_stays (number v) j f m h = absurd (let no = m.1 y (extends_itself y) in cc)
   operand_stays here j f m h = absurd (let no = m.1 y (extends_itself y) in cc)
@@ -174,13 +174,13 @@ module _ (t : code.Symbols) (s : Context) where
   operand_stays (forward x) j f m h = λ z more. meant_ok z more (forward x) j m f h
   operand_stays (backward x) j f m h = λ z more. meant_ok z more (backward x) j m f h
 
--- and it is the normal form there
+-- a final form is the normal form in each extension of the table
 pub within_final : (y : Symbols) (s : Context) (e : Tree) (f : Form) → IsFinalWithin (length y.definitions) y s e f → (z : Symbols) → Extends y z → norm_of z s e ≡ Ok f
 within_final y s e f h z more =
     let long : length z.definitions ≡ length y.definitions + length more.later_definitions = ap length more.definitions ∙ length-append y.definitions more.later_definitions in
     ok_later (expression_course z s e) (expression_is z s e) (suc (length y.definitions)) (suc (length z.definitions)) f (omega (arith, long)) (h z more)
 
--- ---- As the code finds them.
+-- ---- Optional indices and results.
 
 pub by_place : (P : ℕ → Type 0) (o : Option ℕ) → ((j : ℕ) → o ≡ Some j → P j) → IfSome o P
 by_place x y h = grind (arith, common_steps)

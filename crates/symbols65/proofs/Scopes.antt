@@ -1,4 +1,4 @@
--- Scopes, and the parts of names that are found in them.
+-- Scopes, and the lookup of the parts of names in them.
 use Rattle.std.proofs.lemmas.Grind.{common_steps}
 use Rattle.std.proofs.Common.{arith, ◌≡◌, ℕ, List, ◌⊎◌, inl, inr, sym, Bool, true, false, [], ◌∷◌, ◌++◌, Option, Some, None, refl, ap, ◌∙◌, zero, suc, ◌+◌, ◌-◌, ◌<◌, ◌≤◌, cond, nat_lt, take, position}
 use Rattle.syntax65.specs.Trees.{Tree, name}
@@ -18,7 +18,7 @@ use Rattle.std.proofs.lemmas.Iterator.Adapters.{position_from-zero}
 
 -- ---- Kinds of expressions that are references.
 
--- a kind that a match over references takes
+-- the kind of a reference: a plain name, a name with `::`, a cheap local label or an unnamed label
 abbrev pub Taken : ExprKind → Type 0
 Taken k = ((x : List ℕ) × (k ≡ kind.Plain x)) ⊎ (((x : Name) × (k ≡ kind.Scoped x)) ⊎ (((x : List ℕ) × (k ≡ kind.Cheap x)) ⊎ (((x : ℕ) × (k ≡ kind.Forward x)) ⊎ ((x : ℕ) × (k ≡ kind.Backward x)))))
 
@@ -37,7 +37,7 @@ last_after [] n = refl
 last_after (m ∷ []) n = refl
 last_after (m ∷ k ∷ rest) n = last_after (k ∷ rest) n
 
--- the parts behind the first, as they are shown
+-- the parts after the first, each after `::`, as they are printed
 abbrev pub joined_after : List (List ℕ) → List ℕ
 joined_after [] = []
 joined_after (n ∷ names) = codes "::" ++ n ++ joined_after names
@@ -46,7 +46,7 @@ pub joined_first : (n : List ℕ) (names : List (List ℕ)) → qualified_name (
 joined_first n [] = grind (arith, common_steps)
 joined_first n (m ∷ names) = append_assoc n (codes "::") (qualified_name (m ∷ names)) ∙ ap (λ l. n ++ l) (ap (λ l. codes "::" ++ l) (joined_first m names) ∙ sym (append_assoc (codes "::") m (joined_after names)))
 
--- what a name means where it stands, by its one part if it is plain
+-- the binding of a name in a context, given its only part if the name is plain
 abbrev pub name_meaning : Symbols → Context → Bool → List (List ℕ) → Option (List ℕ) → Result Binding AsmFault
 name_meaning y s global parts (Some n) = plain_binding y s.scope n
 name_meaning y s global parts None = scoped_binding y s global parts
@@ -61,23 +61,23 @@ name_is y s true (n ∷ names) = refl
 defined_first : (e : AsmFault) (o other : Option ℕ) → o ≡ defined_index (binding_or_fault e o other)
 defined_first e x other = grind (arith, common_steps)
 
--- what a plain name means is defined where a scope from its own outward defines it
+-- the definition of a plain name is the one in the innermost scope around its use that has one
 pub defined_outward_at : (y : Symbols) (s : Context) (global : Bool) (parts : List (List ℕ)) (n : List ℕ) → plain_part global parts ≡ Some n → first_found (λ c. definition_index y (named c n)) (scopes_from y.scopes s.scope) ≡ defined_index (binding_of y s (name global parts))
 defined_outward_at y s false [] n e = absurd cc
 defined_outward_at y s false (m ∷ []) n e = grind (arith, common_steps, defined_first)
 defined_outward_at y s false (m ∷ k ∷ parts) n e = absurd cc
 defined_outward_at y s true parts n e = absurd cc
 
--- ---- Outward.
+-- ---- The search from a scope outward.
 
 module _ (cs : List Scope) (f : ℕ → Option ℕ) where
-  -- what the innermost scope has is found first
+  -- the result in the scope itself is found first
   pub outward_first : (n s j : ℕ) → Some j ≡ f s → Some j ≡ first_found f (outward_from cs n s)
   outward_first n zero j e = ap (λ o. or_else o None) e
   outward_first zero (suc i) j e = ap (λ o. or_else o None) e
   outward_first (suc n) (suc i) j e = ap (λ o. or_else o (first_found f (outward_from cs n (enclosing cs (suc i))))) e
 
-  -- where it hasn't any, the scopes around it are looked through, if there are more
+  -- without a result there, the search continues in the parent, if there is one
   pub outward_last : (n s : ℕ) → None ≡ f s → (s ≡ 0) ⊎ (n ≡ 0) → None ≡ first_found f (outward_from cs n s)
   outward_last n zero e h = ap (λ o. or_else o None) e
   outward_last zero (suc i) e h = ap (λ o. or_else o None) e
@@ -95,13 +95,13 @@ module _ (cs : List Scope) (f : ℕ → Option ℕ) where
   found_nowhere none [] = refl
   found_nowhere none (s ∷ ss) = found_nowhere none ss ∙ ap (λ o. or_else o (first_found f ss)) (sym (none s))
 
--- ---- What stands before a place.
+-- ---- The items before an index.
 
 from_above : {A : Type 0} (p : A → Bool) (k : ℕ) (xs : List A) (j : ℕ) → position_from p k xs ≡ Some j → k ≤ j
 from_above p k [] j e = absurd cc
 from_above {A = A} p k (x ∷ xs) j e = grind (arith, common_steps, (from_above p (k + 1) xs j))
 
--- a place below a bound
+-- an index, if it is below a bound
 abbrev pub below : ℕ → Option ℕ → Option ℕ
 below i None = None
 below i (Some j) = cond (nat_lt j i) (Some j) None
@@ -122,7 +122,7 @@ position_before {A = A} p i xs = position_from-zero p (take i xs) ∙ go 0 i xs 
         by true h = (let under : nat_lt k (k + suc i) ≡ true = grind (arith, nat_tests) in sym (ap (λ b. cond b (Some k) None) under))
         by false h = h ∙ ap (λ n. below n (position_from p (k + 1) xs)) (let same : k + 1 + i ≡ k + suc i = omega arith in same)
 
--- ---- Scopes that were opened first.
+-- ---- The first scopes that were opened.
 
 module _ (cs : List Scope) (opened s : ℕ) (n : List ℕ) where
   pub scope_before : (i : ℕ) → scope_in cs s n ≡ Some i → i ≤ opened → scope_in (take opened cs) s n ≡ Some i

@@ -15,7 +15,7 @@ use Rattle.symbols65.specs.Internal.Cursors.{HaveBoundedSizes, IsWellFormedCurso
 use Rattle.ast65.proofs.Lists.{bytes_swap, position_mapped}
 use Rattle.semantics65.proofs.Segments.{all_more, all_same, grown_length, grown_names}
 
--- a list written over by one as long is that one
+-- overwriting a whole list with one of the same length gives the latter
 written_over : {A : Type 0} (n : ℕ) (xs ys : List A) → length xs ≡ length ys → n ≡ length ys → take n (xs ++ drop (length xs) ys) ≡ xs
 written_over n xs ys same long = ap (λ zs. take n (xs ++ zs)) (drop_all (length xs) ys (omega (arith, same))) ∙ ap (take n) (append-nil xs) ∙ take_all n xs (omega (arith, same, long))
 
@@ -39,7 +39,7 @@ grown_is (g ∷ gs) (suc i) count alignment = ap (λ hs. g ∷ hs) (grown_is gs 
 same_test : {A : Type 0} (p q : A → Bool) → ((x : A) → p x ≡ q x) → (xs : List A) → position p xs ≡ position q xs
 same_test p q h xs = ap (λ (t : _ → Bool). position t xs) (fun_ext h)
 
--- the place of a name among those of the segments
+-- the index of a name in the set of names is the index of its segment
 pub place_is : (n : List ℕ) (w : Inside) → map (λ k. k.items) w.names.keys ≡ map (λ (g : Segment). g.name) w.segments.items → position (λ k. bytes_eq n k.items) w.names.keys ≡ segment_index w.segments.items n
 place_is n w e =
     sym (position_mapped (bytes_eq n) (λ k. k.items) w.names.keys)
@@ -47,14 +47,14 @@ place_is n w e =
     ∙ position_mapped (bytes_eq n) (λ (g : Segment). g.name) w.segments.items
     ∙ same_test (λ (g : Segment). bytes_eq n g.name) (λ (g : Segment). bytes_eq g.name n) (λ g. bytes_swap n g.name) w.segments.items
 
--- ---- Ends.
+-- ---- Ends of segments.
 
 pub grown_within : (gs : List Segment) (i count alignment : ℕ) → (segment_at gs i).end + count ≤ section_limit → HaveBoundedSizes gs → HaveBoundedSizes (with_grown_segment gs i count alignment)
 grown_within [] i count alignment le h = tt
 grown_within (g ∷ gs) zero count alignment le h = (le, h.1)
 grown_within (g ∷ gs) (suc i) count alignment le h = (h.0, grown_within gs i count alignment le h.1)
 
--- what is written over the segments, where it is they with one grown
+-- the segments after they are overwritten with the same segments, of which one has grown
 pub written_grown : (n : ℕ) (new held gs : List Segment) (i count alignment : ℕ) → held ≡ gs → length held ≡ n → length new ≡ length held → new ≡ with_grown_segment held i count alignment → take n (new ++ drop (length new) gs) ≡ with_grown_segment gs i count alignment
 written_grown n new held gs i count alignment value long same e =
     written_over n new gs (same ∙ ap length value) (sym long ∙ ap length value) ∙ e ∙ ap (λ hs. with_grown_segment hs i count alignment) value
@@ -64,7 +64,7 @@ within_at [] i h lt = absurd (omega arith)
 within_at (g ∷ gs) zero h lt = h.0
 within_at (g ∷ gs) (suc i) h lt = within_at gs i h.1 (omega arith)
 
--- ---- What is sound.
+-- ---- Well-formed cursors.
 
 pub sound_of : (v : Inside) (gs : List Segment) (i : ℕ) → v.segments.items ≡ gs → v.current ≡ i → i < length gs → HaveBoundedSizes gs → map (λ k. k.items) v.names.keys ≡ map (λ (g : Segment). g.name) gs → AllByRecursion (λ k. k < length gs) v.pushed_segments.items → IsWellFormedCursor v
 sound_of v gs i e at lt within names kept = record { current = rw (e, at) lt; ends = rw e within; names = rw e names; pushed_segments = rw e kept }
@@ -79,7 +79,7 @@ sound_grown w v count alignment sound fits e at names kept =
 pub sound_begun : (w v : Inside) (n : List ℕ) (g : Segment) → IsWellFormedCursor w → g.name ≡ n → g.end ≡ 0 → v.segments.items ≡ w.segments.items ++ g ∷ [] → v.current ≡ length w.segments.items → v.pushed_segments ≡ w.pushed_segments → map (λ k. k.items) v.names.keys ≡ map (λ k. k.items) w.names.keys ++ n ∷ [] → IsWellFormedCursor v
 sound_begun w v n g sound name end e at kept names = grind (arith, common_steps, length-append, sound_of, all_more, map-append, all_same)
 
--- a name that no segment has is new among theirs
+-- a name that no segment has isn't in the set of names
 pub new_name : (n : List ℕ) (w : Inside) → IsWellFormedCursor w → segment_index w.segments.items n ≡ None → list_any (λ k. bytes_eq n k) (map (λ k. k.items) w.names.keys) ≡ false
 new_name n w sound none = absent (map (λ k. k.items) w.names.keys) (position_mapped (bytes_eq n) (λ k. k.items) w.names.keys ∙ place_is n w sound.names ∙ none)
   where

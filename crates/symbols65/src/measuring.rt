@@ -85,7 +85,7 @@ fn check_naming(
 }
 
 /// Returns `length`, or an error if the current section has fewer remaining bytes.
-#[tactic(auto, using(crate::proofs::Measures::same_test))]
+#[tactic(auto, using(crate::proofs::StatementLayouts::same_test))]
 fn fit(cursor: &Cursor, length: usize) -> Result<u32, AsmFault>
     ensures { result ≡ count_if_it_fits cursor.now length }
 {

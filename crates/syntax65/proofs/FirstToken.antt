@@ -1,4 +1,4 @@
--- The token at the front of some bytes, and that no longer one is there.
+-- The token at the beginning of some bytes is the longest text of a form there.
 use Rattle.std.proofs.Common.{◌≡◌, ◌∙◌, ℕ, ◌<◌, false, map, get_or, refl, ap, arith, ◌≢◌, ◌⊎◌, zero, suc, ◌+◌, ◌≤◌, Bool, true, cond, List, [], ◌∷◌, length, take, drop, sym, subst, eqb}
 use Rattle.std.proofs.lemmas.List.FromFn.{get_or-map-range_with_len}
 use Rattle.std.specs.List.{range_with_len, prefix_len, list_all}
@@ -19,7 +19,7 @@ use Rattle.syntax65.specs.declared.lexing.tokens.TokenKind.{TokenKind}
 use Rattle.syntax65.specs.declared.lexing.tokens.TokenKind.TheVariants.{Identifier, CheapName, Directive, Number, Character, StringLiteral, Unnamed, SizePrefix, Symbol}
 use Rattle.syntax65.specs.declared.lexing.tokens.LexFault.TheVariants.{BadCharacter, StringNotClosed}
 
--- ---- The table of the bytes of words.
+-- ---- The table of identifier bytes.
 
 table_is_rule : IDENTIFIER_BYTES ≡ map is_identifier_byte (range_with_len 0 256)
 table_is_rule = refl
@@ -27,7 +27,7 @@ table_is_rule = refl
 pub of_table : (b : ℕ) → b < 256 → get_or IDENTIFIER_BYTES b false ≡ is_identifier_byte b
 of_table b h = ap (λ l. get_or l b false) table_is_rule ∙ get_or-map-range_with_len is_identifier_byte 0 256 b b false h (omega arith)
 
--- ---- The token at the front of some bytes, and that no longer one is there.
+-- ---- Prefixes that satisfy a predicate.
 
 pub and_both : (a b : Bool) → (a && b) ≡ true → (a ≡ true) × (b ≡ true)
 and_both true b h = (refl, h)
@@ -37,12 +37,12 @@ front_step : (p : ℕ → Bool) (x : ℕ) (xs : List ℕ) (b : Bool) → p x ≡
 front_step p x xs true e h = grind (arith, common_steps)
 front_step p x xs false e h = refl
 
--- the longest prefix that satisfies p satisfies it
+-- the longest prefix whose bytes satisfy `p`
 pub all_front : (p : ℕ → Bool) (xs : List ℕ) → list_all p (take (prefix_len p xs) xs) ≡ true
 all_front p [] = refl
 all_front p (x ∷ xs) = front_step p x xs (p x) refl (all_front p xs)
 
--- no longer prefix satisfies p
+-- no longer prefix satisfies `p`
 pub not_all : (p : ℕ → Bool) (xs : List ℕ) (n : ℕ) → prefix_len p xs < n → n ≤ length xs → list_all p (take n xs) ≡ true → ⊥
 not_all p [] n lt le h = absurd (omega arith)
 not_all p (x ∷ xs) zero lt le h = absurd (omega arith)
@@ -98,14 +98,14 @@ following Unnamed b bs h = subst (λ (c : Class). Following c Unnamed bs) (sym h
 following (SizePrefix s) b bs h = subst (λ (c : Class). Following c (SizePrefix s) bs) (sym (size_letter s b h.0)) h.1
 following (Symbol m) b bs h = subst (λ (c : Class). Following c (Symbol m) bs) (sym (ap (λ l. class_of (get_or l 0 0)) h)) (subst (λ (xs : List ℕ). Following (class_of (get_or (spelling m) 0 0)) (Symbol m) xs) (sym (ap (drop 1) h)) (mark_after m))
 
--- likewise for the bytes at a position
+-- the same for the bytes at a position
 pub at_class : (c : Class) (first : Bool) (j : TokenKind) (m b : ℕ) (rest : List ℕ) → class_of b ≡ c → TokenMatchesAt first j (suc m) (b ∷ rest) → Following c j (take m rest)
 at_class c first j m b rest e h = subst (λ (d : Class). Following d j (take m rest)) e (following j b (take m rest) h.form)
 
 pub empty : (first : Bool) (j : TokenKind) (here : List ℕ) → TokenMatchesAt first j 0 here → ⊥
 empty first j here h = h.form
 
--- Identifiers and size prefixes
+-- ---- Identifiers and size prefixes.
 
 after_letter : (first : Bool) (j : TokenKind) (m b : ℕ) (rest : List ℕ) → prefix_len is_identifier_byte rest < m → ((s : AddressSize) → TokenMatchesAt first (SizePrefix s) 2 (b ∷ rest) → ⊥) → TokenMatchesAt first j (suc m) (b ∷ rest) → Following Letter j (take m rest) → ⊥
 after_letter first Identifier m b rest lt never h w =
@@ -143,7 +143,7 @@ prefix_longest first b x rest s e j (suc (suc m)) lt h =
 pub prefix_here : (first : Bool) (s : AddressSize) (here : List ℕ) → TokenMatchesAt first (SizePrefix s) 2 here → IsLongest first (SizePrefix s) 2 here
 prefix_here first s x h = grind (arith, common_steps, prefix_longest, size_letter)
 
--- Cheap names and directives
+-- ---- Cheap names and directives.
 
 letter_is_word : (x : ℕ) → class_of x ≡ Letter → is_identifier_byte x ≡ true
 letter_is_word x e = rw e refl
@@ -203,7 +203,7 @@ no_name_here first Directive [] s never = absurd s
 no_name_here first Directive (b ∷ rest) s never = (no_signed Dot first b rest s only_directive never, λ e. cc)
 no_name_here first _ here s never = absurd s
 
--- Numbers
+-- ---- Numbers.
 
 number_words : (c : Class) (j : TokenKind) (bs : List ℕ) → StartsNumber c → Following c j bs → AreIdentifierBytes bs
 number_words x y bs s h = grind (arith, common_steps)
@@ -221,7 +221,7 @@ number_here first (b ∷ rest) v n h e =
       longest = number_longest first b rest h;
     })
 
--- Characters
+-- ---- Characters.
 
 only_character : (j : TokenKind) (bs : List ℕ) → Following Apostrophe j bs → (c : ℕ) × (bs ≡ c ∷ 39 ∷ [])
 only_character x bs h = grind (arith, common_steps)
@@ -254,7 +254,7 @@ no_character first b rest e never j (suc m) h =
 pub no_character_here : (first : Bool) (here : List ℕ) → BeginsWithClass Apostrophe here → (2 < length here → get_or here 2 0 ≡ 39 → ⊥) → HasFaultAt first here BadCharacter
 no_character_here first x h never = grind (arith, common_steps, no_character)
 
--- Strings
+-- ---- Strings.
 
 no_quote : (x : ℕ) → x ≢ 34 → is_no_quote x ≡ true
 no_quote x h = grind (arith, nat_tests)
@@ -268,7 +268,7 @@ quote_is x h = grind (arith, nat_tests)
 no_quote_is : (x : ℕ) → is_no_quote x ≡ true → x ≢ 34
 no_quote_is x h = grind (arith, nat_tests)
 
--- a string closes at the first `"`
+-- a string ends at the first `"`
 closes_at : (rest : List ℕ) (m : ℕ) → m ≤ length rest → ClosesString (take m rest) → m ≡ suc (prefix_len is_no_quote rest)
 closes_at rest zero le h = absurd h
 closes_at [] (suc m) le h = absurd (omega arith)
@@ -315,7 +315,7 @@ no_text first b rest e le j (suc m) h = grind (arith, common_steps, text_size)
 pub open_text_here : (first : Bool) (here : List ℕ) → BeginsWithClass Quote here → length (drop 1 here) ≤ prefix_len is_no_quote (drop 1 here) → HasFaultAt first here StringNotClosed
 open_text_here first x h le = grind (arith, common_steps, no_text)
 
--- Tokens
+-- ---- Tokens.
 
 pub identifier_size : (first : Bool) (n : ℕ) (here : List ℕ) → IsLongest first Identifier n here → length (take n here) ≡ n
 identifier_size first n here h = length-take-le n here h.form_matches.fits

@@ -1,5 +1,4 @@
--- Each line has a result: if it doesn't end, there is a token, or an error that there is
--- none.
+-- Each line has a result: at each position there is an end, a token or an error.
 use Rattle.std.proofs.lemmas.Grind.{common_steps}
 use Rattle.std.proofs.Common.{◌≡◌, ◌⊎◌, inl, inr, ℕ, zero, suc, ◌<◌, ◌≤◌, Bool, true, false, List, [], ◌∷◌, length, take, drop, Option, Some, None, refl, sym, ap, subst, ◌∙◌, arith, IsTrue, eqb, eq-eqb, nat_le}
 use Rattle.std.specs.Prelude.{Result, Ok, Err}
@@ -72,7 +71,7 @@ opposite : {P : Type 0} → Decided P → Decided (P → ⊥)
 opposite (inl p) = inr (λ n. n p)
 opposite (inr n) = inl n
 
--- ---- A text has a form, or none.
+-- ---- A text has a form or none.
 
 is_name : (bs : List ℕ) → Decided (IsName bs)
 is_name [] = inr (λ h. h)
@@ -105,7 +104,7 @@ mark_form text = by (same_bytes text (spelling (mark_of text)))
     by (inr n) = inr (λ m e. n (e ∙ ap spelling (sym (ap mark_of e ∙ spelled_back m))))
 
 module _ (b : ℕ) (bs : List ℕ) where
-  -- no bytes that may follow a first byte of its class do
+  -- a first byte whose class allows no form with the bytes after it
   none_after : (c : Class) → class_of b ≡ c → ((k : TokenKind) → IsForm k (b ∷ bs) → Following c k bs → ⊥) → HasForm (b ∷ bs)
   none_after c e none = inr (λ k h. none k h (subst (λ (d : Class). Following d k bs) e (following k b bs h)))
 
@@ -298,7 +297,7 @@ search_down first here (suc n) le above = by (stands_any first (suc n) here le) 
 longest_at : (first : Bool) (here : List ℕ) → Longest first here
 longest_at first here = search_down first here (length here) (omega arith) (λ j m lt s. (let le = s.fits in absurd (omega arith)))
 
--- ---- A token, or the error that there is none.
+-- ---- A token, or the error at a position without a token.
 
 abbrev TokenOrFault : Bool → List ℕ → Type 0
 TokenOrFault first here = ((k : TokenKind) × (n : ℕ) × IsToken first k n here) ⊎ ((fault : LexFault) × HasFaultAt first here fault)
@@ -391,7 +390,7 @@ read_from (suc size) first line le = by (is_end (without_leading_blanks line)) (
     by (inr never) (inr f) more = ([], Some f.0, (never, f.1))
     by (inr never) (inl t) more = token_after first line t.0 t.1 t.2 (more t.1 (shorter first line t.0 t.1 size le t.2))
 
--- no error at a position is *out of memory*, or that the line is too long
+-- no error at a position is `OutOfMemory` or `LineTooLong`
 fault_stands : (first : Bool) (line : List ℕ) (ts : List Lexeme) (fault : LexFault) → HasTokens first line ts (Some fault) → (fault ≡ OutOfMemory) ⊎ (fault ≡ LineTooLong) → ⊥
 fault_stands first line [] OutOfMemory h e = h.1
 fault_stands first line [] LineTooLong h e = h.1

@@ -1,4 +1,4 @@
--- The tokens of a line, one after another.
+-- The tokens of a line are split off in order.
 use Rattle.std.proofs.lemmas.Grind.{common_steps}
 use Rattle.std.proofs.Common.{◌≡◌, ℕ, ◌+◌, ◌≤◌, Bool, true, false, cond, List, [], ◌∷◌, ◌++◌, length, take, drop, Option, Some, refl, sym, ap, ◌∙◌, arith, append_assoc}
 use Rattle.std.proofs.lemmas.List.{take-append-drop}
@@ -26,14 +26,14 @@ following p (x ∷ xs) = after_step p x xs (p x) refl (following p xs)
 no_blank : (here : List ℕ) → FirstFails is_blank here → BeginsWithClass Blank here → ⊥
 no_blank x h b = grind (arith, common_steps)
 
--- no blank follows the leading blanks
+-- after the leading blanks there is no blank
 pub no_blank_after : (line : List ℕ) → BeginsWithClass Blank (without_leading_blanks line) → ⊥
 no_blank_after line = no_blank (without_leading_blanks line) (following is_blank line)
 
 pub refuse : (first : Bool) (line here : List ℕ) (ts : List Lexeme) (fault : LexFault) → length line ≤ 4096 → HasFaultAt first here fault → HasTokens true line ts (Some fault) → Unless (is_lex_system_error fault) (IsRead line (Err fault))
 refuse first line here ts x short h reads = grind (arith, common_steps)
 
--- a token after blanks is split off
+-- a token is split off after the blanks
 pub cut_off : (rest here text left : List ℕ) (n : ℕ) → here ≡ without_leading_blanks rest → text ≡ take n here → left ≡ drop n here → IsTokenSplit rest text left
 cut_off rest here text left n e front back =
     let k = prefix_len is_blank rest in

@@ -1,4 +1,4 @@
--- The list of all mnemonics, and the one that bytes spell.
+-- The list of all mnemonics, and the mnemonic that bytes spell.
 use Rattle.std.proofs.Common.{◌≡◌, ℕ, ◌<◌, get_or, refl, lit<, ◌≢◌, ◌∙◌, zero, suc, Bool, true, false, cond, List, [], ◌∷◌, length, map, find, Option, Some, None, MatchOption, sym, ap, subst, arith}
 use Rattle.syntax65.specs.declared.instructions.names.Mnemonic.{Mnemonic}
 use Rattle.syntax65.specs.declared.instructions.names.Mnemonic.TheVariants.{Adc, And, Asl, Bcc, Bcs, Beq, Bit, Bmi, Bne, Bpl, Brk, Bvc, Bvs, Clc, Cld, Cli, Clv, Cmp, Cpx, Cpy, Dec, Dex, Dey, Eor, Inc, Inx, Iny, Jmp, Jsr, Lda, Ldx, Ldy, Lsr, Nop, Ora, Pha, Php, Pla, Plp, Rol, Ror, Rti, Rts, Sbc, Sec, Sed, Sei, Sta, Stx, Sty, Tax, Tay, Tsx, Txa, Txs, Tya}
@@ -14,7 +14,7 @@ use Rattle.syntax65.specs.Forms.{IsFound}
 
 -- ---- The list of all mnemonics is complete.
 
--- each mnemonic is in the list of all
+-- each mnemonic is in the list of all mnemonics
 pub place_of : (m : Mnemonic) → (i : ℕ) × (i < 56) × ((d : Mnemonic) → get_or ALL i d ≡ m)
 place_of Adc = (0, lit< tt, λ d. refl)
 place_of And = (1, lit< tt, λ d. refl)
@@ -73,9 +73,9 @@ place_of Txa = (53, lit< tt, λ d. refl)
 place_of Txs = (54, lit< tt, λ d. refl)
 place_of Tya = (55, lit< tt, λ d. refl)
 
--- ---- A mnemonic is found exactly if the bytes spell it.
+-- ---- A mnemonic is found if and only if the bytes spell it.
 
--- names are in lower case
+-- the names are in lower case
 lower_name : (m : Mnemonic) → map to_ascii_lowercase (name_of m) ≡ name_of m
 lower_name x = grind (arith, common_steps)
 
@@ -96,7 +96,7 @@ first_step : (p : Mnemonic → Bool) (m : Mnemonic) (rest : Option Mnemonic) (b 
 first_step p m rest true e h = e
 first_step p m rest false e h = h
 
--- an item that is found satisfies the predicate
+-- a mnemonic that is found satisfies the predicate
 found_passes : (p : Mnemonic → Bool) (xs : List Mnemonic) → MatchOption (find p xs) (Unit {0}) (λ n. p n ≡ true)
 found_passes p [] = tt
 found_passes p (x ∷ xs) = first_step p x (find p xs) (p x) refl (found_passes p xs)
@@ -105,7 +105,7 @@ none_step : (p : Mnemonic → Bool) (x : Mnemonic) (xs : List Mnemonic) (b : Boo
 none_step p x xs true e h = absurd (cc)
 none_step p x xs false e h = (e, h)
 
--- if nothing is found, no item satisfies the predicate
+-- if no mnemonic is found, none satisfies the predicate
 none_passes : (p : Mnemonic → Bool) (xs : List Mnemonic) (i : ℕ) (d : Mnemonic) → find p xs ≡ None → i < length xs → p (get_or xs i d) ≡ false
 none_passes p [] i d e lt = absurd (omega arith)
 none_passes p (x ∷ xs) zero d e lt = (none_step p x xs (p x) refl e).0
@@ -115,7 +115,7 @@ both : (r : Option Mnemonic) (bytes : List ℕ) → r ≡ find (is_spelled bytes
 both None bytes e = grind (arith, common_steps, place_of, none_passes, test_from_spells)
 both (Some m) bytes e = spells_from_test bytes m (subst (λ (r : Option Mnemonic). MatchOption r (Unit {0}) (λ n. is_spelled bytes n ≡ true)) (sym e) (found_passes (is_spelled bytes) ALL))
 
--- a mnemonic is found exactly if the bytes spell it
+-- a mnemonic is found if and only if the bytes spell it
 pub spelled_both_ways : (bytes : List ℕ) → IsFound (SpellsMnemonic bytes) (mnemonic_of bytes)
 unfolding mnemonic_of
 spelled_both_ways bytes = both (mnemonic_of bytes) bytes refl
@@ -130,7 +130,7 @@ is_found r bytes h = one_spelled r (mnemonic_of bytes) bytes h (spelled_both_way
 spelled_by_name : (r : Option Mnemonic) (bytes : List ℕ) → IsFound (λ m. map to_ascii_lowercase bytes ≡ name_of m) r → IsFound (SpellsMnemonic bytes) r
 spelled_by_name x bytes h = grind (arith, common_steps)
 
--- the mnemonic of three letters is found
+-- the case of three letters
 pub of_three : (r : Option Mnemonic) (bytes : List ℕ) (a b c : ℕ) → length bytes ≡ 3 → a ≡ to_ascii_lowercase (get_or bytes 0 0) → b ≡ to_ascii_lowercase (get_or bytes 1 0) → c ≡ to_ascii_lowercase (get_or bytes 2 0) → IsFound (λ m. a ∷ b ∷ c ∷ [] ≡ name_of m) r → r ≡ mnemonic_of bytes
 of_three r [] a b c len ea eb ec h = absurd (omega (arith, len))
 of_three r (x ∷ []) a b c len ea eb ec h = absurd (omega (arith, len))
@@ -143,6 +143,6 @@ of_three r (x ∷ y ∷ z ∷ w ∷ l) a b c len ea eb ec h = absurd (omega (ari
 three_letters : (m : Mnemonic) → length (name_of m) ≡ 3
 three_letters x = grind (arith, common_steps)
 
--- no other bytes spell one
+-- bytes of any other length spell no mnemonic
 pub of_others : (bytes : List ℕ) → length bytes ≢ 3 → None ≡ mnemonic_of bytes
 of_others bytes len = is_found None bytes (λ m h. len (sym (length-map bytes to_ascii_lowercase) ∙ ap length h ∙ three_letters m))

@@ -1,4 +1,4 @@
--- Any tokens are parsed: at each level there is a phrase that no operator follows, or a first error.
+-- Any tokens have a parse result: at each level a phrase that no operator follows, or a first error.
 use Rattle.std.proofs.Common.{◌≡◌, ◌≢◌, inl, inr, ℕ, zero, suc, ◌+◌, ◌<◌, ◌≤◌, Bool, true, false, List, [], ◌∷◌, length, Option, Some, None, refl, sym, ap, subst, ◌∙◌, arith}
 use Rattle.std.specs.Prelude.{Result, Ok, Err, ⊤}
 use Rattle.syntax65.specs.Tokens.{Lexeme}
@@ -90,7 +90,7 @@ Answer = Result (Tree × ℕ) ExprFault
 abbrev HasLevel : List Lexeme → (depth_left n i : ℕ) → Type 0
 HasLevel ts depth_left n i = (r : Answer) × IsLevel ts depth_left n i r
 
--- the results with one nesting level less, if any is left
+-- the results with one nesting level fewer, if any remains
 abbrev Inside : List Lexeme → ℕ → Type 0
 Inside ts zero = ⊤
 Inside ts (suc depth_left) = (i : ℕ) → HasLevel ts depth_left 0 i × HasLevel ts depth_left 6 i
@@ -152,7 +152,7 @@ by_opening ts depth_left i inside Nothing e = nothing ts depth_left i Nothing e 
 -- ---- The operators of a level, from left to right.
 
 module _ (ts : List Lexeme) (depth_left n : ℕ) (lower : (i : ℕ) → HasLevel ts depth_left n i) where
-  -- no operator of this level is there: none at all, or one of another level
+  -- no operator of this level follows: there is none, or one of another level
   none_at : (j : ℕ) → binary_at ts j ≡ None → HasNoOperator ts (n + 1) j
   none_at j e op at = cc
 
@@ -166,7 +166,7 @@ module _ (ts : List Lexeme) (depth_left n : ℕ) (lower : (i : ℕ) → HasLevel
   same_level : (op : Op2) → Decided (level_of op ≡ n + 1)
   same_level op = is_same (level_of op) (n + 1)
 
-  -- each phrase of this level that ends later has a result
+  -- the induction hypothesis: if a phrase of this level ends at most `size` tokens before the end, the level has a result
   abbrev GoesOn : ℕ → ℕ → Type 0
   GoesOn size i = (k : ℕ) (u : Tree) → Phrase ts depth_left (n + 1) i k u → HasNoOperator ts n k → length ts ≤ size + k → HasLevel ts depth_left (n + 1) i
 
@@ -206,7 +206,7 @@ levels : (ts : List Lexeme) (depth_left : ℕ) → Inside ts depth_left → (n :
 levels ts depth_left inside zero le i = by_opening ts depth_left i inside (operand_start_at ts i) refl
 levels ts depth_left inside (suc n) le i = subst (λ (m : ℕ). HasLevel ts depth_left m i) (one_more n) (next_level ts depth_left n (λ j. levels ts depth_left inside n (omega arith) j) (omega arith) i)
 
--- ---- Whole expressions.
+-- ---- Complete expressions.
 
 after_negation : (ts : List Lexeme) (depth_left i : ℕ) → operand_start_at ts i ≡ Negation → (r : Answer) → IsLevel ts depth_left 6 (i + 1) r → HasLevel ts (depth_left + 1) 6 i
 after_negation ts depth_left i e (Ok x) p = (Ok (unary Not x.0, x.1), record { phrase = negated depth_left i x.1 x.0 e p.phrase; ends = p.ends })
@@ -233,7 +233,7 @@ inside_of : (ts : List Lexeme) (depth_left : ℕ) → Inside ts depth_left
 inside_of ts zero = tt
 inside_of ts (suc depth_left) = λ i. (levels ts depth_left (inside_of ts depth_left) 0 (omega arith) i, whole ts depth_left (inside_of ts depth_left) i)
 
--- no error is *out of memory*
+-- no error is `OutOfMemory`
 stops_own : (ts : List Lexeme) (depth_left n i k : ℕ) (f : ExprFault) → PhraseFailsAt ts depth_left n i k f → is_expr_system_error f ≡ false
 stops_own ts _ _ _ _ _ (no_operand depth_left i h) = refl
 stops_own ts _ _ _ _ _ (no_name depth_left i k h l) = refl

@@ -1,4 +1,4 @@
--- One step of a reader, as one rule of the grammar.
+-- Each step of the parser is a rule of the grammar.
 use Rattle.std.proofs.lemmas.Grind.{common_steps}
 use Rattle.std.proofs.Common.{◌≡◌, ◌≢◌, ℕ, zero, suc, ◌+◌, ◌-◌, ◌<◌, ◌≤◌, true, false, List, [], ◌∷◌, ◌++◌, Option, Some, None, sym, ap, subst, ◌∙◌, arith, append_assoc}
 use Rattle.std.specs.Prelude.{Result, Err}
@@ -22,7 +22,7 @@ level_pos x = grind (arith, common_steps)
 pub level_zero : (ts : List Lexeme) (j : ℕ) → HasNoOperator ts 0 j
 level_zero ts j op h = level_pos op
 
--- names
+-- ---- Names.
 
 pub last_name : (ts : List Lexeme) (at i : ℕ) (parts new : List (List ℕ)) (text : List ℕ) → ((j : ℕ) (rest : List (List ℕ)) → HasParts ts i j rest → HasParts ts at j (parts ++ rest)) → operand_start_at ts i ≡ Name → (operand_start_at ts (i + 1) ≡ Scope → ⊥) → text ≡ text_at ts i → new ≡ parts ++ text ∷ [] → HasParts ts at (i + 1) new
 last_name ts at i parts new text so_far h stop same made =
@@ -35,7 +35,7 @@ next_name ts at i parts new text so_far h scope same made j rest more =
     let e : new ++ rest ≡ parts ++ (text_at ts i ∷ rest) = rw (made, same) (append_assoc parts (text_at ts i ∷ []) rest) in
     rw e reads
 
--- phrases
+-- ---- Phrases.
 
 pub leaf_phrase : (ts : List Lexeme) (depth_left i : ℕ) (t : Tree) → leaf_of (operand_start_at ts i) (text_at ts i) ≡ Some t → IsPhrase ts depth_left 0 i (i + 1) t
 leaf_phrase ts depth_left i t h = record { phrase = a_leaf depth_left i t h; ends = level_zero ts (i + 1) }
@@ -76,11 +76,11 @@ enclosed_phrase ts depth_left i j t pos h inner close =
 pub low_level : (op : Op2) → level_of op ≤ 5
 low_level x = grind (arith, common_steps)
 
--- a phrase that is no negation
+-- a phrase without negation
 pub whole_phrase : (ts : List Lexeme) (depth_left i j : ℕ) (t : Tree) → IsPhrase ts depth_left 5 i j t → IsPhrase ts depth_left 6 i j t
 whole_phrase ts depth_left i j t p = record { phrase = of_level depth_left 5 i j t p.phrase; ends = λ op h. absurd (omega (arith, p.ends op h, low_level op)) }
 
--- stops
+-- ---- Errors.
 
 -- the error of a missing phrase, unless memory ran out
 abbrev pub IsStop : List Lexeme → (depth_left n i : ℕ) → ExprFault → Type 0
@@ -89,7 +89,7 @@ IsStop ts depth_left n i f = Unless (is_expr_system_error f) (IsLevel ts depth_l
 abbrev pub IsMissing : List Lexeme → ℕ → ExprFault → Type 0
 IsMissing ts i f = Unless (is_expr_system_error f) (AreNames ts i (Err f))
 
--- a stop inside is a stop of the whole
+-- an error of a part is an error of the whole phrase
 lift_stop : (ts : List Lexeme) (depth_left n i depth_left' n' i' : ℕ) (f : ExprFault) → ((k : ℕ) (g : ExprFault) → PhraseFailsAt ts depth_left n i k g → PhraseFailsAt ts depth_left' n' i' k g) → IsStop ts depth_left n i f → IsStop ts depth_left' n' i' f
 lift_stop ts depth_left n i depth_left' n' i' x up h = grind (arith, common_steps)
 
@@ -140,7 +140,7 @@ none_begins x text e a b c d h = grind (arith, common_steps)
 pub bad_operand : (ts : List Lexeme) (depth_left i : ℕ) (o : OperandStart) → o ≡ operand_start_at ts i → leaf_of o (text_at ts i) ≡ None → o ≢ Name → o ≢ Scope → ((op : Op1) → o ≢ Prefix op) → o ≢ Parenthesis → IsStop ts depth_left 0 i OperandExpected
 bad_operand ts depth_left i o e n a b c d = (i, no_operand depth_left i (λ h. none_begins o (text_at ts i) n a b c d (subst BeginsOperand (sym e) h)))
 
--- the levels
+-- ---- Levels.
 
 first_stop : (ts : List Lexeme) (depth_left n i : ℕ) (f : ExprFault) → 0 < n → n ≤ 5 → IsStop ts depth_left (n - 1) i f → IsStop ts depth_left n i f
 first_stop ts depth_left n i f pos low s =
@@ -162,8 +162,8 @@ joined_phrase ts depth_left n i j k op t u t' u' pos left at level right same_le
     rw (same_left, same_right) (subst (λ (m : ℕ). Phrase ts depth_left m i k (binary op t u)) r
     (joined depth_left (n - 1) i j k op t u (rw r left) at (level ∙ sym r) right.phrase))
 
--- The part of a phrase of level n that was read so far: a phrase of some level up to n, followed by no tighter
--- operator.
+-- The part of a phrase of level `n` that was read so far: a phrase of some level up to `n`, with no tighter operator after
+-- it.
 pub record IsPart (ts : List Lexeme) (depth_left n i j : ℕ) (t : Tree) : Type 0 where
   pub own : ℕ
   pub most : own ≤ n
@@ -192,7 +192,7 @@ operand_stop ts depth_left n i f low s = stop_raised ts depth_left 0 n i f (omeg
 pub operand_part : (ts : List Lexeme) (depth_left n i j : ℕ) (t : Tree) → IsPhrase ts depth_left 0 i j t → IsPart ts depth_left n i j t
 operand_part ts depth_left n i j t p = record { own = 0; most = omega arith; phrase = p.phrase; tighter = p.ends }
 
--- the phrase before an operator is one of the operator's level
+-- the phrase before an operator is a phrase of the operator's level
 before : (ts : List Lexeme) (depth_left n m i j : ℕ) (op : Op2) (t : Tree) → IsPart ts depth_left n i j t → binary_at ts j ≡ Some op → level_of op ≡ m → Phrase ts depth_left m i j t
 before ts depth_left n m i j op t p at level = (let lt = p.tighter op at in raised ts depth_left p.own m i j t (omega (arith, lt, level)) p.phrase)
 

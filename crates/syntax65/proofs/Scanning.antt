@@ -1,4 +1,4 @@
--- A line's tokens, of which the first two are stored.
+-- The tokens of a line, of which the first two are stored.
 use Rattle.std.proofs.Common.{ℕ, ◌≤◌, Bool, true, List, [], ◌++◌, length, Option, Some, None, Ok, Err, subst}
 use Rattle.std.proofs.lemmas.List.{append-nil}
 use Rattle.syntax65.specs.Forms.{HasFaultAt}
@@ -7,7 +7,7 @@ use Rattle.syntax65.specs.declared.lexing.tokens.LexFault.{LexFault}
 use Rattle.syntax65.specs.declared.lexing.tokens.LexFault.TheVariants.{OutOfMemory, BadCharacter, BadNumber, StringNotClosed, LineTooLong, NameTooLong}
 use Rattle.syntax65.specs.declared.lexing.lines.FirstTokens.{FirstTokens}
 
--- these tokens were read, the first two of them are stored, and the rest of the line follows them
+-- these tokens were read, the first two of them are stored, and the rest of the line follows
 abbrev pub SoFar : List ℕ → FirstTokens → Bool → List ℕ → List Lexeme → Type 0
 SoFar line f first rest ts = AreFirstTokens ts f × ((us : List Lexeme) (end : Option LexFault) → HasTokens first rest us end → HasTokens true line (ts ++ us) end)
 

@@ -18,13 +18,13 @@ use Rattle.syntax65.specs.declared.lexing.tokens.AddressSize.{AddressSize}
 use Rattle.syntax65.specs.declared.lexing.tokens.AddressSize.TheVariants.{ZeroPage}
 use Rattle.syntax65.specs.declared.lexing.tokens.Punctuation.TheVariants.{Scope, Define, NotEqual, LessOrEqual, GreaterOrEqual, ShiftLeft, ShiftRight, AndAnd, OrOr, Colon as ColonMark, Plus, Minus, Star, Slash, Ampersand, Bar, Caret, Tilde, Less, Greater, Equal, Exclamation, OpenParenthesis, CloseParenthesis, Hash, Comma, OpenBrace, CloseBrace}
 
--- ---- The tokens at a `:` or at a byte that begins only punctuation.
+-- ---- The tokens at a `:` or at a byte with which only punctuation begins.
 
--- a run of the byte c begins with c
+-- a run of the byte `c` begins with `c`
 run_begins : (c x : ℕ) (bs : List ℕ) → IsRunOf c (x ∷ bs) → x ≡ c
 run_begins c x bs h = eqb_is x c (and_both (eqb x c) _ h.1).0
 
--- punctuation has at most two bytes
+-- punctuation is at most two bytes long
 pub long_mark : (first : Bool) (m : Punctuation) (n : ℕ) (here : List ℕ) → 2 < n → TokenMatchesAt first (Symbol m) n here → ⊥
 long_mark first m zero here lt h = absurd (omega arith)
 long_mark first m (suc n) [] lt h = let le : suc n ≤ length {A = ℕ} [] = h.fits in absurd (omega arith)
@@ -34,7 +34,7 @@ long_mark first m (suc n) (b ∷ rest) lt h =
     let size : length (b ∷ take n rest) ≡ length (spelling m) = ap length same in
     omega (arith, size, mark_size m, length-take-le n rest (omega arith))
 
--- Unnamed references
+-- ---- Unnamed references.
 
 abbrev pub IsSign : ℕ → Type 0
 IsSign c = (c ≡ 43) ⊎ (c ≡ 45)
@@ -71,7 +71,7 @@ unnamed_here first (b ∷ x ∷ rest) c n h lt e s size =
       longest = unnamed_longest first b c rest h;
     }))
 
--- Punctuation
+-- ---- Punctuation.
 
 abbrev IsMark : TokenKind → Type 0
 IsMark (Symbol m) = ⊤
@@ -83,7 +83,7 @@ only_other x bs h = grind (arith, common_steps)
 only_colon : (j : TokenKind) (m : ℕ) (xs : List ℕ) → HasNoSign xs → Following Colon j (take m xs) → IsMark j
 only_colon x n xs never h = grind (arith, common_steps)
 
--- only punctuation is here
+-- only punctuation matches here
 only_mark : (first : Bool) (j : TokenKind) (n : ℕ) (here : List ℕ) → BeginsPunctuator here → TokenMatchesAt first j n here → IsMark j
 only_mark first j zero here b h = absurd (empty first j here h)
 only_mark first j (suc n) [] b h = let le : suc n ≤ length {A = ℕ} [] = h.fits in absurd (omega arith)
@@ -136,8 +136,7 @@ abbrev begins_sign : List ℕ → Bool
 begins_sign [] = false
 begins_sign (b ∷ bs) = if b == 43 then true else b == 45
 
--- the only possible kind, without its value, of a first byte of this class and
--- the bytes after it
+-- the only possible kind, without its value, for the class of the first byte and the bytes after it
 abbrev kind_after : Class → List ℕ → TokenKind
 kind_after Letter bs = if list_all is_identifier_byte bs then Identifier else SizePrefix ZeroPage
 kind_after At bs = CheapName
@@ -157,7 +156,7 @@ pub one_form : (j k : TokenKind) (text : List ℕ) → IsForm j text → IsForm 
 one_form j k [] h g = absurd h
 one_form j k (b ∷ bs) h g = kind_of_class (class_of b) j bs (following j b bs h) ∙ sym (kind_of_class (class_of b) k bs (following k b bs g))
 
--- Punctuation is determined by its bytes
+-- ---- The bytes of punctuation determine it.
 
 abbrev pub mark_of_pair : ℕ → ℕ → Punctuation
 mark_of_pair b c =
@@ -218,6 +217,6 @@ same_kind _ _ (b ∷ bs) h v g w e = absurd (cc)
 pub one_kind : (j k : TokenKind) (text : List ℕ) → IsForm j text → HasValue j text → IsForm k text → HasValue k text → j ≡ k
 one_kind j k text h v g w = same_kind j k text h v g w (one_form j k text h g)
 
--- at most one text is the longest at a position
+-- at most one length is the longest at a position
 pub one_length : (first : Bool) (j k : TokenKind) (m n : ℕ) (here : List ℕ) → IsLongest first j m here → IsLongest first k n here → m ≡ n
 one_length first j k m n here h g = grind (arith, common_steps)

@@ -19,7 +19,7 @@ bare_name j k text e = grind (arith, common_steps)
 bare_number : (j : TokenKind) (v : ℕ) (text : List ℕ) → bare j ≡ bare (Number v) → HasValue j text → number_of text ≡ None → ⊥
 bare_number x v text e h none = grind (arith, common_steps)
 
--- the kind of the longest text at a position, without its value
+-- the kind of the longest text at a position is unique, up to its value
 same_text : (first : Bool) (j k : TokenKind) (m n : ℕ) (here : List ℕ) → IsLongest first j m here → IsLongest first k n here → bare j ≡ bare k
 same_text first j k m n here h g = grind (arith, common_steps, one_length, one_form)
 
@@ -36,7 +36,7 @@ at_end first k zero here h e = h.form
 at_end first k (suc n) [] h e = let le : suc n ≤ length {A = ℕ} [] = h.fits in omega arith
 at_end first k (suc n) (b ∷ bs) h e = subst (λ (c : Class). Following c k (take n bs)) e (following k b (take n bs) h.form)
 
--- if there is a token, the line neither ends nor has an error there
+-- a token excludes an error at its position
 token_fault : (first : Bool) (k : TokenKind) (n : ℕ) (here : List ℕ) (fault : LexFault) → IsToken first k n here → HasFaultAt first here fault → ⊥
 token_fault first k n here OutOfMemory t f = f
 token_fault first k n here BadCharacter t f = f.0 k n t.longest.form_matches
@@ -102,7 +102,7 @@ one_list first line (t ∷ ts) (u ∷ us) e f h g =
 abbrev Failed : List ℕ → LexFault → Type 0
 Failed line fault = (length line ≤ 4096) × ((ts : List Lexeme) × HasTokens true line ts (Some fault))
 
--- a line that is too long, or an error in it
+-- the error of a line is `LineTooLong`, or an error at a position
 failed : (line : List ℕ) (fault : LexFault) → IsRead line (Err fault) → ((fault ≡ LineTooLong) × (4096 < length line)) ⊎ Failed line fault
 failed line x h = grind (arith, common_steps)
 

@@ -1,5 +1,4 @@
--- Tokens have at most one result: each phrase and each error is a result of reading from
--- left to right.
+-- Tokens have at most one parse result: each phrase and each error is a result of reading from left to right.
 use Rattle.std.proofs.lemmas.Grind.{common_steps}
 use Rattle.std.proofs.Common.{◌≡◌, ◌≢◌, ℕ, zero, suc, ◌+◌, ◌<◌, ◌≤◌, true, false, List, Option, Some, None, refl, sym, ap, subst, ◌∙◌, arith}
 use Rattle.std.specs.Prelude.{slice_get, option_and_then, Ok, Err}
@@ -13,7 +12,7 @@ use Rattle.syntax65.specs.declared.expressions.operators.OperandStart.TheVariant
 use Rattle.syntax65.specs.declared.expressions.operators.ExprFault.{ExprFault}
 use Rattle.syntax65.specs.declared.expressions.operators.ExprFault.TheVariants.{OperandExpected, ParenthesisExpected}
 use Rattle.syntax65.proofs.Phrases.{low_level}
-use Rattle.syntax65.proofs.Runs.{Answer, whole_at, level_at, rest_at, Run, r_leaf, r_name, r_global, r_none, r_deep, r_prefix, r_enclosed, r_first, r_lost, r_end, r_next, r_next_lost, r_plain, r_negated, r_negation_deep, closed, one_answer}
+use Rattle.syntax65.proofs.LeftToRight.{Answer, whole_at, level_at, rest_at, Run, r_leaf, r_name, r_global, r_none, r_deep, r_prefix, r_enclosed, r_first, r_lost, r_end, r_next, r_next_lost, r_plain, r_negated, r_negation_deep, closed, one_answer}
 
 close_token : (o : Option Lexeme) → option_map_or (λ t. is_close t.0) o false ≡ true → option_and_then (λ t. binary_of t.0 t.1) o ≡ None
 close_token x h = grind (arith, common_steps)
@@ -27,7 +26,7 @@ parts_begin ts x y z u = grind (arith, common_steps)
 leaf_is_plain : (o : OperandStart) (text : List ℕ) (t : Tree) → leaf_of o text ≡ Some t → o ≢ Negation
 leaf_is_plain o text t h e = let none : leaf_of o text ≡ None = ap (λ x. leaf_of x text) e in cc
 
--- only a negation begins with one
+-- a phrase of level 5 or less doesn't begin with a negation
 phrase_is_plain : (ts : List Lexeme) (depth_left n i j : ℕ) (t : Tree) → Phrase ts depth_left n i j t → n ≤ 5 → operand_start_at ts i ≢ Negation
 phrase_is_plain ts _ _ _ _ _ (a_leaf depth_left i t h) le = leaf_is_plain (operand_start_at ts i) (text_at ts i) t h
 phrase_is_plain ts _ _ _ _ _ (a_name depth_left i j p h) le = λ e. (let n : operand_start_at ts i ≡ Name = parts_begin ts i j p h in cc)
@@ -38,15 +37,14 @@ phrase_is_plain ts _ _ _ _ _ (of_level depth_left n i j t p) le = phrase_is_plai
 phrase_is_plain ts _ _ _ _ _ (joined depth_left n i j k op t u p at level q) le = phrase_is_plain ts depth_left (n + 1) i j t p le
 phrase_is_plain ts _ _ _ _ _ (negated depth_left i j t h p) le = absurd (omega arith)
 
--- a phrase that is read: any result of reading the rest after it is one of reading its
--- level
+-- the phrase is read: each result of reading the rest after the phrase is a result of reading the level
 abbrev Whole : List Lexeme → ℕ → ℕ → ℕ → ℕ → Tree → Type 0
 Whole ts depth_left zero i j t = Run ts (level_at depth_left 0 i) (Ok (t, j))
 Whole ts depth_left (suc n) i j t =
     (n < 5 → (r : Answer) → Run ts (rest_at depth_left (suc n) t j) r → Run ts (level_at depth_left (suc n) i) r)
     × (n ≡ 5 → HasNoOperator ts 6 j → Run ts (whole_at depth_left i) (Ok (t, j)))
 
--- a phrase of a level is read if no operator of its own follows it
+-- a phrase of a level is read if no operator of that level follows
 read_level : (ts : List Lexeme) (depth_left n i j : ℕ) (t : Tree) → n ≤ 5 → Whole ts depth_left n i j t → HasNoOperator ts n j → Run ts (level_at depth_left n i) (Ok (t, j))
 read_level ts depth_left zero i j t le w h = w
 read_level ts depth_left (suc n) i j t le w h = w.0 (omega arith) (Ok (t, j)) (r_end depth_left n j t h)
@@ -98,7 +96,7 @@ whole ts _ _ _ _ _ (negated depth_left i j t h p) =
       λ e q. subst (λ (m : ℕ). Run ts (whole_at m i) (Ok (unary Not t, j))) one (r_negated depth_left i (Ok (t, j)) (Ok (unary Not t, j)) h (inner.1 refl q) refl),
     )
 
--- an error of a phrase is the result of reading it
+-- the error of a phrase is the result of reading it
 abbrev Lost : List Lexeme → ℕ → ℕ → ℕ → ExprFault → Type 0
 Lost ts depth_left n i f = (n ≤ 5 → Run ts (level_at depth_left n i) (Err f)) × (n ≡ 6 → Run ts (whole_at depth_left i) (Err f))
 

@@ -145,12 +145,16 @@ impl FailsOnce {
     /// Returns whether this is the failing call.
     fn fails(&mut self, name: &str, at: Option<u64>) -> Result<bool, AllocError>
         ensures files { self.new.files ≡ self.old.files }
-        ensures yes { IfOk result (λ b. OnTrue b ((self.old.failed ≡ false) × (self.new.failed ≡ true))) }
+        ensures yes { IfOk result (λ b. OnTrue b ((self.old.failed ≡ false) ×
+            (self.new.failed ≡ true))) }
         ensures no { IfOk result (λ b. OnFalse b (self.new.failed ≡ self.old.failed)) }
         ensures refused { OnErr result (self.new.failed ≡ self.old.failed) }
-        ensures asked { IfOk result (λ b. OnTrue b ((self.new.asked ≡ Some name.now) × (self.new.at ≡ at))) }
-        ensures unasked { IfOk result (λ b. OnFalse b ((self.new.asked ≡ self.old.asked) × (self.new.at ≡ self.old.at))) }
-        ensures untold { OnErr result ((self.new.asked ≡ self.old.asked) × (self.new.at ≡ self.old.at)) }
+        ensures asked { IfOk result (λ b. OnTrue b ((self.new.asked ≡ Some name.now) ×
+            (self.new.at ≡ at))) }
+        ensures unasked { IfOk result (λ b. OnFalse b ((self.new.asked ≡ self.old.asked) ×
+            (self.new.at ≡ self.old.at))) }
+        ensures untold { OnErr result ((self.new.asked ≡ self.old.asked) ×
+            (self.new.at ≡ self.old.at)) }
     {
         match self.left {
             Some(0) => {
@@ -202,7 +206,9 @@ impl Store for FailsOnce {
         self.files.append(name, piece)
     }
 
-    ghost counted = { λ s. elim s.failed as (λ (b : Bool). (if b then 1 else 0) ≤ max_failures) [ true ↦ Prim.search rules | false ↦ Prim.search rules ] };
+    ghost counted = { λ s.
+        elim s.failed as (λ (b : Bool). (if b then 1 else 0) ≤
+        max_failures) [ true ↦ Prim.search rules | false ↦ Prim.search rules ] };
 }
 
 /// A writer that stops after some bytes: it fails, or accepts no more. After that it accepts

@@ -8,7 +8,7 @@ use Rattle.object65.specs.Objects.{ObjectFits}
 use Rattle.object65.specs.declared.object.Object.{Object}
 use Rattle.ast65.specs.Faults.{is_out_of_memory as is_asm_memory}
 use Rattle.sources65.specs.Reading.{IsOutcome, Define, Job}
-use Rattle.sources65.proofs.OneLayouts.{one_answer}
+use Rattle.sources65.proofs.LayoutUniqueness.{one_answer}
 use Rattle.semantics65.specs.Module as asm
 use Rattle.semantics65.specs.Module.{LocatedFault}
 use Rattle.asm65.specs.Assembly.{is_store_failure, located_result, is_diagnostic_system_error, located_fault}

@@ -10,7 +10,7 @@ use Rattle.object65.specs.declared.object.Object.{Object}
 use Rattle.semantics65.specs.Module as asm
 use Rattle.sources65.specs.Reading.{IsOutcome}
 use Rattle.semantics65.specs.Module.{LocatedFault}
-use Rattle.sources65.proofs.SomeLayouts.{some_answer}
+use Rattle.sources65.proofs.LayoutExistence.{some_answer}
 use Rattle.cli65.specs.Line.{AssembleView, CommandView, archive, assemble, line_of, link}
 use Rattle.cli65.specs.declared.fault.LineFault.{LineFault}
 use Rattle.link65.proofs.OutcomeLemmas.{link_once}

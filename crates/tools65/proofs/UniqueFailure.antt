@@ -1,6 +1,6 @@
 -- At most one message reports a call that failed while files were read.
 use Rattle.std.proofs.Common.{◌∙◌, sym}
-use Rattle.ar65.proofs.OneNaming.{one_naming as archive_naming}
+use Rattle.ar65.proofs.NamingUniqueness.{one_naming as archive_naming}
 use Rattle.ld65.proofs.NamingUniqueness.{one_naming as link_naming}
 use Rattle.tools65.specs.OutcomeLaws.{FailureIsUnique}
 

@@ -20,7 +20,7 @@ use Rattle.link65.specs.declared.linking.Linked.{Linked}
 use Rattle.cli65.specs.Line.{AssembleView, LinkView, CommandView, archive, assemble, link}
 use Rattle.ld65.specs.Linkage.{AreInputs, AreNeeded, IfLibraryElse, IsInput, IsInputLink, IsLibraryInput, IsCommandLink, IsScriptedLink, IsLinkResult, as_library, as_command_fault, as_script, selected_entries, index_in, is_library_in, output_of, text_of, with_file, with_members}
 use Rattle.ld65.specs.declared.fault.LinkCommandFault.{LinkCommandFault}
-use Rattle.sources65.proofs.OneLayouts.{one_answer}
+use Rattle.sources65.proofs.LayoutUniqueness.{one_answer}
 use Rattle.semantics65.specs.Module.{LocatedFault}
 use Rattle.object65.specs.declared.object.Object.{Object}
 use Rattle.output65.specs.Outputs.{outputs_of}

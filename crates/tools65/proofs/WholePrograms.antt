@@ -2,7 +2,7 @@
 use Rattle.std.proofs.Common.{◌≡◌, ◌∙◌, List, [], ◌∷◌, Option, Some, None, Ok, refl, sym, ap, subst}
 use Rattle.object65.specs.declared.object.Object.{Object}
 use Rattle.semantics65.specs.Layout.{Layout}
-use Rattle.sources65.proofs.OneLayouts.{one_layout}
+use Rattle.sources65.proofs.LayoutUniqueness.{one_layout}
 use Rattle.sources65.proofs.SoundSources.{sound_layout}
 use Rattle.semantics65.specs.Module.{LocatedFault, object_of, outcome_of}
 use Rattle.sources65.specs.Reading.{AreLaidOut, ReachedState}

@@ -61,7 +61,8 @@ pub fn run_line_with_streams<S: Store, W: Write, E: Write>(
     ensures same { HaveSameWriters out.old out.new err.old err.new }
     ensures done { IfSome (S.files store.old) (λ m.
         NoneFailed (S.failures store.old) (S.failures store.new) →
-        RunHasOutcome (IsOutcomeOfCommand (view line.now)) (command_memory_message (view line.now)) m
+        RunHasOutcome (IsOutcomeOfCommand (view line.now))
+        (command_memory_message (view line.now)) m
         (S.files store.new)
         (stream_states W.contents E.contents out.old out.new err.old err.new) result) }
     ensures fits { IfSome (S.files store.old) (λ m.

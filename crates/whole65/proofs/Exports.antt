@@ -22,7 +22,7 @@ use Rattle.link65.specs.Programs.{Module, Program, no_program, program_of, with_
 use Rattle.link65.specs.Programs as linked
 use Rattle.link65.specs.declared.parts.ModuleExport as parts
 use Rattle.sources65.proofs.SoundForms.{all_append}
-use Rattle.semantics65.proofs.Found.{names_append, exports_named}
+use Rattle.semantics65.proofs.SlotResolution.{names_append, exports_named}
 use Rattle.sources65.proofs.Resolving.{new_append}
 use Rattle.semantics65.specs.Module.{module_resolution}
 use Rattle.whole65.proofs.Statements.{AreStated, IsSaidBy, SaidOnce, a_line, are_stated, left_out, no_line, no_name, said_append, said_first, stated}

@@ -9,7 +9,7 @@ pub mod LinkedProgram
 pub mod Links
 pub mod ModuleBytes
 pub mod Multiples
-pub mod Needs
+pub mod SegmentNeeds
 pub mod Offsets
 pub mod Positions
 pub mod Providers

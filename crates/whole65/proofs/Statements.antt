@@ -7,7 +7,7 @@ use Rattle.std.specs.Str.{bytes_eq}
 use Rattle.base65.specs.Outcome.{◌>>=◌}
 use Rattle.object65.specs.Form.{Form}
 use Rattle.syntax65.specs.Trees.{Tree}
-use Rattle.semantics65.proofs.Found.{AreFound, found_each, found_split}
+use Rattle.semantics65.proofs.SlotResolution.{AreFound, found_each, found_split}
 use Rattle.sources65.proofs.SoundForms.{all_append}
 use Rattle.sources65.proofs.SoundParts.{content_is}
 use Rattle.semantics65.specs.Contents.{Content, Declaration, ExportedSymbol, ForcedImport, Part, section_request, decided_assertion, export_declarations, import_fault, operand_form, section_part, value_part, declaration_content, with_file_name_check, exported_names}

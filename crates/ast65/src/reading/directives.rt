@@ -42,11 +42,13 @@ fn empty_list<T: Drop>(alloc: Global, count: usize) -> Result<ListVec<T>, AllocE
 /// the comma, if there is one.
 #[inline(always)]
 fn first_number<'a, 'b>(tokens: &'b [Token<'a>]) -> Option<(u32, Option<&'b [Token<'a>]>)>
-    ensures parts { IfSome result (λ x. list_elements (lexemes tokens.now) ≡ lexemes (take 1 tokens.now)
+    ensures parts { IfSome result (λ x. list_elements (lexemes tokens.now) ≡
+        lexemes (take 1 tokens.now)
         ∷ elements_after_comma (option_map (λ rest. lexemes rest.now) x.1)) }
     ensures item { IfSome result (λ x. (elements : ElementKind) →
         IsItem elements (lexemes (take 1 tokens.now)) (Ok (literal_item x.0))) }
-    ensures shorter { IfSome result (λ x. IfSome x.1 (λ rest. length rest.now < length tokens.now)) }
+    ensures shorter { IfSome result (λ x.
+        IfSome x.1 (λ rest. length rest.now < length tokens.now)) }
 {
     let (first, following) = tokens.split_first()?;
     let number = number_in(first)?;
@@ -65,7 +67,8 @@ fn first_number<'a, 'b>(tokens: &'b [Token<'a>]) -> Option<(u32, Option<&'b [Tok
 /// Parses a list that consists of numbers separated by commas.
 fn numbers(alloc: Global, tokens: &[Token<'_>]) -> Result<Option<ListVec<u32>>, AllocError>
     ensures { IfOk result (λ numbers. IfSome numbers (λ ns. (elements : ElementKind) →
-        MapsEach (IsItem elements) (list_elements (lexemes tokens.now)) (Ok (map literal_item ns)))) }
+        MapsEach (IsItem elements) (list_elements (lexemes tokens.now))
+        (Ok (map literal_item ns)))) }
 {
     let mut numbers = empty_list(alloc, tokens.len())?;
     let mut rest = Some(tokens);
@@ -85,7 +88,8 @@ fn mixed(
     elements: ElementKind,
     tokens: &[Token<'_>],
 ) -> Result<ListVec<Item>, AsmFault>
-    ensures { RefinesParse result (MapsEach (IsItem elements) (list_elements (lexemes tokens.now))) }
+    ensures { RefinesParse result
+        (MapsEach (IsItem elements) (list_elements (lexemes tokens.now))) }
 {
     let mut items = empty_list(alloc, tokens.len())?;
     let mut rest = Some(tokens);
@@ -99,7 +103,8 @@ fn mixed(
 
 /// Parses elements separated by commas.
 pub fn items(alloc: Global, elements: ElementKind, tokens: &[Token<'_>]) -> Result<Items, AsmFault>
-    ensures { RefinesParse result (MapsEach (IsItem elements) (list_elements (lexemes tokens.now))) }
+    ensures { RefinesParse result
+        (MapsEach (IsItem elements) (list_elements (lexemes tokens.now))) }
 {
     if let Some(numbers) = numbers(alloc, tokens)? {
         return Ok(Items::new(ItemsKind::Numbers(numbers)));
@@ -115,7 +120,8 @@ pub fn list(
     width: Width,
     tokens: &[Token<'_>],
 ) -> Result<Statement, AsmFault>
-    ensures { RefinesParse result (IsDirective (directive.List elements width) (lexemes tokens.now)) }
+    ensures { RefinesParse result (IsDirective (directive.List elements width)
+        (lexemes tokens.now)) }
 {
     let items = items(alloc, elements, tokens)?;
     Ok(Statement::Values { width, items })
@@ -173,7 +179,8 @@ type StartAndLength = (OptionalExpr, OptionalExpr);
 
 /// Parses the operands after the name of a file.
 fn range(alloc: Global, following: Option<&[Token<'_>]>) -> Result<StartAndLength, AsmFault>
-    ensures { RefinesParse result (IsRange (elements_after_comma (option_map (λ rest. lexemes rest.now) following.entry))) }
+    ensures { RefinesParse result
+        (IsRange (elements_after_comma (option_map (λ rest. lexemes rest.now) following.entry))) }
 {
     let Some(following) = following else {
         return Ok((OptionalExpr::none(), OptionalExpr::none()));
@@ -242,7 +249,9 @@ fn explicit_text(alloc: Global, tokens: &[Token<'_>]) -> Result<ListVec<u8>, Asm
 
 /// Returns the text of an assertion: the given or the default one.
 fn assertion_text(alloc: Global, rest: Option<&[Token<'_>]>) -> Result<ListVec<u8>, AsmFault>
-    ensures { RefinesParse result (λ r. r ≡ assertion_text (elements_after_comma (option_map (λ rest. lexemes rest.now) rest.entry))) }
+    ensures { RefinesParse result (λ r.
+        r ≡ assertion_text (elements_after_comma
+        (option_map (λ rest. lexemes rest.now) rest.entry))) }
 {
     let Some(rest) = rest else {
         return Ok(ListVec::copy_of(alloc, b"assertion failed")?);

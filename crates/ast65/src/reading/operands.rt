@@ -19,7 +19,8 @@ use syntax65::{AddressSize, Expr, ExprFault, ExprKind, Punctuation, Token, Token
 
 /// Returns the value of a number.
 pub fn number_in(token: &Token<'_>) -> Option<u32>
-    ensures number { IfSome result (λ v. operand_start_of token.now.kind token.now.text.now ≡ Number v) }
+    ensures number { IfSome result (λ v.
+        operand_start_of token.now.kind token.now.text.now ≡ Number v) }
     ensures text { IfSome result (λ _. quoted_in (lexeme_of token.now) ≡ None) }
     ensures comma { IfSome result (λ _. is_comma (lexeme_of token.now) ≡ false) }
 {
@@ -88,7 +89,8 @@ fn len_before_comma(tokens: &[Token<'_>]) -> usize
 
 /// Returns the tokens before the first comma, and those after it, if there is one.
 pub fn split_at_comma<'a, 'b>(tokens: &'b [Token<'a>]) -> (&'b [Token<'a>], Option<&'b [Token<'a>]>)
-    ensures parts { list_elements (lexemes tokens.now) ≡ lexemes result.0.now ∷ elements_after_comma (option_map (λ rest. lexemes rest.now) result.1) }
+    ensures parts { list_elements (lexemes tokens.now) ≡ lexemes result.0.now ∷ elements_after_comma
+        (option_map (λ rest. lexemes rest.now) result.1) }
     ensures shorter { IfSome result.1 (λ rest. length rest.now < length tokens.now) }
 {
     let len = len_before_comma(tokens);
@@ -104,7 +106,8 @@ pub fn split_expression<'a, 'b>(
     alloc: Global,
     tokens: &'b [Token<'a>],
 ) -> Result<(Expr, &'b [Token<'a>]), AsmFault>
-    ensures { ParsesAs (λ x. (x.0, lexemes x.1.now)) result (IsExpressionAndRest (lexemes tokens.now)) }
+    ensures { ParsesAs (λ x. (x.0, lexemes x.1.now)) result
+        (IsExpressionAndRest (lexemes tokens.now)) }
 {
     let (value, count) = parse_expression(alloc, tokens)?;
     Ok((value, &tokens[count..]))
@@ -160,7 +163,8 @@ fn address(
     prefix: Option<AddressSize>,
     tokens: &[Token<'_>],
 ) -> Result<Operand, AsmFault>
-    ensures { RefinesParse result (IsExpressionOperand index_of (Address prefix) (lexemes tokens.now)) }
+    ensures { RefinesParse result (IsExpressionOperand index_of (Address prefix)
+        (lexemes tokens.now)) }
 {
     let (value, following) = split_expression(alloc, tokens)?;
     let index = index_of(following)?;
@@ -202,7 +206,8 @@ fn indirect_by(value: Expr, index: Option<Index>) -> Operand
 
 /// Parses an indirect operand, after its `(`.
 fn indirect(alloc: Global, tokens: &[Token<'_>]) -> Result<Operand, AsmFault>
-    ensures { RefinesParse result (IsExpressionOperand closing_of indirect_by (lexemes tokens.now)) }
+    ensures { RefinesParse result (IsExpressionOperand closing_of indirect_by
+        (lexemes tokens.now)) }
 {
     let (value, following) = split_expression(alloc, tokens)?;
     let index = closing_of(following)?;

@@ -22,7 +22,8 @@ use syntax65::{Identifier, Mnemonic, Token, TokenKind, is_reserved, mnemonic};
 
 /// Returns the label that a token before `:` is, if it is one.
 fn named_label(alloc: Global, token: &Token<'_>) -> Result<Option<Statement>, AsmFault>
-    ensures { RefinesParse result (λ r. r ≡ Ok (named_label (lexeme_of token.now).0 (lexeme_of token.now).1)) }
+    ensures { RefinesParse result (λ r.
+        r ≡ Ok (named_label (lexeme_of token.now).0 (lexeme_of token.now).1)) }
 {
     match token.kind {
         TokenKind::Identifier => {
@@ -45,7 +46,8 @@ fn label_with_colon<'a, 'b>(
     token: &Token<'a>,
     following: &'b [Token<'a>],
 ) -> Result<Option<(Statement, &'b [Token<'a>])>, AsmFault>
-    ensures { ParsesAs (λ label. option_map (λ x. (x.0, lexemes x.1.now)) label) result (λ r. r ≡ Ok (label_with_colon (lexeme_of token.now) (lexemes following.now))) }
+    ensures { ParsesAs (λ label. option_map (λ x. (x.0, lexemes x.1.now)) label) result (λ r.
+        r ≡ Ok (label_with_colon (lexeme_of token.now) (lexemes following.now))) }
 {
     let Some((colon, rest)) = following.split_first() else {
         return Ok(None);
@@ -64,7 +66,8 @@ pub fn label<'a, 'b>(
     alloc: Global,
     tokens: &'b [Token<'a>],
 ) -> Result<(Option<Statement>, &'b [Token<'a>]), AsmFault>
-    ensures { ParsesAs (λ x. (x.0, lexemes x.1.now)) result (λ r. r ≡ Ok (label_of (lexemes tokens.now))) }
+    ensures { ParsesAs (λ x. (x.0, lexemes x.1.now)) result (λ r. r ≡
+        Ok (label_of (lexemes tokens.now))) }
 {
     let Some((first, following)) = tokens.split_first() else {
         return Ok((None, tokens));
@@ -84,7 +87,8 @@ fn directive_statement(
     keyword: &[u8],
     tokens: &[Token<'_>],
 ) -> Result<Statement, AsmFault>
-    ensures { RefinesParse result (IsStatement ((token.Directive, keyword.now) ∷ lexemes tokens.now)) }
+    ensures { RefinesParse result
+        (IsStatement ((token.Directive, keyword.now) ∷ lexemes tokens.now)) }
 {
     let Some(directive) = directive_of(keyword) else {
         return Err(AsmFault::NotUnderstood);

@@ -99,7 +99,8 @@ fn no_members(alloc: Global, areas: usize) -> Result<Vec<ListVec<usize>>, AllocE
 // Adds a row to the members of an area, if there is such an area.
 fn add_member(members: &mut Vec<ListVec<usize>>, area: usize, row: usize) -> Result<(), AllocError>
     ensures { OnOk result ((k : ℕ) → slice_get members.new.items k
-        ≡ option_map (λ m. if area == k then m ++ row ∷ [] else m) (slice_get members.old.items k)) }
+        ≡ option_map (λ m. if area == k then m ++ row ∷ [] else m)
+        (slice_get members.old.items k)) }
 {
     if area < members.len() {
         members[area].push(row)?;
@@ -114,7 +115,8 @@ fn add_row(
     index: usize,
 ) -> Result<(), AllocError>
     ensures { OnOk result ((k : ℕ) → slice_get members.new.items k
-        ≡ option_map (λ m. if is_in k row.now then m ++ index ∷ [] else m) (slice_get members.old.items k)) }
+        ≡ option_map (λ m. if is_in k row.now then m ++ index ∷ [] else m)
+        (slice_get members.old.items k)) }
 {
     add_member(members, row.run, index)?;
     if row.load != row.run {
@@ -129,7 +131,8 @@ pub fn members_of(
     areas: usize,
     rows: &[SegmentRow],
 ) -> Result<Vec<ListVec<usize>>, AllocError>
-    ensures { IfOk result (λ v. (k : ℕ) → k < areas → slice_get v.items k ≡ Some (row_indices_in k 0 rows.now)) }
+    ensures { IfOk result (λ v. (k : ℕ) → k < areas →
+        slice_get v.items k ≡ Some (row_indices_in k 0 rows.now)) }
 {
     let mut members = no_members(alloc, areas)?;
     for (index, row) in rows.iter().enumerate() {
@@ -155,7 +158,8 @@ fn place_member(
     ensures value { (r : SegmentRow) → (s : RowState) →
         slice_get rows.now member ≡ Some r → slice_get row_states.old member ≡ Some s →
         Refines is_place_system_error (λ end. (row_states.new, end)) result
-        (row_states_after context.now.index context.now.area.now context.now.bounds r s cursor member row_states.old) }
+        (row_states_after context.now.index context.now.area.now context.now.bounds r s cursor
+        member row_states.old) }
     ensures bound { IfOk result (λ end. end ≤ context.now.bounds.end) }
 {
     let (row_state, end) = context.place_row(alloc, &rows[member], row_states[member], cursor)?;
@@ -176,7 +180,8 @@ fn place_area(
     requires order { context.now.bounds.start ≤ context.now.bounds.end }
     requires small { context.now.bounds.end ≤ 8589934592 }
     ensures { Refines is_place_system_error (λ last. (row_states.new, last)) result
-        (rows_from context.now.index context.now.area.now context.now.bounds rows.now row_states.old context.now.bounds.start) }
+        (rows_from context.now.index context.now.area.now context.now.bounds rows.now row_states.old
+        context.now.bounds.start) }
 {
     let mut cursor = context.bounds.start;
     for member in members {
@@ -194,9 +199,11 @@ pub fn place_areas(
     members: &[ListVec<usize>],
     row_states: &mut [RowState],
 ) -> Result<ListVec<AreaPlacement>, PlaceFault>
-    requires members { (k : ℕ) → k < length areas.now → slice_get members.now k ≡ Some (row_indices_in k 0 rows.now) }
+    requires members { (k : ℕ) → k < length areas.now →
+        slice_get members.now k ≡ Some (row_indices_in k 0 rows.now) }
     requires count { length row_states.old ≡ length rows.now }
-    ensures { Refines is_place_system_error (λ placements. record { areas = placements; rows = map row_placement row_states.new }) result
+    ensures { Refines is_place_system_error (λ placements.
+        record { areas = placements; rows = map row_placement row_states.new }) result
         (areas_from 0 areas.now rows.now areas.now [] row_states.old) }
 {
     let mut placements = ListVec::new(alloc);

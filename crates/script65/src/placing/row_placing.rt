@@ -93,7 +93,8 @@ impl AreaContext<'_> {
         requires capacity { cursor ≤ 8589934592 }
         requires small { self.now.bounds.start ≤ 8589934592 }
         ensures value { Refines is_place_system_error (λ x. x) result
-            (sized_row self.now.index self.now.area.now self.now.bounds row.now row_state (Some size) cursor) }
+            (sized_row self.now.index self.now.area.now self.now.bounds row.now row_state
+            (Some size) cursor) }
         ensures bound { IfOk result (λ x. x.1 ≤ self.now.bounds.end) }
     {
         let at = begin_in(self.index, self.bounds, row, cursor);

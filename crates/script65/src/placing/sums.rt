@@ -65,7 +65,8 @@ impl SumContext<'_> {
     }
 
     fn operand_value(&self, operand: Operand) -> u64
-        ensures { result ≡ operand_value (known_placements (sum_context_in self.now)) (map row_placement self.now.row_states.now) operand }
+        ensures { result ≡ operand_value (known_placements (sum_context_in self.now))
+            (map row_placement self.now.row_states.now) operand }
     {
         match operand {
             Operand::Number(number) => u64::from(number),
@@ -124,7 +125,8 @@ impl SumContext<'_> {
 
     // Returns the name of an operand in the script. That of a number is empty.
     fn operand_name(&self, alloc: Global, operand: Operand) -> Result<ListVec<u8>, AllocError>
-        ensures { IfOk result (λ name. name ≡ operand_name self.now.areas.now self.now.rows.now operand) }
+        ensures { IfOk result (λ name.
+            name ≡ operand_name self.now.areas.now self.now.rows.now operand) }
     {
         match operand {
             Operand::Number(_) => Ok(ListVec::new(alloc)),
@@ -141,7 +143,8 @@ impl SumContext<'_> {
 
     // Returns the sum of the added terms less that of the subtracted ones.
     fn sum_by(&self, terms: &[Term]) -> Option<u32>
-        ensures { result ≡ sum_by (known_placements (sum_context_in self.now)) (map row_placement self.now.row_states.now) terms.now }
+        ensures { result ≡ sum_by (known_placements (sum_context_in self.now))
+            (map row_placement self.now.row_states.now) terms.now }
     {
         let mut added = 0u128;
         let mut subtracted = 0u128;
@@ -158,7 +161,8 @@ impl SumContext<'_> {
 
     // Returns the sum of terms, or an error: of the first term that isn't known, or else of the sum.
     fn sum(&self, alloc: Global, terms: &[Term]) -> Result<u32, PlaceFault>
-        ensures { Refines is_place_system_error (λ n. n) result (sum_in (sum_context_in self.now) terms.now) }
+        ensures { Refines is_place_system_error (λ n. n) result
+            (sum_in (sum_context_in self.now) terms.now) }
     {
         if let Some(term) = self.first_unknown(terms) {
             return Err(PlaceFault::NotPlaced(self.operand_name(alloc, term.operand)?));
@@ -175,7 +179,8 @@ impl SumContext<'_> {
     /// Returns the first address of the area, and the first address after it.
     pub fn bounds(&self, alloc: Global) -> Result<Bounds, PlaceFault>
         requires { self.now.start ≡ None }
-        ensures value { Refines is_place_system_error (λ b. b) result (bounds_in (sum_context_in self.now)) }
+        ensures value { Refines is_place_system_error (λ b. b) result
+            (bounds_in (sum_context_in self.now)) }
         ensures order { IfOk result (λ b. b.start ≤ b.end) }
         ensures small { IfOk result (λ b. b.end ≤ 2 ^ 32) }
     {

@@ -115,7 +115,8 @@ impl<'a> ConfigEntry<'a> {
 
     /// Returns the name of the area that is an attribute's value.
     pub fn area_for(&self, identifier: &str) -> Option<&[u8]>
-        ensures { option_copied result ≡ option_and_then as_area (value_for identifier.now self.now) }
+        ensures { option_copied result ≡
+            option_and_then as_area (value_for identifier.now self.now) }
     {
         match self.value_for(identifier) {
             Some(Value::Area(name)) => Some(name.as_slice()),

@@ -103,7 +103,8 @@ fn add_term<'a>(
     at: usize,
 ) -> Result<ParseState<'a>, FaultAt>
     ensures { (es : Entries) →
-        RefinesMove es result (add_term es block entry.entry identifier.entry parsed_terms.entry at part.entry) }
+        RefinesMove es result
+        (add_term es block entry.entry identifier.entry parsed_terms.entry at part.entry) }
 {
     match part {
         Ok(part) => {
@@ -191,7 +192,8 @@ fn entry_name<'a>(
     name: Bytes<'a>,
     at: usize,
 ) -> Result<ParseState<'a>, FaultAt>
-    ensures { RefinesMove entries.now result (entry_name entries.now block (identifier name.entry) at) }
+    ensures { RefinesMove entries.now result
+        (entry_name entries.now block (identifier name.entry) at) }
 {
     if entries.has(block, name.as_slice()) {
         return Err(FaultAt::new(Fault::NameTwice, at));
@@ -216,7 +218,8 @@ fn step<'a>(
     at: usize,
 ) -> Result<Option<ParseState<'a>>, FaultAt>
     requires { IsFresh entries.old state }
-    ensures { RefinesMoveOrEnd entries.new result (token_move entries.old state.entry lexeme.entry at) }
+    ensures { RefinesMoveOrEnd entries.new result
+        (token_move entries.old state.entry lexeme.entry at) }
 {
     let next = match state {
         ParseState::BetweenBlocks => match lexeme {

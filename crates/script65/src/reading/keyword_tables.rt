@@ -71,7 +71,8 @@ pub fn find_keyword<T: Copy>(
     rows: &[(&'static str, T)],
     identifier: &[u8],
 ) -> Option<(&'static str, T)>
-    ensures { option_map (λ r. (r.0.now, r.1)) result ≡ find_keyword identifier.now (map (λ r. (r.0.now, r.1)) rows.now) }
+    ensures { option_map (λ r. (r.0.now, r.1)) result ≡
+        find_keyword identifier.now (map (λ r. (r.0.now, r.1)) rows.now) }
 {
     for (name, value) in rows {
         if is_same_keyword(identifier, name) {

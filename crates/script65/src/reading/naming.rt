@@ -84,7 +84,8 @@ fn sum_for(
     identifier: &str,
     entry: &ConfigEntry,
 ) -> Result<ListVec<Term>, FaultAt>
-    ensures { Refines is_system_error (λ x. x) result (sum_for entries.now identifier.now entry.now) }
+    ensures { Refines is_system_error (λ x. x) result
+        (sum_for entries.now identifier.now entry.now) }
 {
     let mut terms = ListVec::new(alloc);
     for part in entry.terms_for(identifier) {

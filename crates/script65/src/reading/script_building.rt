@@ -104,7 +104,8 @@ fn row_from(alloc: Global, entries: &Entries, entry: &ConfigEntry) -> Result<Seg
 
 // Makes all areas, or returns the first error of a name in a sum.
 fn areas_from(alloc: Global, entries: &Entries) -> Result<ListVec<MemoryArea>, FaultAt>
-    ensures { Refines is_system_error (λ x. x) result (try_map (area_from entries.now) entries.now.areas) }
+    ensures { Refines is_system_error (λ x. x) result
+        (try_map (area_from entries.now) entries.now.areas) }
 {
     let mut areas = ListVec::new(alloc);
     'areas: while let Some(entry) = entries.areas.get(areas.len()) {
@@ -115,7 +116,8 @@ fn areas_from(alloc: Global, entries: &Entries) -> Result<ListVec<MemoryArea>, F
 
 // Makes all rows, or returns the first error of a row.
 fn rows_from(alloc: Global, entries: &Entries) -> Result<ListVec<SegmentRow>, FaultAt>
-    ensures { Refines is_system_error (λ x. x) result (try_map (row_from entries.now) entries.now.rows) }
+    ensures { Refines is_system_error (λ x. x) result
+        (try_map (row_from entries.now) entries.now.rows) }
 {
     let mut rows = ListVec::new(alloc);
     'rows: while let Some(entry) = entries.rows.get(rows.len()) {

@@ -71,7 +71,8 @@ fn has_name(parsed_terms: &[ParsedTerm]) -> bool
 
 // Returns the sum of terms if all of them are numbers.
 fn number_of(parsed_terms: &[ParsedTerm]) -> Option<u32>
-    ensures { result ≡ sum_of (λ (p : ParsedTerm). p.minus) (λ (p : ParsedTerm). unwrap_or p.number 0) parsed_terms.now }
+    ensures { result ≡ sum_of (λ (p : ParsedTerm). p.minus)
+        (λ (p : ParsedTerm). unwrap_or p.number 0) parsed_terms.now }
 {
     let mut added = 0u128;
     let mut subtracted = 0u128;

@@ -203,7 +203,7 @@ fn remaining_after(width: Width, items: &Items, remaining: usize) -> Option<usiz
 
 /// Lays out a list of values. Returns an error if the current section has fewer remaining bytes.
 #[inline(never)]
-#[tactic(auto, using(crate::proofs::Measures::same_test))]
+#[tactic(auto, using(crate::proofs::StatementLayouts::same_test))]
 pub fn values(cursor: &Cursor, width: Width, items: &Items) -> Result<StatementLayout, AsmFault>
     ensures { (y : Table) → Refines is_out_of_memory (λ m. m) result (layout_or_error y
         cursor.now (Values width items.now)) }

@@ -99,9 +99,11 @@ pub struct Symbols {
         (map (λ k. k.items) imports.keys) (map (λ k. k.items) zero_page.keys))
         (entries_at (length (table_in (map (λ k. k.items) interned_names.keys) definitions.entries
         scopes.entries (map (λ k. k.items) imports.keys)
-        (map (λ k. k.items) zero_page.keys)).definitions) (get nat_eq searched)) } by { AreSearched-prop (table_in (map (λ k. k.items) interned_names.keys) definitions.entries
+        (map (λ k. k.items) zero_page.keys)).definitions) (get nat_eq searched)) } by { AreSearched-prop (table_in
+            (map (λ k. k.items) interned_names.keys) definitions.entries
             scopes.entries (map (λ k. k.items) imports.keys) (map (λ k. k.items) zero_page.keys))
-            (entries_at (length (table_in (map (λ k. k.items) interned_names.keys) definitions.entries
+            (entries_at (length (table_in
+            (map (λ k. k.items) interned_names.keys) definitions.entries
             scopes.entries (map (λ k. k.items) imports.keys)
             (map (λ k. k.items) zero_page.keys)).definitions) (get nat_eq searched)) },
     ghost searches_past: { ArePast

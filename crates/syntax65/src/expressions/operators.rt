@@ -67,7 +67,7 @@ impl<T: Drop> From<AllocFailed<T>> for ExprFault {
 
 fn token_at<'a>(tokens: &[Token<'a>], at: usize) -> Option<Token<'a>>
     ensures value { option_map lexeme_of result ≡ slice_get (lexemes tokens.now) at }
-    ensures inside { IsSome result → at < length tokens.now }
+    ensures in_bounds { IsSome result → at < length tokens.now }
 {
     tokens.get(at).copied()
 }
@@ -75,7 +75,7 @@ fn token_at<'a>(tokens: &[Token<'a>], at: usize) -> Option<Token<'a>>
 /// Returns how the token at an index can begin an operand.
 pub fn operand_start_at(tokens: &[Token<'_>], at: usize) -> OperandStart
     ensures value { result ≡ operand_start_at (lexemes tokens.now) at }
-    ensures inside { result ≢ OperandStart.Nothing → at < length tokens.now }
+    ensures in_bounds { result ≢ OperandStart.Nothing → at < length tokens.now }
 {
     match token_at(tokens, at) {
         Some(token) => operand_start_of(token.kind, token.text),
@@ -86,15 +86,16 @@ pub fn operand_start_at(tokens: &[Token<'_>], at: usize) -> OperandStart
 /// Returns whether the token at an index is a name.
 pub fn is_name(tokens: &[Token<'_>], at: usize) -> bool
     ensures value { IsTrue result ↔ (operand_start_at (lexemes tokens.now) at ≡ OperandStart.Name) }
-    ensures inside { IsTrue result → at < length tokens.now }
+    ensures in_bounds { IsTrue result → at < length tokens.now }
 {
     matches!(operand_start_at(tokens, at), OperandStart::Name)
 }
 
 /// Returns whether the token at an index is `::`.
 pub fn is_scope(tokens: &[Token<'_>], at: usize) -> bool
-    ensures value { IsTrue result ↔ (operand_start_at (lexemes tokens.now) at ≡ OperandStart.Scope) }
-    ensures inside { IsTrue result → at < length tokens.now }
+    ensures value { IsTrue result ↔ (operand_start_at (lexemes tokens.now) at ≡
+        OperandStart.Scope) }
+    ensures in_bounds { IsTrue result → at < length tokens.now }
 {
     match token_at(tokens, at) {
         Some(token) => matches!(token.kind, TokenKind::Symbol(Punctuation::Scope)),
@@ -104,8 +105,9 @@ pub fn is_scope(tokens: &[Token<'_>], at: usize) -> bool
 
 /// Returns whether the token at an index is `!`.
 pub fn is_negation(tokens: &[Token<'_>], at: usize) -> bool
-    ensures value { IsTrue result ↔ (operand_start_at (lexemes tokens.now) at ≡ OperandStart.Negation) }
-    ensures inside { IsTrue result → at < length tokens.now }
+    ensures value { IsTrue result ↔ (operand_start_at (lexemes tokens.now) at ≡
+        OperandStart.Negation) }
+    ensures in_bounds { IsTrue result → at < length tokens.now }
 {
     match token_at(tokens, at) {
         Some(
@@ -137,9 +139,10 @@ pub fn text_at<'a>(tokens: &[Token<'a>], at: usize) -> &'a [u8]
 /// Returns the operator at an index and its level, if that is at most `level`.
 pub fn operator_at(tokens: &[Token<'_>], level: u8, at: usize) -> Option<(Op2, u8)>
     ensures value { MatchOption result (HasNoOperator (lexemes tokens.now) level at)
-        (λ x. (binary_at (lexemes tokens.now) at ≡ Some x.0) × ((level_of x.0 ≡ x.1) × (x.1 ≤ level))) }
+        (λ x. (binary_at (lexemes tokens.now) at ≡ Some x.0) ×
+        ((level_of x.0 ≡ x.1) × (x.1 ≤ level))) }
     ensures some { IfSome result (λ x. 0 < x.1) }
-    ensures inside { IsSome result → at < length tokens.now }
+    ensures in_bounds { IsSome result → at < length tokens.now }
 {
     let op = binary_at(tokens, at)?;
     let operator_level = level_of(op);
@@ -152,7 +155,7 @@ pub fn operator_at(tokens: &[Token<'_>], level: u8, at: usize) -> Option<(Op2, u
 
 fn binary_at(tokens: &[Token<'_>], at: usize) -> Option<Op2>
     ensures value { result ≡ binary_at (lexemes tokens.now) at }
-    ensures inside { IsSome result → at < length tokens.now }
+    ensures in_bounds { IsSome result → at < length tokens.now }
 {
     let token = token_at(tokens, at)?;
     binary_of(token.kind, token.text)
@@ -161,7 +164,7 @@ fn binary_at(tokens: &[Token<'_>], at: usize) -> Option<Op2>
 /// Returns whether the token at an index is `)`.
 pub fn closes_at(tokens: &[Token<'_>], at: usize) -> bool
     ensures value { result ≡ closes_at (lexemes tokens.now) at }
-    ensures inside { IsTrue result → at < length tokens.now }
+    ensures in_bounds { IsTrue result → at < length tokens.now }
 {
     match token_at(tokens, at) {
         Some(token) => matches!(token.kind, TokenKind::Symbol(Punctuation::CloseParenthesis)),

@@ -22,9 +22,10 @@ pub fn read_parts(
     at: usize,
 ) -> Result<(ListVec<ListVec<u8>>, usize), ExprFault>
     requires { at ≤ length tokens.now }
-    ensures parts { RefinesRel is_expr_system_error (λ r. r) result (AreNames (lexemes tokens.now) at) }
+    ensures parts { RefinesRel is_expr_system_error (λ r. r) result
+        (AreNames (lexemes tokens.now) at) }
     ensures further { IfOk result (λ r. at < r.1) }
-    ensures inside { IfOk result (λ r. r.1 ≤ length tokens.now) }
+    ensures in_bounds { IfOk result (λ r. r.1 ≤ length tokens.now) }
 {
     let mut parts = ListVec::new(alloc);
     let mut end = at;
@@ -65,9 +66,10 @@ fn read_whole(
     at: usize,
     depth_left: u8,
 ) -> Result<(Expr, usize), ExprFault>
-    ensures phrase { RefinesRel is_expr_system_error (λ r. r) result (IsLevel (lexemes tokens.now) depth_left 6 at) }
+    ensures phrase { RefinesRel is_expr_system_error (λ r. r) result
+        (IsLevel (lexemes tokens.now) depth_left 6 at) }
     ensures further { IfOk result (λ r. at < r.1) }
-    ensures inside { IfOk result (λ r. r.1 ≤ length tokens.now) }
+    ensures in_bounds { IfOk result (λ r. r.1 ≤ length tokens.now) }
 {
     if is_negation(tokens, at) {
         read_negated(alloc, tokens, at, depth_left)
@@ -83,11 +85,12 @@ fn read_negated(
     at: usize,
     depth_left: u8,
 ) -> Result<(Expr, usize), ExprFault>
-    requires inside { at < length tokens.now }
+    requires in_bounds { at < length tokens.now }
     requires negation { operand_start_at (lexemes tokens.now) at ≡ opening.Negation }
-    ensures phrase { RefinesRel is_expr_system_error (λ r. r) result (IsLevel (lexemes tokens.now) depth_left 6 at) }
+    ensures phrase { RefinesRel is_expr_system_error (λ r. r) result
+        (IsLevel (lexemes tokens.now) depth_left 6 at) }
     ensures further { IfOk result (λ r. at < r.1) }
-    ensures inside { IfOk result (λ r. r.1 ≤ length tokens.now) }
+    ensures in_bounds { IfOk result (λ r. r.1 ≤ length tokens.now) }
 {
     if depth_left == 0 {
         return Err(ExprFault::TooDeep);
@@ -109,9 +112,10 @@ fn read_level(
     depth_left: u8,
 ) -> Result<(Expr, usize), ExprFault>
     requires { level ≤ 5 }
-    ensures phrase { RefinesRel is_expr_system_error (λ r. r) result (IsLevel (lexemes tokens.now) depth_left level at) }
+    ensures phrase { RefinesRel is_expr_system_error (λ r. r) result
+        (IsLevel (lexemes tokens.now) depth_left level at) }
     ensures further { IfOk result (λ r. at < r.1) }
-    ensures inside { IfOk result (λ r. r.1 ≤ length tokens.now) }
+    ensures in_bounds { IfOk result (λ r. r.1 ≤ length tokens.now) }
 {
     let (mut left, mut end) = read_operand(alloc, tokens, at, depth_left)?;
     // No operator of this level or a tighter one follows the phrase, so the phrase read so far is
@@ -132,9 +136,10 @@ fn read_operand(
     at: usize,
     depth_left: u8,
 ) -> Result<(Expr, usize), ExprFault>
-    ensures phrase { RefinesRel is_expr_system_error (λ r. r) result (IsLevel (lexemes tokens.now) depth_left 0 at) }
+    ensures phrase { RefinesRel is_expr_system_error (λ r. r) result
+        (IsLevel (lexemes tokens.now) depth_left 0 at) }
     ensures further { IfOk result (λ r. at < r.1) }
-    ensures inside { IfOk result (λ r. r.1 ≤ length tokens.now) }
+    ensures in_bounds { IfOk result (λ r. r.1 ≤ length tokens.now) }
 {
     let start = operand_start_at(tokens, at);
     if let Some(leaf) = leaf_of(alloc, start, text_at(tokens, at))? {
@@ -170,11 +175,12 @@ fn read_name(
     at: usize,
     depth_left: u8,
 ) -> Result<(Expr, usize), ExprFault>
-    requires inside { at < length tokens.now }
+    requires in_bounds { at < length tokens.now }
     requires name { operand_start_at (lexemes tokens.now) at ≡ opening.Name }
-    ensures phrase { RefinesRel is_expr_system_error (λ r. r) result (IsLevel (lexemes tokens.now) depth_left 0 at) }
+    ensures phrase { RefinesRel is_expr_system_error (λ r. r) result
+        (IsLevel (lexemes tokens.now) depth_left 0 at) }
     ensures further { IfOk result (λ r. at < r.1) }
-    ensures inside { IfOk result (λ r. r.1 ≤ length tokens.now) }
+    ensures in_bounds { IfOk result (λ r. r.1 ≤ length tokens.now) }
 {
     if !is_scope(tokens, at + 1) {
         let name = Identifier::copy_of(alloc, text_at(tokens, at))?;
@@ -194,11 +200,12 @@ fn read_global(
     at: usize,
     depth_left: u8,
 ) -> Result<(Expr, usize), ExprFault>
-    requires inside { at < length tokens.now }
+    requires in_bounds { at < length tokens.now }
     requires scope { operand_start_at (lexemes tokens.now) at ≡ opening.Scope }
-    ensures phrase { RefinesRel is_expr_system_error (λ r. r) result (IsLevel (lexemes tokens.now) depth_left 0 at) }
+    ensures phrase { RefinesRel is_expr_system_error (λ r. r) result
+        (IsLevel (lexemes tokens.now) depth_left 0 at) }
     ensures further { IfOk result (λ r. at < r.1) }
-    ensures inside { IfOk result (λ r. r.1 ≤ length tokens.now) }
+    ensures in_bounds { IfOk result (λ r. r.1 ≤ length tokens.now) }
 {
     let (parts, end) = read_parts(alloc, tokens, at + 1)?;
     let name = Name {
@@ -216,11 +223,12 @@ fn read_prefixed(
     depth_left: u8,
     op: Op1,
 ) -> Result<(Expr, usize), ExprFault>
-    requires inside { at < length tokens.now }
+    requires in_bounds { at < length tokens.now }
     requires prefix { operand_start_at (lexemes tokens.now) at ≡ opening.Prefix op }
-    ensures phrase { RefinesRel is_expr_system_error (λ r. r) result (IsLevel (lexemes tokens.now) depth_left 0 at) }
+    ensures phrase { RefinesRel is_expr_system_error (λ r. r) result
+        (IsLevel (lexemes tokens.now) depth_left 0 at) }
     ensures further { IfOk result (λ r. at < r.1) }
-    ensures inside { IfOk result (λ r. r.1 ≤ length tokens.now) }
+    ensures in_bounds { IfOk result (λ r. r.1 ≤ length tokens.now) }
 {
     if depth_left == 0 {
         return Err(ExprFault::TooDeep);
@@ -239,11 +247,12 @@ fn read_enclosed(
     at: usize,
     depth_left: u8,
 ) -> Result<(Expr, usize), ExprFault>
-    requires inside { at < length tokens.now }
+    requires in_bounds { at < length tokens.now }
     requires open { operand_start_at (lexemes tokens.now) at ≡ opening.Parenthesis }
-    ensures phrase { RefinesRel is_expr_system_error (λ r. r) result (IsLevel (lexemes tokens.now) depth_left 0 at) }
+    ensures phrase { RefinesRel is_expr_system_error (λ r. r) result
+        (IsLevel (lexemes tokens.now) depth_left 0 at) }
     ensures further { IfOk result (λ r. at < r.1) }
-    ensures inside { IfOk result (λ r. r.1 ≤ length tokens.now) }
+    ensures in_bounds { IfOk result (λ r. r.1 ≤ length tokens.now) }
 {
     if depth_left == 0 {
         return Err(ExprFault::TooDeep);

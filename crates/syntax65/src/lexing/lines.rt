@@ -68,7 +68,8 @@ impl<'a> LineTokens<'a> {
     #[inline(always)]
     pub fn read(&mut self, alloc: Global, line: &'a [u8]) -> Result<(), LexFault>
         requires { HasNoTokens self.old }
-        ensures tokens { RefinesRel is_lex_system_error (λ _. stored_lexemes self.new) result (IsRead line.now) }
+        ensures tokens { RefinesRel is_lex_system_error (λ _. stored_lexemes self.new) result
+            (IsRead line.now) }
         ensures within { self.new.few.count ≤ 8 }
     {
         let mut lexer = Lexer::new(line)?;
@@ -110,7 +111,8 @@ fn read_many<'a>(
 /// Appends the tokens of the rest of a line.
 #[inline(always)]
 fn read_rest<'a>(mut lexer: Lexer<'a>, tokens: &mut Vec<Token<'a>>) -> Result<(), LexFault>
-    ensures { ReadsRest lexer.entry (lexemes tokens.old.items) result (λ _. lexemes tokens.new.items) }
+    ensures { ReadsRest lexer.entry (lexemes tokens.old.items) result
+        (λ _. lexemes tokens.new.items) }
 {
     'line: loop {
         match lexer.next()? {
@@ -126,7 +128,8 @@ fn read_rest<'a>(mut lexer: Lexer<'a>, tokens: &mut Vec<Token<'a>>) -> Result<()
 ///
 /// `LineTooLong`, or the error at the first byte that begins no token.
 pub fn line_tokens(alloc: Global, line: &[u8]) -> Result<Vec<Token<'_>>, LexFault>
-    ensures { RefinesRel is_lex_system_error (λ tokens. lexemes tokens.items) result (IsRead line.now) }
+    ensures { RefinesRel is_lex_system_error (λ tokens. lexemes tokens.items) result
+        (IsRead line.now) }
 {
     let lexer = Lexer::new(line)?;
     // A token and its separator take at least two bytes, except in lists of punctuation.
@@ -188,9 +191,12 @@ impl<'a> Lexer<'a> {
     /// The error at a byte that begins no token.
     #[inline(always)]
     pub fn next(&mut self) -> Result<Option<Token<'a>>, LexFault>
-        ensures next { IsNextToken self.old.first self.old.rest.now result self.new.first self.new.rest.now }
-        ensures cut { IfOk result (λ t. IfSome t (λ t. IsTokenSplit self.old.rest.now t.text.now self.new.rest.now)) }
-        ensures less { IfOk result (λ t. IfSome t (λ _. length self.new.rest.now < length self.old.rest.now)) }
+        ensures next { IsNextToken self.old.first self.old.rest.now result self.new.first
+            self.new.rest.now }
+        ensures cut { IfOk result (λ t.
+            IfSome t (λ t. IsTokenSplit self.old.rest.now t.text.now self.new.rest.now)) }
+        ensures less { IfOk result (λ t.
+            IfSome t (λ _. length self.new.rest.now < length self.old.rest.now)) }
     {
         let here = skip_blanks(self.rest);
         if is_end(here) {
@@ -214,7 +220,8 @@ pub struct FirstTokens<'a> {
 impl<'a> FirstTokens<'a> {
     /// Adds the next token of the line.
     fn add(&mut self, token: Token<'a>)
-        ensures { (ts : List Lexeme) → AreFirstTokens ts self.old → AreFirstTokens (ts ++ lexeme_of token.entry ∷ []) self.new }
+        ensures { (ts : List Lexeme) → AreFirstTokens ts self.old →
+            AreFirstTokens (ts ++ lexeme_of token.entry ∷ []) self.new }
     {
         if self.first.is_none() {
             self.first = Some(token);

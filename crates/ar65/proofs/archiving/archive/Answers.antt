@@ -9,7 +9,7 @@ use Rattle.ar65.specs.declared.archiving.ArchiveResult.TheVariants as archived
 use Rattle.ar65.specs.declared.fault.ArchiveFault.TheVariants as error
 use Rattle.ar65.specs.Librarian.{operation_result}
 use Rattle.ar65.specs.Faults.{is_system_error}
-use Rattle.ar65.proofs.Takes.{extracts, not_extracted}
+use Rattle.ar65.proofs.DeletionsAndExtractions.{extracts, not_extracted}
 use Rattle.ar65.proofs.archiving.archive.Goals as goal
 
 pub returns-in_err-files-in-Extract-clause-archived : goal.returns-in_err-files-in-Extract-clause-archived

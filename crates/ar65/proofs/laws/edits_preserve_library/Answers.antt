@@ -1,4 +1,4 @@
-use Rattle.ar65.proofs.Kept.{kept_library}
+use Rattle.ar65.proofs.ValidLibraries.{kept_library}
 use Rattle.ar65.proofs.laws.edits_preserve_library.Goals as goal
 
 pub returns : goal.returns

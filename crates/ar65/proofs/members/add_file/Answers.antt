@@ -1,5 +1,5 @@
 use Rattle.std.proofs.Common.{◌∙◌}
-use Rattle.ar65.proofs.Puts.{not_failed, passes_on, put_of}
+use Rattle.ar65.proofs.Additions.{not_failed, passes_on, put_of}
 use Rattle.ar65.proofs.members.add_file.Goals as goal
 
 pub returns-clause-inserted : goal.returns-clause-inserted

@@ -1,7 +1,7 @@
 use Rattle.std.proofs.Common.{◌∙◌, Err, ap, map}
-use Rattle.ar65.proofs.Named.{of_file}
-use Rattle.ar65.proofs.Puts.{file_more, file_none, left_more, refused_count, same_count}
-use Rattle.ar65.proofs.Turns.{name_next, name_there}
+use Rattle.ar65.proofs.FailureNames.{of_file}
+use Rattle.ar65.proofs.Additions.{file_more, file_none, left_more, refused_count, same_count}
+use Rattle.ar65.proofs.LoopSteps.{name_next, name_there}
 use Rattle.ar65.proofs.members.add_files.Goals as goal
 
 pub returns-in-Err-clause-inserted : goal.returns-in-Err-clause-inserted

@@ -1,5 +1,5 @@
 use Rattle.std.proofs.Common.{◌≡◌, map}
-use Rattle.ar65.proofs.Puts.{HaveLeft, IsLeft}
+use Rattle.ar65.proofs.Additions.{HaveLeft, IsLeft}
 use Rattle.ar65.proofs.members.add_files.Given as goal
 
 abbrev pub invariant-loop-index : goal.invariant-loop-index

@@ -1,6 +1,6 @@
 use Rattle.std.proofs.Common.{◌∙◌, ap, sym, subst}
 use Rattle.ar65.specs.Librarian.{AreUtf8, file_of, files_of}
-use Rattle.ar65.proofs.Turns.{ahead, each_one}
+use Rattle.ar65.proofs.LoopSteps.{ahead, each_one}
 use Rattle.ar65.proofs.members.all_files.Goals as goal
 
 pub loop-name-preserved : goal.loop-name-preserved

@@ -1,7 +1,7 @@
 use Rattle.std.proofs.Common.{◌≡◌}
 use Rattle.library65.specs.Libraries.{member_names}
 use Rattle.ar65.specs.Librarian.{AreUtf8, files_of}
-use Rattle.ar65.proofs.Turns.{ahead}
+use Rattle.ar65.proofs.LoopSteps.{ahead}
 use Rattle.ar65.proofs.members.all_files.Given as goal
 
 abbrev pub invariant-loop-name : goal.invariant-loop-name

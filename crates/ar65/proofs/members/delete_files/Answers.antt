@@ -1,7 +1,7 @@
 use Rattle.std.proofs.Common.{◌∙◌}
 use Rattle.std.proofs.lemmas.Result.{err_from_is_err_and}
-use Rattle.ar65.proofs.Takes.{deleted_more, not_deleted}
-use Rattle.ar65.proofs.Turns.{name_next}
+use Rattle.ar65.proofs.DeletionsAndExtractions.{deleted_more, not_deleted}
+use Rattle.ar65.proofs.LoopSteps.{name_next}
 use Rattle.ar65.proofs.members.delete_files.Goals as goal
 
 pub returns-in_err-delete-clause-deleted : goal.returns-in_err-delete-clause-deleted

@@ -1,7 +1,7 @@
 use Rattle.std.proofs.Common.{sym, subst}
 use Rattle.base65.specs.Outcome.{Refines}
 use Rattle.library65.specs.Fault.{is_memory}
-use Rattle.ar65.proofs.Takes.{some_named}
+use Rattle.ar65.proofs.DeletionsAndExtractions.{some_named}
 use Rattle.ar65.proofs.members.extract_files.Goals as goal
 
 pub returns-clause-found : goal.returns-clause-found

@@ -1,4 +1,4 @@
-use Rattle.ar65.proofs.Begun.{begun_empty, missing_bytes}
+use Rattle.ar65.proofs.MissingLibraries.{begun_empty, missing_bytes}
 use Rattle.ar65.proofs.members.load_or_create.Goals as goal
 
 pub returns-in-Err-FileNotFound-clause-read : goal.returns-in-Err-FileNotFound-clause-read

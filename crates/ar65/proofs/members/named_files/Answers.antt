@@ -1,8 +1,8 @@
 use Rattle.std.proofs.Common.{◌∙◌, ◌+◌, ap, drop, map, sym}
 use Rattle.std.proofs.lemmas.Result.{err_from_is_err_and}
 use Rattle.ar65.specs.Librarian.{file_of, files_of, member_name}
-use Rattle.ar65.proofs.Turns.{ahead, each_one, member_next}
-use Rattle.ar65.proofs.Takes.{file_missing}
+use Rattle.ar65.proofs.LoopSteps.{ahead, each_one, member_next}
+use Rattle.ar65.proofs.DeletionsAndExtractions.{file_missing}
 use Rattle.ar65.proofs.members.named_files.Goals as goal
 
 pub returns-in_err-file_of-clause-found : goal.returns-in_err-file_of-clause-found

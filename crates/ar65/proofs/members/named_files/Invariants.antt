@@ -1,6 +1,6 @@
 use Rattle.std.proofs.Common.{◌≡◌, drop, map}
 use Rattle.ar65.specs.Librarian.{files_of, member_name}
-use Rattle.ar65.proofs.Turns.{ahead}
+use Rattle.ar65.proofs.LoopSteps.{ahead}
 use Rattle.ar65.proofs.members.named_files.Given as goal
 
 abbrev pub invariant-loop-file : goal.invariant-loop-file

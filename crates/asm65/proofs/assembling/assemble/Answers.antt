@@ -1,5 +1,5 @@
 use Rattle.asm65.specs.Assembly.{job_of}
-use Rattle.asm65.proofs.LaidStops.{all_laid}
+use Rattle.asm65.proofs.LayoutFailures.{all_laid}
 use Rattle.asm65.proofs.Outcomes.{as_memory, stops_never_so}
 use Rattle.asm65.proofs.assembling.assemble.Goals as goal
 

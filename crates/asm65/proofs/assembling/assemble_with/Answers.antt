@@ -5,7 +5,7 @@ use Rattle.object65.specs.Objects.{ObjectFits, is_well_formed_object}
 use Rattle.asm65.specs.declared.driver.Run.{Run}
 use Rattle.asm65.specs.Assembly.{job_of}
 use Rattle.asm65.proofs.Outcomes.{AnswersAll, StopsFrom, as_fault, define_answer, first_running, memory_silent, none_passed, not_answered, open_answer, passed_through, run_answer, run_stops, stops_first, stops_never_so}
-use Rattle.asm65.proofs.Refusals.{refused_asked, refused_passed}
+use Rattle.asm65.proofs.ErrorResults.{refused_asked, refused_passed}
 use Rattle.asm65.proofs.assembling.assemble_with.Goals as goal
 
 pub assemble_opened-requires : goal.assemble_opened-requires

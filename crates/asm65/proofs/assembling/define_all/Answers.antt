@@ -3,10 +3,10 @@ use Rattle.std.proofs.lemmas.Result.{err_from_is_err_and}
 use Rattle.sources65.specs.Reading.{Define, no_line}
 use Rattle.asm65.specs.declared.assembling.Define as code
 use Rattle.asm65.specs.Assembly.{define_of}
-use Rattle.asm65.proofs.Defines.{SoFar, left_dropped, none_so_far, one_more, one_wrong}
+use Rattle.asm65.proofs.CommandLineConstants.{SoFar, left_dropped, none_so_far, one_more, one_wrong}
 use Rattle.asm65.proofs.assembling.define_all.Goals as goal
 
--- what stands at no place
+-- the default element for an index outside the list
 none : code.Define
 none = record { name = record { ref_ptr = (0, 0); now = [] }; value = 0 }
 

@@ -7,7 +7,7 @@ use Rattle.asm65.specs.Assembly.{define_of}
 use Rattle.symbols65.specs.Measuring.{opening_limit}
 use Rattle.asm65.specs.Internal.AssemblerState.{Represents}
 use Rattle.semantics65.specs.Views.{location_in}
-use Rattle.asm65.proofs.Defines.{defines_by}
+use Rattle.asm65.proofs.CommandLineConstants.{defines_by}
 use Rattle.asm65.proofs.assembling.define_one.Goals as goal
 
 pub returns-clause-transitions : goal.returns-clause-transitions

@@ -1,6 +1,6 @@
 use Rattle.std.proofs.Common.{◌≡◌, ◌∙◌, false, true, sym}
 use Rattle.asm65.proofs.Outcomes.{failure_outside}
-use Rattle.asm65.proofs.Refusals.{failed_as, first_as, inside_as, outside_as}
+use Rattle.asm65.proofs.ErrorResults.{failed_as, first_as, inside_as, outside_as}
 use Rattle.asm65.proofs.assembling.fail_at_location.Goals as goal
 
 pub returns-then-is_system_error-clause-outside : goal.returns-then-is_system_error-clause-outside

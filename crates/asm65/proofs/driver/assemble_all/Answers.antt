@@ -9,7 +9,7 @@ use Rattle.ast65.specs.Faults.{is_failure}
 use Rattle.ast65.specs.declared.fault.AsmFault.{AsmFault}
 use Rattle.asm65.specs.Internal.RunState.{IsRunning, AssemblesLine}
 use Rattle.asm65.specs.declared.driver.Run.{Run}
-use Rattle.asm65.proofs.Ahead.{line_taken, no_line_taken}
+use Rattle.asm65.proofs.PeekedLines.{line_taken, no_line_taken}
 use Rattle.asm65.proofs.Sources.{Goes, NextBy, all_end, all_further, all_on, all_out, all_refused, all_stop, all_stopped, all_wrong, goes_first, line_running, next_roomy, placed_on, some_all, some_then, still_running, StaysPlaced}
 use Rattle.asm65.proofs.driver.assemble_all.Goals as goal
 

@@ -1,8 +1,8 @@
 use Rattle.std.proofs.Common.{◌≡◌, [], length}
 use Rattle.syntax65.specs.Tokens.{lexemes}
 use Rattle.semantics65.specs.Views.{location_in}
-use Rattle.sources65.proofs.Taken.{some_tokens}
-use Rattle.asm65.proofs.Ahead.{no_tokens, none_after, taken_after}
+use Rattle.sources65.proofs.AssembledStatements.{some_tokens}
+use Rattle.asm65.proofs.PeekedLines.{no_tokens, none_after, taken_after}
 use Rattle.asm65.proofs.Runs.{some_there}
 use Rattle.asm65.proofs.driver.assemble_nonempty_rest.Goals as goal
 

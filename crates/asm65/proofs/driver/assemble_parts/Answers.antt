@@ -5,9 +5,9 @@ use Rattle.syntax65.specs.Tokens.{lexemes}
 use Rattle.semantics65.specs.Numbering.{AreSymbolNames}
 use Rattle.semantics65.specs.Views.{location_in}
 use Rattle.expand65.specs.Failures.{rest_statements, line_statements}
-use Rattle.sources65.proofs.Taken.{some_tokens}
+use Rattle.sources65.proofs.AssembledStatements.{some_tokens}
 use Rattle.asm65.specs.Internal.RunState.{AssemblesStatements}
-use Rattle.asm65.proofs.Ahead.{label_refused, label_taken, no_tokens, only_rest, roomy_after, roomy_less}
+use Rattle.asm65.proofs.PeekedLines.{label_refused, label_taken, no_tokens, only_rest, roomy_after, roomy_less}
 use Rattle.asm65.proofs.Runs.{Answer, LabelBy, some_there}
 use Rattle.asm65.proofs.driver.assemble_parts.Goals as goal
 

@@ -6,13 +6,13 @@ use Rattle.ast65.specs.Faults.{is_system_error}
 use Rattle.semantics65.specs.Numbering.{AreSymbolNames}
 use Rattle.ast65.specs.declared.language.Statement.{Statement}
 use Rattle.ast65.specs.declared.language.Statement.TheVariants.{Instruction}
-use Rattle.symbols65.proofs.Measures.{unless_then}
+use Rattle.symbols65.proofs.StatementLayouts.{unless_then}
 use Rattle.ast65.specs.Parsing.{IsOperand}
 use Rattle.asm65.specs.Internal.RunState.{read_bytes, RefinesAllTransitions}
 use Rattle.semantics65.specs.Views.{location_in}
 use Rattle.sources65.specs.Machine.{StepsTo}
 use Rattle.sources65.specs.Reading.{AssemblesTokens}
-use Rattle.sources65.proofs.Taken.{some_tokens}
+use Rattle.sources65.proofs.AssembledStatements.{some_tokens}
 use Rattle.asm65.specs.Assembly.{AnswersWithoutFile}
 use Rattle.asm65.proofs.Runs.{Answer, RestBy, never_stops, rest_leaves, rest_stops, rest_unread, rest_wrong, some_there, sound_leaves, takes_from, told_all}
 use Rattle.asm65.proofs.driver.assemble_rest.Goals as goal

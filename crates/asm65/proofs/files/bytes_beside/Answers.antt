@@ -27,4 +27,4 @@ returns-in-Err-FileNotFound-clause-read g c =
 pub returns-clause-no_failure : goal.returns-clause-no_failure
 returns-clause-no_failure g c = λ failed.
     read_failed (g.S.Store.files c.args.store.now) (g.S.Store.last_failure c.read_prefix.new.store) (sibling_path c.args.file.now c.args.name.now) c.as_str.result.now (ap Some c.as_str.ensures ∙ sym c.in-Some.is ∙ c.in_ok-name.ensures)
-    (c.in-Err.ensures.inside (search rules))
+    (c.in-Err.ensures.failure_offset (search rules))

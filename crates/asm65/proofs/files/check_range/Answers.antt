@@ -5,7 +5,7 @@ use Rattle.semantics65.specs.Layout.{Cursor, unless_fault}
 use Rattle.semantics65.specs.Symbols.{Symbols}
 use Rattle.symbols65.specs.Views.{table_of}
 use Rattle.symbols65.specs.Measuring.{unread_fault}
-use Rattle.asm65.proofs.Insides.{unread_inside}
+use Rattle.asm65.proofs.NoStoreFailures.{unread_inside}
 use Rattle.asm65.proofs.files.check_range.Goals as goal
 
 pub returns-clause-checked : goal.returns-clause-checked

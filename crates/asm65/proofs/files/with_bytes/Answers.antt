@@ -7,7 +7,7 @@ use Rattle.expand65.specs.Expansion.{sibling_path, file_named}
 use Rattle.semantics65.specs.Views.{location_in}
 use Rattle.asm65.proofs.WholeFiles.{part_read}
 use Rattle.asm65.proofs.Runs.{told_then}
-use Rattle.asm65.proofs.Takings.{failed_unread, refused_unread}
+use Rattle.asm65.proofs.StatementSteps.{failed_unread, refused_unread}
 use Rattle.asm65.proofs.files.with_bytes.Goals as goal
 
 pub returns-in_err-check_range-in-IncbinPath-clause-refused : goal.returns-in_err-check_range-in-IncbinPath-clause-refused

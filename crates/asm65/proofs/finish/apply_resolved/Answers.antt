@@ -2,7 +2,7 @@ use Rattle.std.proofs.Common.{subst, Option}
 use Rattle.std.specs.Prelude.{IfSome}
 use Rattle.emit65.specs.declared.entries.SectionEntry.{SectionEntry}
 use Rattle.asm65.specs.Internal.RunState.{HasLocation, fixup_files}
-use Rattle.asm65.proofs.Conclusions.{replaced}
+use Rattle.asm65.proofs.SlotResolution.{replaced}
 use Rattle.asm65.proofs.finish.apply_resolved.Goals as goal
 
 pub returns-in-Some-entry-clause-entry : goal.returns-in-Some-entry-clause-entry

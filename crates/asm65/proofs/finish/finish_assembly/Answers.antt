@@ -10,7 +10,7 @@ use Rattle.symbols65.specs.Views.{table_of}
 use Rattle.asm65.specs.Internal.AssemblerState.{Represents}
 use Rattle.asm65.specs.Internal.RunState.{RefinesObject}
 use Rattle.asm65.specs.declared.assembler.Assembler.{Assembler}
-use Rattle.asm65.proofs.Conclusions.{comes_concluded, comes_good}
+use Rattle.asm65.proofs.SlotResolution.{comes_concluded, comes_good}
 use Rattle.asm65.proofs.finish.finish_assembly.Goals as goal
 
 pub returns-clause-concluded : goal.returns-clause-concluded

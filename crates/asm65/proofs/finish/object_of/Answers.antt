@@ -8,7 +8,7 @@ use Rattle.emit65.specs.SectionContents.{RepresentsSlots, contents_so_far, names
 use Rattle.emit65.specs.declared.sections.ClosedSections.{ClosedSections}
 use Rattle.symbols65.specs.Views.{table_of}
 use Rattle.asm65.specs.Internal.RunState.{AreInitialEntries, ResolvesSlots}
-use Rattle.asm65.proofs.Conclusions.{fault_come, fed_closed, object_come}
+use Rattle.asm65.proofs.SlotResolution.{fault_come, fed_closed, object_come}
 use Rattle.asm65.proofs.finish.object_of.Goals as goal
 
 pub returns-in_err-resolve_entries-clause-found : goal.returns-in_err-resolve_entries-clause-found

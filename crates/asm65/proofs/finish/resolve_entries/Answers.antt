@@ -6,7 +6,7 @@ use Rattle.symbols65.specs.Views.{table_of}
 use Rattle.emit65.specs.declared.entries.SectionEntry.{SectionEntry}
 use Rattle.emit65.specs.SectionContents.{slot_of}
 use Rattle.asm65.specs.Internal.RunState.{AreInitialEntries}
-use Rattle.asm65.proofs.Conclusions.{SoFar, begins, ends, goes_on, stops}
+use Rattle.asm65.proofs.SlotResolution.{SoFar, begins, ends, goes_on, stops}
 use Rattle.asm65.proofs.finish.resolve_entries.Goals as goal
 
 pub loop-entry-init : goal.loop-entry-init

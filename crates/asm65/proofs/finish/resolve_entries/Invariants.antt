@@ -2,7 +2,7 @@ use Rattle.std.proofs.Common.{List, ℕ, drop, map, string_bytes, take, Global}
 use Rattle.symbols65.specs.Views.{table_of}
 use Rattle.emit65.specs.SectionContents.{slot_of}
 use Rattle.asm65.specs.Internal.RunState.{AreInitialEntries, IsResolveState}
-use Rattle.asm65.proofs.Conclusions.{SoFar}
+use Rattle.asm65.proofs.SlotResolution.{SoFar}
 use Rattle.asm65.proofs.finish.resolve_entries.Given as goal
 
 abbrev pub invariant-loop-entry : goal.invariant-loop-entry

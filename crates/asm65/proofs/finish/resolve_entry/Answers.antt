@@ -1,7 +1,7 @@
 use Rattle.std.proofs.Common.{List, ℕ, [], ◌∷◌, map, string_bytes, Global}
 use Rattle.symbols65.specs.Views.{table_of}
 use Rattle.asm65.specs.Internal.RunState.{AreInitialEntries}
-use Rattle.asm65.proofs.Conclusions.{known_settled}
+use Rattle.asm65.proofs.SlotResolution.{known_settled}
 use Rattle.asm65.proofs.finish.resolve_entry.Goals as goal
 
 pub returns-in_default : goal.returns-in_default

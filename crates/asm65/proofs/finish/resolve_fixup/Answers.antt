@@ -11,8 +11,8 @@ use Rattle.asm65.specs.Assembly.{is_diagnostic_system_error}
 use Rattle.asm65.specs.Internal.RunState.{IsFaultySlot, result_of_piece}
 use Rattle.asm65.specs.declared.resolving.ResolvedPiece.{ResolvedPiece as CodeMade}
 use Rattle.asm65.specs.declared.resolving.FixupLocation.{FixupLocation}
-use Rattle.asm65.proofs.Insides.{resolved_inside}
-use Rattle.asm65.proofs.Conclusions.{found_inside, no_more, stands_there, unless}
+use Rattle.asm65.proofs.NoStoreFailures.{resolved_inside}
+use Rattle.asm65.proofs.SlotResolution.{found_inside, no_more, stands_there, unless}
 use Rattle.asm65.proofs.finish.resolve_fixup.Goals as goal
 
 pub returns-in-Ok-apply_resolved-clause-resolved : goal.returns-in-Ok-apply_resolved-clause-resolved

@@ -26,7 +26,7 @@ all_kept ws bs ts h =
 nothing_kept : AreKept [] [] []
 nothing_kept ws bs = refl
 
--- a word more is kept, and the bytes up to its end
+-- one further token is stored, and the bytes up to its end
 more_kept : (spans : List StoredToken) (pending : List ℕ) (ts : List Lexeme) (w : StoredToken) (t : Token) (blanks : List ℕ) → w.kind ≡ t.kind → w.blanks ≡ length blanks → w.len ≡ length t.text.now → AreKept spans pending ts → AreKept (spans ++ w ∷ []) (pending ++ (blanks ++ t.text.now)) (ts ++ lexeme_of t ∷ [])
 more_kept spans pending ts w t blanks kind apart len h = λ ws bs.
     let text = t.text.now in

@@ -24,7 +24,7 @@ pub returns-then-not-is_comma_at : goal.returns-then-not-is_comma_at
 returns-then-not-is_comma_at c =
     let ts = lexemes c.args.tokens.now in
     let some = sym c.name_at.ensures.name ∙ ap (option_map (λ s. s.now)) c.in-Some.is in
-    let inside : c.names.at < length c.args.tokens.now = c.in-Some.ensures.inside refl in
+    let inside : c.names.at < length c.args.tokens.now = c.in-Some.ensures.in_bounds refl in
     let more : c.names.at + 1 < length ts = omega (arith, length-map c.args.tokens.now lexeme_of, c.if-at-tokens.false, inside) in
     found_none (names_from true ts) (names_from true (drop c.names.at ts)) (map (λ s. s.now) c.names.names.items) c.names.invariant (name_alone ts c.names.at c.in-Some.name.now some more (sym c.is_comma_at.ensures.comma ∙ c.if-not-is_comma_at.true))
 

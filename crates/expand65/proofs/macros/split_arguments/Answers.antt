@@ -9,7 +9,7 @@ use Rattle.expand65.specs.declared.line.StoredLine.{StoredLine}
 use Rattle.expand65.proofs.Names.{parts_end, parts_more}
 use Rattle.expand65.proofs.macros.split_arguments.Goals as goal
 
--- what is left behind so many tokens more
+-- the tokens after `n` further tokens
 further : (ts : List Token) (at n : ℕ) → drop n (lexemes (drop at ts)) ≡ lexemes (drop (at + n) ts)
 further ts at n = drop-map lexeme_of n (drop at ts) ∙ ap lexemes (drop-drop n at ts)
 

@@ -8,7 +8,7 @@ use Rattle.library65.proofs.FailedRequests.{count_failed, fault_of, symbol_faile
 use Rattle.library65.proofs.Steps.{Reading, begins, counted_begins, fails, goes_on, kept_count, stops, symbols_more}
 use Rattle.library65.proofs.indexing.read_symbols.Goals as goal
 
--- the names after one name of a list, if it is valid for a symbol
+-- the names after a name that was read, which is rejected if it isn't valid for a symbol
 abbrev go_on : ℕ → ℕ → List (List ℕ) → List ℕ × ℕ → Reading (List (List ℕ) × ℕ)
 go_on n i names s bytes = if is_name s.0 then symbols_at (n - (i + 1)) (names ++ s.0 ∷ []) s.1 bytes else Err BadIndex
 

@@ -5,8 +5,8 @@ use Rattle.library65.specs.Spelling.{are_member_names, Member}
 use Rattle.library65.proofs.Edits.{checked_good, insert_stored, inserted, with_good}
 use Rattle.library65.proofs.library.insert_member.Goals as goal
 
-pub returns-clause-put : goal.returns-clause-put
-returns-clause-put c = ap (map member_of) c.in_ok-insert.ensures.entries ∙ inserted c.args.members.now.entries c.args.name c.args.stored
+pub returns-clause-inserted : goal.returns-clause-inserted
+returns-clause-inserted c = ap (map member_of) c.in_ok-insert.ensures.entries ∙ inserted c.args.members.now.entries c.args.name c.args.stored
 
 pub returns-clause-sound : goal.returns-clause-sound
 returns-clause-sound c =

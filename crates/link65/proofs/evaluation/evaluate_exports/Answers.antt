@@ -9,7 +9,7 @@ use Rattle.link65.proofs.EvaluationSteps.{get_or_some}
 use Rattle.link65.proofs.evaluation.evaluate_exports.Goals as goal
 use Rattle.link65.proofs.evaluation.evaluate_exports.Goals.{in-Untouched+in_ok-evaluate_export, in_default}
 
--- as many marks in place of others
+-- a list of `n` states replaces one of the same length
 all_new : (old new : List ExportState) (n : ℕ) → n ≡ length old → length new ≡ length old → take n (new ++ drop (length new) old) ≡ new
 all_new old new n all same = grind (arith, common_steps, drop_all, append-nil)
 

@@ -25,7 +25,7 @@ returns-in_err-check_names-clause-placed c = λ is.
     let program = program_in c.args.program.now in
     rw (p.1, p.2) (refused-then is_memory c.in_err-check_names.field-0.0 (check_imports_defined s program) (λ u. as_placement (place_of s (needs_of program))) (c.in_err-check_names.ensures.provided program is (sym c.as_slice.ensures)))
 
--- if names are defined, the placement is this
+-- if the imported names are defined, the placement of the needs is `placement_result`
 placed_so : (s : Script) (p : Program) (needs : List SegmentNeed) → check_imports_defined s p ≡ Ok tt → needs ≡ needs_of p → as_placement (place_of s needs) ≡ placement_result s p
 placed_so s p needs provided same = ap (λ ns. as_placement (place_of s ns)) same ∙ sym (ap (λ (r : Result (Unit {0}) LinkFault). r >>= (λ u. as_placement (place_of s (needs_of p)))) provided)
 

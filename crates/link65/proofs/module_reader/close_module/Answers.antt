@@ -58,7 +58,7 @@ again_fault : (o : Option (List ℕ)) (names : List (List ℕ)) (e : LinkFault) 
 again_fault None names e h = absurd cc
 again_fault (Some name) names e h = let same : DuplicateExport name ≡ e = cc in sym (ap is_end_fault same)
 
--- a name defined again is an error of the end
+-- an error of adding the exports' names is *out of memory* or an error of the module's end
 given_again : (names before : List (List ℕ)) (e : LinkFault) → RefinesErr is_memory e (with_new_names before names) → (is_memory e || is_end_fault e) ≡ true
 given_again names before e h = go (is_memory e) h
   where

@@ -23,7 +23,7 @@ returns-in_err-located_value-clause-checked c =
     let refused = refused-then is_memory c.in_err-located_value.field-0.0 (located_value (module_location program.members.now e.owner e.origin) (value_of_form (linkage_in program) (exports_in program) e.owner e.form)) (λ v. Ok tt) c.in_err-located_value.ensures in
     rw (p.1, p.2) (passes_stops check all c.loop-export.export-index e (check_each check all) c.in_err-located_value.field-0.0 c.loop-export-test.true c.export-item.is c.loop-export.invariant.checked refused)
 
--- a value that was found is the form's
+-- a value that was found is the value of the result
 is_value : (s : ModuleLocation) (r : Result ℤ ValueFault) (v : ℤ) → located_value s r ≡ Ok v → v ≡ or_zero r
 is_value s x v e = grind (arith, common_steps)
 

@@ -11,7 +11,7 @@ use Rattle.link65.specs.Values.{value_of_form}
 use Rattle.link65.proofs.FinishLemmas.{value_found}
 use Rattle.link65.proofs.values.located_value.Goals as goal
 
--- what an attempt answered is what the form comes to
+-- the result of a form is the final result of its attempt
 came : (p : PlacedProgram) (m : Option ModuleBindings) (owner : ℕ) (form : Form) (r : Result ℤ EvalBlocked) → AllFound p.states.now → m ≡ slice_get p.modules.now owner → r ≡ form_attempt m p.states.now form → value_of_form (linkage_in p) (exports_in p) owner form ≡ final_result r
 came p m owner form r found at e =
     sym (value_found (linkage_in p) p.states.now found owner form) ∙ ap (λ (o : Option ModuleBindings). final_result (form_attempt o p.states.now form)) (sym at) ∙ ap final_result (sym e)

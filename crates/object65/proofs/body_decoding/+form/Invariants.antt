@@ -1,7 +1,7 @@
 use Rattle.std.proofs.Common.{◌*◌, ◌+◌}
 use Rattle.object65.proofs.body_decoding.+form.Given as goal
 
--- an operation stands above its parts, and below the form of its code
+-- the measure of `read_operation` is between the measures of `read_form` and `read_after` at the same depth
 abbrev pub decreases-read_form : goal.decreases-read_form
 decreases-read_form l = 3 * l.depth
 

@@ -4,14 +4,14 @@ use Rattle.script65.specs.declared.placement.Placement.{Placement}
 use Rattle.script65.proofs.PlacementCorrectness.{placed_so}
 use Rattle.script65.proofs.placing.place.Goals as goal
 
-pub returns-in_err-check_rows-clause-stands : goal.returns-in_err-check_rows-clause-stands
-returns-in_err-check_rows-clause-stands c = placed_so c.args.script.now c.args.needs.now c.from_residual.result (search rules)
+pub returns-in_err-check_rows-clause-placement : goal.returns-in_err-check_rows-clause-placement
+returns-in_err-check_rows-clause-placement c = placed_so c.args.script.now c.args.needs.now c.from_residual.result (search rules)
 
-pub returns-in_err-areas-clause-stands : goal.returns-in_err-areas-clause-stands
-returns-in_err-areas-clause-stands c = placed_so c.args.script.now c.args.needs.now c.from_residual-in_err-areas.result (search rules)
+pub returns-in_err-areas-clause-placement : goal.returns-in_err-areas-clause-placement
+returns-in_err-areas-clause-placement c = placed_so c.args.script.now c.args.needs.now c.from_residual-in_err-areas.result (search rules)
 
-pub returns-clause-stands : goal.returns-clause-stands
-returns-clause-stands c =
+pub returns-clause-placement : goal.returns-clause-placement
+returns-clause-placement c =
     let p : Placement = record { areas = c.in_ok-areas.areas; rows = c.in_ok-row_placements.field-0 } in
     placed_so c.args.script.now c.args.needs.now (Ok p) (grind (arith, common_steps))
 

@@ -1,4 +1,4 @@
-use Rattle.sources65.proofs.Passes.{laid_runs}
+use Rattle.sources65.proofs.TwoPasses.{laid_runs}
 use Rattle.sources65.proofs.laws.layout_is_reachable.Goals as goal
 
 pub returns : goal.returns

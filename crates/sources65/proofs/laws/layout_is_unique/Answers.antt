@@ -1,4 +1,4 @@
-use Rattle.sources65.proofs.OneLayouts.{one_layout}
+use Rattle.sources65.proofs.LayoutUniqueness.{one_layout}
 use Rattle.sources65.proofs.laws.layout_is_unique.Goals as goal
 
 pub returns : goal.returns

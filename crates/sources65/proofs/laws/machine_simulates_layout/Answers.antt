@@ -1,4 +1,4 @@
-use Rattle.sources65.proofs.Passes.{runs_laid}
+use Rattle.sources65.proofs.TwoPasses.{runs_laid}
 use Rattle.sources65.proofs.laws.machine_simulates_layout.Goals as goal
 
 pub returns : goal.returns

@@ -1,4 +1,4 @@
-use Rattle.sources65.proofs.Passes.{one_pass}
+use Rattle.sources65.proofs.TwoPasses.{one_pass}
 use Rattle.sources65.proofs.laws.one_pass_suffices.Goals as goal
 
 pub returns : goal.returns

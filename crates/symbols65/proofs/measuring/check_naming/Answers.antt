@@ -9,7 +9,7 @@ use Rattle.semantics65.specs.Symbols.{Symbols, key_defined}
 use Rattle.semantics65.specs.Layout.{context_of, defined_twice, is_not_global, missing_scopes_fault, opened_twice, or_then, scope_name, is_global_only, trees_of, fault_if}
 use Rattle.symbols65.specs.Measuring.{ChecksStatement, naming_fault}
 use Rattle.symbols65.specs.Views.{table_of}
-use Rattle.symbols65.proofs.Measures.{checked_next, refused_first}
+use Rattle.symbols65.proofs.StatementLayouts.{checked_next, refused_first}
 use Rattle.symbols65.proofs.measuring.check_naming.Goals as goal
 
 abbrev outside : Context → Statement → Option AsmFault

@@ -11,10 +11,10 @@ use Rattle.symbols65.specs.Evaluations.{IsEvaluated}
 use Rattle.symbols65.specs.Measuring.{naming_fault}
 use Rattle.symbols65.specs.Views.{table_of}
 use Rattle.symbols65.proofs.Evaluations.{operand_trees_are}
-use Rattle.symbols65.proofs.Measures.{last_of_two, measured_named, measured_refused, refused_same, room_of}
+use Rattle.symbols65.proofs.StatementLayouts.{last_of_two, measured_named, measured_refused, refused_same, room_of}
 use Rattle.symbols65.proofs.measuring.lay_out_instruction.Goals as goal
 
--- an instruction's names are refused for lost scopes alone
+-- the only possible error in the names of an instruction is a missing scope
 naming_is : (y : Symbols) (w : Cursor) (m : Mnemonic) (operand : Operand) (o : Option Tree) → o ≡ operand_tree operand →
     unless_fault {A = Unit {0}} (naming_fault y (context_of w) (Instruction m operand)) tt ≡ unless_fault {A = Unit {0}} (missing_scopes_fault y.scopes (context_of w).scope (optional_tree o)) tt
 naming_is y w m operand o same =

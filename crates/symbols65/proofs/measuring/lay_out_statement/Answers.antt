@@ -3,7 +3,7 @@ use Rattle.std.proofs.lemmas.Result.{err_from_is_err_and}
 use Rattle.semantics65.specs.Layout.{context_of, own_size}
 use Rattle.symbols65.specs.Evaluations.{first_tree}
 use Rattle.symbols65.specs.Views.{table_of}
-use Rattle.symbols65.proofs.Measures.{measured_named, measured_refused, refused_same, room_of}
+use Rattle.symbols65.proofs.StatementLayouts.{measured_named, measured_refused, refused_same, room_of}
 use Rattle.symbols65.proofs.measuring.lay_out_statement.Goals as goal
 
 pub returns-in_err-found-clause-measured : goal.returns-in_err-found-clause-measured

@@ -1,7 +1,7 @@
 use Rattle.std.proofs.Common.{sym, ap, ◌∙◌, map, add-one, arith, drop, suc}
 use Rattle.semantics65.specs.Symbols.{with_new_names}
 use Rattle.ast65.proofs.Lists.{drop_item}
-use Rattle.symbols65.proofs.Words.{insert_name, with_one}
+use Rattle.symbols65.proofs.InternedNames.{insert_name, with_one}
 use Rattle.symbols65.proofs.table.add_names.Goals as goal
 
 pub loop-name-preserved : goal.loop-name-preserved

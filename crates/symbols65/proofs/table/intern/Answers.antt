@@ -1,7 +1,7 @@
 use Rattle.std.proofs.Common.{Some, map, position, sym, ap, subst, ◌∙◌}
 use Rattle.std.specs.Str.{bytes_eq}
 use Rattle.symbols65.specs.Tables.{IsPrefixOf}
-use Rattle.symbols65.proofs.Words.{insert_name, number_mapped, one_begins, one_found, with_one}
+use Rattle.symbols65.proofs.InternedNames.{insert_name, number_mapped, one_begins, one_found, with_one}
 use Rattle.symbols65.proofs.table.intern.Goals as goal
 
 pub returns-clause-more : goal.returns-clause-more

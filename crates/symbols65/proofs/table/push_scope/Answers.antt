@@ -3,7 +3,7 @@ use Rattle.symbols65.specs.contracts.table.symbols.ScopeKeyPartialEq.TheImpl.{eq
 use Rattle.symbols65.specs.declared.table.symbols.ScopeKey.{ScopeKey}
 use Rattle.symbols65.specs.declared.table.symbols.ScopeKey.TheVariants as opening
 use Rattle.symbols65.specs.Tables.{same_scope_key}
-use Rattle.symbols65.proofs.Growing.{inserted_by}
+use Rattle.symbols65.proofs.TableGrowth.{inserted_by}
 use Rattle.symbols65.proofs.table.push_scope.Goals as goal
 
 agree : (x y : ScopeKey) → eq-value.it x y ≡ same_scope_key x y

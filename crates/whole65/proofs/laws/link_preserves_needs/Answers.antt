@@ -1,4 +1,4 @@
-use Rattle.whole65.proofs.Needs.{same_needs}
+use Rattle.whole65.proofs.SegmentNeeds.{same_needs}
 use Rattle.whole65.proofs.laws.link_preserves_needs.Goals as goal
 
 pub returns : goal.returns

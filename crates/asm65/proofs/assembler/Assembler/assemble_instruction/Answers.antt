@@ -2,11 +2,11 @@ use Rattle.ast65.specs.Faults.{is_system_error}
 use Rattle.ast65.specs.declared.language.Statement.{Statement}
 use Rattle.ast65.specs.declared.language.Statement.TheVariants.{Instruction}
 use Rattle.semantics65.specs.Views.{location_in}
-use Rattle.symbols65.proofs.Measures.{unless_then}
-use Rattle.asm65.proofs.Namings.{adds_pieces, nothing_follows}
+use Rattle.symbols65.proofs.StatementLayouts.{unless_then}
+use Rattle.asm65.proofs.SymbolUpdates.{adds_pieces, nothing_follows}
 use Rattle.asm65.specs.declared.assembler.Assembler.{Assembler}
 use Rattle.asm65.specs.Internal.AssemblerState.{Represents}
-use Rattle.asm65.proofs.Takings.{represents_searched, takes_entered, takes_refused}
+use Rattle.asm65.proofs.StatementSteps.{represents_searched, takes_entered, takes_refused}
 use Rattle.asm65.proofs.assembler.Assembler.assemble_instruction.Goals as goal
 
 pub lay_out_next_instruction-requires : goal.lay_out_next_instruction-requires

@@ -13,14 +13,14 @@ use Rattle.semantics65.specs.Symbols.{Symbols}
 use Rattle.symbols65.specs.Evaluations.{HasFinal}
 use Rattle.symbols65.proofs.Finals.{within_final}
 use Rattle.symbols65.specs.Views.{table_of}
-use Rattle.symbols65.proofs.Measures.{ok_then}
+use Rattle.symbols65.proofs.StatementLayouts.{ok_then}
 use Rattle.asm65.specs.declared.assembler.Assembler.{Assembler}
 use Rattle.asm65.specs.Internal.AssemblerState.{EmitsPieces}
-use Rattle.asm65.proofs.Enterings.{fed_enters, says_nothing}
-use Rattle.asm65.proofs.Waitings.{waits_enters}
+use Rattle.asm65.proofs.PieceEmission.{fed_enters, says_nothing}
+use Rattle.asm65.proofs.DeferredPieces.{waits_enters}
 use Rattle.asm65.proofs.assembler.Assembler.defer_constant.Goals as goal
 
--- a form that is held is final
+-- if a form was found, it is final
 final_there : (y : Symbols) (s : Context) (e : Tree) (o : Option Form) → is_some o ≡ true → HasFinal y s (Some e) o → (f : Form) × IsFinal y s e f
 final_there y s e None q h = absurd cc
 final_there y s e (Some f) q h = (f, within_final y s e f h)

@@ -7,7 +7,7 @@ use Rattle.semantics65.specs.Module as piece
 use Rattle.emit65.specs.SectionContents.{piece_of}
 use Rattle.asm65.specs.declared.assembler.Assembler.{Assembler}
 use Rattle.asm65.specs.Internal.AssemblerState.{Represents, with_fixups, name_use_piece}
-use Rattle.asm65.proofs.Namings.{all_taken, keeps_both, one_more_awaiting, taken_more}
+use Rattle.asm65.proofs.SymbolUpdates.{all_taken, keeps_both, one_more_awaiting, taken_more}
 use Rattle.asm65.proofs.assembler.Assembler.defer_names.Goals as goal
 
 pub loop-name-preserved : goal.loop-name-preserved

@@ -12,7 +12,7 @@ use Rattle.symbols65.specs.Resolving.{IsBlocked, IsFinalWithin}
 use Rattle.symbols65.specs.declared.table.symbols.Symbols as held
 use Rattle.symbols65.specs.Views.{table_of, with_definition}
 use Rattle.asm65.specs.declared.assembler.Assembler.{Assembler}
-use Rattle.asm65.proofs.Namings.{where_ok, turns_after}
+use Rattle.asm65.proofs.SymbolUpdates.{where_ok, turns_after}
 use Rattle.asm65.proofs.assembler.Assembler.define_constant.Goals as goal
 
 held_final : (y : Symbols) (s : Context) (e : Tree) (o : Option Form) (f : Form) → o ≡ Some f → HasFinal y s (Some e) o → IsFinalWithin (length y.definitions) y s e f

@@ -2,8 +2,8 @@ use Rattle.std.proofs.Common.{[], ◌∙◌, ap}
 use Rattle.symbols65.specs.Tables.{key_of}
 use Rattle.symbols65.specs.Views.{table_of, with_definition}
 use Rattle.asm65.specs.Internal.AssemblerState.{label_definition}
-use Rattle.asm65.proofs.Enterings.{enters_none}
-use Rattle.asm65.proofs.Namings.{where_ok, turns_after}
+use Rattle.asm65.proofs.PieceEmission.{enters_none}
+use Rattle.asm65.proofs.SymbolUpdates.{where_ok, turns_after}
 use Rattle.asm65.proofs.assembler.Assembler.define_label.Goals as goal
 
 pub returns : goal.returns

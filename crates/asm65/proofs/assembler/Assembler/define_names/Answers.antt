@@ -4,7 +4,7 @@ use Rattle.ast65.specs.declared.language.Statement.{Statement}
 use Rattle.ast65.specs.declared.language.Statement.TheVariants as statement
 use Rattle.semantics65.specs.Views.{location_in}
 use Rattle.semantics65.specs.Module.{exported}
-use Rattle.asm65.proofs.Namings.{mentions_enter, adds_nothing, adds_cheap, adds_constant, adds_forced, adds_globals, adds_imports, adds_label, adds_pieces, adds_proc, adds_scope, adds_unnamed, nothing_follows, taken_as}
+use Rattle.asm65.proofs.SymbolUpdates.{mentions_enter, adds_nothing, adds_cheap, adds_constant, adds_forced, adds_globals, adds_imports, adds_label, adds_pieces, adds_proc, adds_scope, adds_unnamed, nothing_follows, taken_as}
 use Rattle.asm65.proofs.assembler.Assembler.define_names.Goals as goal
 
 pub returns-in-Label : goal.returns-in-Label

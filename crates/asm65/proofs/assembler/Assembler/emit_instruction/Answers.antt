@@ -5,8 +5,8 @@ use Rattle.semantics65.specs.Norms.{width_of}
 use Rattle.semantics65.specs.Views.{location_in}
 use Rattle.semantics65.specs.Module.{known_part, operand_pieces}
 use Rattle.asm65.specs.Internal.AssemblerState.{EmitsPieces}
-use Rattle.asm65.proofs.Enterings.{enters_both}
-use Rattle.symbols65.proofs.Measures.{ok_then}
+use Rattle.asm65.proofs.PieceEmission.{enters_both}
+use Rattle.symbols65.proofs.StatementLayouts.{ok_then}
 use Rattle.asm65.proofs.assembler.Assembler.emit_instruction.Goals as goal
 
 pub returns : goal.returns

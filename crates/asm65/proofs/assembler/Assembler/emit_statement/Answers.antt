@@ -5,9 +5,9 @@ use Rattle.semantics65.specs.Views.{location_in}
 use Rattle.semantics65.specs.Module.{asserted, expression_value}
 use Rattle.symbols65.specs.Evaluations.{HasFinal, first_tree}
 use Rattle.symbols65.specs.Views.{table_of}
-use Rattle.symbols65.proofs.Measures.{ok_then}
-use Rattle.asm65.proofs.Enterings.{emitted_at_once, tried_waits}
-use Rattle.asm65.proofs.Namings.{adds_pieces, nothing_follows, puts_nothing, taken_as}
+use Rattle.symbols65.proofs.StatementLayouts.{ok_then}
+use Rattle.asm65.proofs.PieceEmission.{emitted_at_once, tried_waits}
+use Rattle.asm65.proofs.SymbolUpdates.{adds_pieces, nothing_follows, puts_nothing, taken_as}
 use Rattle.asm65.proofs.assembler.Assembler.emit_statement.Goals as goal
 
 pub returns-in-Instruction : goal.returns-in-Instruction

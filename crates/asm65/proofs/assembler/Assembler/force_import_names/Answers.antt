@@ -3,8 +3,8 @@ use Rattle.std.specs.Prelude.{false}
 use Rattle.semantics65.specs.Views.{location_in}
 use Rattle.semantics65.specs.Module.{Piece, forced_import, imported}
 use Rattle.symbols65.specs.Views.{with_names}
-use Rattle.asm65.proofs.Enterings.{enters_both}
-use Rattle.asm65.proofs.Namings.{mentions_enter, where_ok, turns_after}
+use Rattle.asm65.proofs.PieceEmission.{enters_both}
+use Rattle.asm65.proofs.SymbolUpdates.{mentions_enter, where_ok, turns_after}
 use Rattle.asm65.proofs.assembler.Assembler.force_import_names.Goals as goal
 
 pub returns : goal.returns

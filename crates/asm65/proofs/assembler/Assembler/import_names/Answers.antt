@@ -2,7 +2,7 @@ use Rattle.std.proofs.Common.{◌∙◌, ap, map}
 use Rattle.semantics65.specs.Views.{location_in}
 use Rattle.symbols65.specs.Views.{table_of, with_names}
 use Rattle.asm65.specs.Internal.AssemblerState.{is_for_zero_page, name_use_piece}
-use Rattle.asm65.proofs.Namings.{mentions_enter, where_ok, turns_after}
+use Rattle.asm65.proofs.SymbolUpdates.{mentions_enter, where_ok, turns_after}
 use Rattle.asm65.proofs.assembler.Assembler.import_names.Goals as goal
 
 pub returns : goal.returns

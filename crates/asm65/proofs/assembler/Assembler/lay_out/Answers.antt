@@ -12,13 +12,13 @@ use Rattle.semantics65.specs.Views.{location_in}
 use Rattle.symbols65.specs.Measuring.{cursor_with_bytes, HasSpareCounts}
 use Rattle.symbols65.specs.declared.measuring.StatementLayout.{StatementLayout}
 use Rattle.symbols65.specs.declared.measuring.Analysis.{Analysis}
-use Rattle.symbols65.proofs.Following.{has_numbers, without_fault}
+use Rattle.symbols65.proofs.NextCursors.{has_numbers, without_fault}
 use Rattle.symbols65.specs.Views.{table_of}
 use Rattle.asm65.specs.declared.assembler.Assembler.{Assembler}
 use Rattle.asm65.specs.Internal.AssemblerState.{AreNumberedBelow, Represents, IsNew, with_requested_section}
-use Rattle.asm65.proofs.Insides.{measured_inside}
-use Rattle.asm65.proofs.Placings.{more_counted, moved_after, placed_is, refused_is}
-use Rattle.asm65.proofs.Takings.{holds_stepped, is_new}
+use Rattle.asm65.proofs.NoStoreFailures.{measured_inside}
+use Rattle.asm65.proofs.StatementLayouts.{more_counted, moved_after, placed_is, refused_is}
+use Rattle.asm65.proofs.StatementSteps.{holds_stepped, is_new}
 use Rattle.asm65.proofs.assembler.Assembler.lay_out.Goals as goal
 
 pub advance-requires-clause-numbers : goal.advance-requires-clause-numbers

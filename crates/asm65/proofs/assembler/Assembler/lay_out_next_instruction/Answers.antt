@@ -13,15 +13,15 @@ use Rattle.semantics65.specs.Symbols.{Symbols}
 use Rattle.symbols65.specs.Measuring.{cursor_with_bytes}
 use Rattle.symbols65.specs.declared.measuring.StatementLayout.{StatementLayout}
 use Rattle.symbols65.specs.declared.measuring.Analysis.{Analysis}
-use Rattle.symbols65.proofs.Following.{is_measured}
+use Rattle.symbols65.proofs.NextCursors.{is_measured}
 use Rattle.sources65.specs.Machine.{with_content}
 use Rattle.symbols65.specs.Views.{table_of}
 use Rattle.asm65.specs.declared.assembler.Assembler.{Assembler}
 use Rattle.asm65.specs.Internal.AssemblerState.{Represents, with_requested_section}
-use Rattle.asm65.proofs.Insides.{measured_inside}
-use Rattle.asm65.proofs.Placings.{more_counted, moved_after, placed_is, refused_is}
-use Rattle.asm65.proofs.Takings.{holds_stepped}
-use Rattle.asm65.proofs.Waitings.{holds_entered}
+use Rattle.asm65.proofs.NoStoreFailures.{measured_inside}
+use Rattle.asm65.proofs.StatementLayouts.{more_counted, moved_after, placed_is, refused_is}
+use Rattle.asm65.proofs.StatementSteps.{holds_stepped}
+use Rattle.asm65.proofs.DeferredPieces.{holds_entered}
 use Rattle.asm65.proofs.assembler.Assembler.lay_out_next_instruction.Goals as goal
 
 pub returns-clause-placed : goal.returns-clause-placed

@@ -3,8 +3,8 @@ use Rattle.std.specs.Prelude.{false}
 use Rattle.std.specs.Option.{option_map}
 use Rattle.semantics65.specs.Symbols.{Scope}
 use Rattle.symbols65.specs.Views.{with_scope}
-use Rattle.asm65.proofs.Enterings.{enters_none}
-use Rattle.asm65.proofs.Namings.{where_ok, turns_after}
+use Rattle.asm65.proofs.PieceEmission.{enters_none}
+use Rattle.asm65.proofs.SymbolUpdates.{where_ok, turns_after}
 use Rattle.asm65.proofs.assembler.Assembler.open_block.Goals as goal
 
 pub returns : goal.returns

@@ -4,7 +4,7 @@ use Rattle.semantics65.specs.Symbols.{Definition, Scope, Symbols, named}
 use Rattle.symbols65.specs.Views.{table_of, with_definition, with_scope}
 use Rattle.asm65.specs.declared.assembler.Assembler.{Assembler}
 use Rattle.asm65.specs.Internal.AssemblerState.{label_definition}
-use Rattle.asm65.proofs.Namings.{holds_grown, where_ok}
+use Rattle.asm65.proofs.SymbolUpdates.{holds_grown, where_ok}
 use Rattle.asm65.proofs.assembler.Assembler.open_proc.Goals as goal
 
 pub returns : goal.returns

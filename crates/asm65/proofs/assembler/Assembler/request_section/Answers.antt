@@ -5,7 +5,7 @@ use Rattle.semantics65.specs.Symbols.{needs_section}
 use Rattle.sources65.specs.Machine.{with_content}
 use Rattle.asm65.specs.declared.assembler.Assembler.{Assembler}
 use Rattle.asm65.specs.Internal.AssemblerState.{Represents}
-use Rattle.asm65.proofs.Waitings.{holds_entered}
+use Rattle.asm65.proofs.DeferredPieces.{holds_entered}
 use Rattle.asm65.proofs.assembler.Assembler.request_section.Goals as goal
 
 pub returns-in_ok-request_section-clause-requested : goal.returns-in_ok-request_section-clause-requested

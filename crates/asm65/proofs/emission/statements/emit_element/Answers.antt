@@ -2,8 +2,8 @@ use Rattle.std.proofs.Common.{[]}
 use Rattle.base65.specs.declared.action.Action.TheVariants as action
 use Rattle.semantics65.specs.Views.{location_in}
 use Rattle.semantics65.specs.Module.{datum, expression_value}
-use Rattle.asm65.proofs.Enterings.{emitted_at_once, tried_waits}
-use Rattle.symbols65.proofs.Measures.{ok_then}
+use Rattle.asm65.proofs.PieceEmission.{emitted_at_once, tried_waits}
+use Rattle.symbols65.proofs.StatementLayouts.{ok_then}
 use Rattle.asm65.proofs.emission.statements.emit_element.Goals as goal
 
 pub returns-then-branch-clause-entered : goal.returns-then-branch-clause-entered

@@ -1,7 +1,7 @@
 use Rattle.std.proofs.Common.{sym}
 use Rattle.semantics65.specs.Contents.{Known, file_bytes}
-use Rattle.asm65.proofs.Enterings.{given_enters}
-use Rattle.symbols65.proofs.Measures.{ok_then}
+use Rattle.asm65.proofs.PieceEmission.{given_enters}
+use Rattle.symbols65.proofs.StatementLayouts.{ok_then}
 use Rattle.asm65.proofs.emission.statements.emit_incbin.Goals as goal
 
 pub returns : goal.returns

@@ -13,7 +13,7 @@ use Rattle.symbols65.specs.Evaluations.{HaveFinals}
 use Rattle.symbols65.specs.Views.{table_of}
 use Rattle.asm65.specs.declared.assembler.Assembler.{Assembler}
 use Rattle.asm65.specs.Internal.AssemblerState.{EmitsPieces}
-use Rattle.asm65.proofs.Enterings.{enters_both, enters_none, given_enters, next_finals}
+use Rattle.asm65.proofs.PieceEmission.{enters_both, enters_none, given_enters, next_finals}
 use Rattle.asm65.proofs.emission.statements.emit_mixed.Goals as goal
 
 abbrev Entered : SourceLocation → Context → Width → (old new : Assembler) → List Item → Type 0

@@ -8,7 +8,7 @@ use Rattle.asm65.specs.declared.assembler.Assembler.{Assembler}
 use Rattle.asm65.specs.Internal.AssemblerState.{EmitsPieces}
 use Rattle.asm65.proofs.emission.statements.emit_mixed.Given as goal
 
--- whatever is behind the items that are left is behind them all
+-- emitting the remaining items completes the emission of all items, and the remaining forms are final
 abbrev pub invariant-loop-item : goal.invariant-loop-item
 invariant-loop-item l =
     let location = location_in l.site.at.file.now l.site.at.line in

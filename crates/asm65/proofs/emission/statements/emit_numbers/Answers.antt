@@ -3,11 +3,11 @@ use Rattle.std.specs.Prelude.{IfSome, OnOk, Option}
 use Rattle.semantics65.specs.Contents.{section_part, Known}
 use Rattle.semantics65.specs.Views.{location_in}
 use Rattle.ast65.specs.declared.language.Item.{Item}
-use Rattle.symbols65.proofs.Measures.{ok_then}
+use Rattle.symbols65.proofs.StatementLayouts.{ok_then}
 use Rattle.semantics65.specs.Module.{item_piece, resolved}
 use Rattle.emit65.specs.SectionContents.{AppendsSlot}
 use Rattle.asm65.specs.Internal.AssemblerState.{EmitsPieces, AreEncodedNumbers}
-use Rattle.asm65.proofs.Enterings.{numbers_enter}
+use Rattle.asm65.proofs.PieceEmission.{numbers_enter}
 use Rattle.asm65.proofs.emission.statements.emit_numbers.Goals as goal
 
 pub returns-in-Some : goal.returns-in-Some

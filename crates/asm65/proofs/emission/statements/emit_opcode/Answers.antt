@@ -1,7 +1,7 @@
 use Rattle.std.proofs.Common.{Some, None}
 use Rattle.semantics65.specs.Contents.{opcode_part}
-use Rattle.asm65.proofs.Enterings.{given_enters}
-use Rattle.symbols65.proofs.Measures.{ok_then}
+use Rattle.asm65.proofs.PieceEmission.{given_enters}
+use Rattle.symbols65.proofs.StatementLayouts.{ok_then}
 use Rattle.asm65.proofs.emission.statements.emit_opcode.Goals as goal
 
 pub returns-in-Some-clause-entered : goal.returns-in-Some-clause-entered

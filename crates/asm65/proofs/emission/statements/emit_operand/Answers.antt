@@ -6,9 +6,9 @@ use Rattle.semantics65.specs.Views.{location_in}
 use Rattle.semantics65.specs.Module.{operand, operand_pieces, expression_value}
 use Rattle.symbols65.specs.Evaluations.{HasFinal}
 use Rattle.symbols65.specs.Views.{table_of}
-use Rattle.symbols65.proofs.Measures.{ok_then}
+use Rattle.symbols65.proofs.StatementLayouts.{ok_then}
 use Rattle.asm65.specs.Internal.AssemblerState.{EmitsPieces}
-use Rattle.asm65.proofs.Enterings.{emitted_at_once, tried_waits}
+use Rattle.asm65.proofs.PieceEmission.{emitted_at_once, tried_waits}
 use Rattle.asm65.proofs.emission.statements.emit_operand.Goals as goal
 
 pub returns-then-branch : goal.returns-then-branch

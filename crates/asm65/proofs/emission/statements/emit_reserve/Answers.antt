@@ -1,8 +1,8 @@
 use Rattle.semantics65.specs.Contents.{reserve_part}
 use Rattle.semantics65.specs.declared.contexts.EncodingChoice.TheVariants.{FillByte}
-use Rattle.asm65.proofs.Enterings.{given_enters}
-use Rattle.asm65.proofs.Puttings.{other_room}
-use Rattle.symbols65.proofs.Measures.{ok_then}
+use Rattle.asm65.proofs.PieceEmission.{given_enters}
+use Rattle.asm65.proofs.AppendedParts.{other_room}
+use Rattle.symbols65.proofs.StatementLayouts.{ok_then}
 use Rattle.asm65.proofs.emission.statements.emit_reserve.Goals as goal
 
 pub returns-in-FillByte : goal.returns-in-FillByte

@@ -1,9 +1,9 @@
 use Rattle.std.proofs.Common.{refl}
 use Rattle.semantics65.specs.Views.{location_in}
 use Rattle.emit65.specs.SectionContents.{piece_of}
-use Rattle.symbols65.proofs.Measures.{ok_then}
+use Rattle.symbols65.proofs.StatementLayouts.{ok_then}
 use Rattle.asm65.specs.declared.assembler.Assembler.{Assembler}
-use Rattle.asm65.proofs.Waitings.{holds_awaiting}
+use Rattle.asm65.proofs.DeferredPieces.{holds_awaiting}
 use Rattle.asm65.proofs.emission.values.defer.Goals as goal
 
 pub returns-clause-deferred : goal.returns-clause-deferred

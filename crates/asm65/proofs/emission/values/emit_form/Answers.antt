@@ -6,7 +6,7 @@ use Rattle.object65.specs.Objects.{fits_width, value_bytes}
 use Rattle.semantics65.specs.Contents.{value_part}
 use Rattle.semantics65.specs.Views.{location_in}
 use Rattle.asm65.specs.Internal.AssemblerState.{AppendsPart}
-use Rattle.asm65.proofs.Puttings.{literal_is, literal_put, other_put}
+use Rattle.asm65.proofs.AppendedParts.{literal_is, literal_put, other_put}
 use Rattle.asm65.proofs.emission.values.emit_form.Goals as goal
 
 pub returns-in_ok-append-in-Some : goal.returns-in_ok-append-in-Some

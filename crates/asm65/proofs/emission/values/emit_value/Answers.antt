@@ -9,11 +9,11 @@ use Rattle.semantics65.specs.Module.{datum, operand, expression_value}
 use Rattle.symbols65.specs.Evaluations.{HasFinal}
 use Rattle.symbols65.specs.Views.{table_of}
 use Rattle.symbols65.proofs.Finals.{within_final}
-use Rattle.symbols65.proofs.Measures.{ok_with}
+use Rattle.symbols65.proofs.StatementLayouts.{ok_with}
 use Rattle.syntax65.specs.declared.source_location.SourceLocation.{SourceLocation}
 use Rattle.asm65.specs.declared.assembler.Assembler.{Assembler}
 use Rattle.asm65.specs.Internal.AssemblerState.{AppendsPart, EmitsIfResolved, operand_part}
-use Rattle.asm65.proofs.Enterings.{assertion_tried, datum_tried, operand_tried}
+use Rattle.asm65.proofs.PieceEmission.{assertion_tried, datum_tried, operand_tried}
 use Rattle.asm65.proofs.emission.values.emit_value.Goals as goal
 
 pub returns-in-Datum-clause-emitted : goal.returns-in-Datum-clause-emitted

@@ -1,7 +1,7 @@
 use Rattle.std.proofs.Common.{◌∙◌, ap, refl, sym}
 use Rattle.syntax65.specs.Tokens.{lexemes}
 use Rattle.ast65.specs.Parsing.{assertion_text}
-use Rattle.ast65.proofs.Each.{parts_left, two_texts}
+use Rattle.ast65.proofs.PartByPart.{parts_left, two_texts}
 use Rattle.ast65.proofs.reading.directives.assertion_text.Goals as goal
 
 pub returns-in-Some-following : goal.returns-in-Some-following

@@ -1,7 +1,7 @@
 use Rattle.std.proofs.Common.{ℕ, List}
 use Rattle.syntax65.specs.Tokens.{lexemes}
 use Rattle.ast65.specs.Parsing.{list_elements, IsName}
-use Rattle.ast65.proofs.Each.{ended, one_more, parts_left, stops, taken}
+use Rattle.ast65.proofs.PartByPart.{ended, one_more, parts_left, stops, taken}
 use Rattle.ast65.proofs.CommaLists.{parses_fault}
 use Rattle.ast65.proofs.reading.directives.names.Goals as goal
 

@@ -1,6 +1,6 @@
 use Rattle.syntax65.specs.Tokens.{lexemes}
 use Rattle.ast65.specs.Parsing.{list_elements, IsName}
-use Rattle.ast65.proofs.Each.{count_left, parts_left, GoesOn}
+use Rattle.ast65.proofs.PartByPart.{count_left, parts_left, GoesOn}
 use Rattle.ast65.proofs.reading.directives.names.Given as goal
 
 abbrev pub invariant-parts : goal.invariant-parts

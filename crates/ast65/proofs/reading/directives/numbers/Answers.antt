@@ -3,7 +3,7 @@ use Rattle.std.proofs.lemmas.List.{map-append}
 use Rattle.syntax65.specs.Tokens.{lexemes}
 use Rattle.ast65.specs.Items.{literal_item}
 use Rattle.ast65.specs.Parsing.{list_elements, IsItem}
-use Rattle.ast65.proofs.Each.{ended, one_more, parts_left, taken}
+use Rattle.ast65.proofs.PartByPart.{ended, one_more, parts_left, taken}
 use Rattle.ast65.proofs.reading.directives.numbers.Goals as goal
 
 pub parts-preserved : goal.parts-preserved

@@ -3,7 +3,7 @@ use Rattle.syntax65.specs.Tokens.{lexemes}
 use Rattle.ast65.specs.Items.{literal_item}
 use Rattle.ast65.specs.declared.reading.keywords.ElementKind.{ElementKind}
 use Rattle.ast65.specs.Parsing.{list_elements, IsItem}
-use Rattle.ast65.proofs.Each.{count_left, parts_left, GoesOn}
+use Rattle.ast65.proofs.PartByPart.{count_left, parts_left, GoesOn}
 use Rattle.ast65.proofs.reading.directives.numbers.Given as goal
 
 abbrev pub invariant-parts : goal.invariant-parts

@@ -1,4 +1,4 @@
-use Rattle.ast65.proofs.Each.{some_range}
+use Rattle.ast65.proofs.PartByPart.{some_range}
 use Rattle.ast65.proofs.CommaLists.{then_fault, parses_fault}
 use Rattle.ast65.proofs.reading.directives.range.Goals as goal
 

@@ -13,7 +13,7 @@ Row = Bor (List ℕ) × Directive
 abbrev said : List Row → List ℕ → Option Directive
 said table keyword = keyword_directive (map (λ row. (row.0.now, row.1)) table) keyword
 
--- the default for a row that doesn't exist
+-- the default for an index outside the table
 abbrev none : Row
 none = (record { ref_ptr = (0, 0); now = [] }, ListOf Values Byte)
 

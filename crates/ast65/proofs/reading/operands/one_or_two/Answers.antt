@@ -1,6 +1,6 @@
 use Rattle.std.proofs.Common.{refl}
 use Rattle.syntax65.specs.Tokens.{lexemes}
-use Rattle.ast65.proofs.Each.{three_parts}
+use Rattle.ast65.proofs.PartByPart.{three_parts}
 use Rattle.ast65.proofs.reading.operands.one_or_two.Goals as goal
 
 pub returns-in-Some-following : goal.returns-in-Some-following

@@ -1,6 +1,6 @@
 use Rattle.std.proofs.Common.{◌≡◌, [], arith, refl}
 use Rattle.emit65.specs.SectionContents.{AppendsSlotsWithFiles}
-use Rattle.emit65.proofs.Standings.{added_bytes, takes_both, takes_nothing}
+use Rattle.emit65.proofs.RepresentedSlots.{added_bytes, takes_both, takes_nothing}
 use Rattle.emit65.proofs.entries.Entries.add_bytes.Goals.{else-self-gt0, then-self-gt0+in_ok-close}
 use Rattle.emit65.proofs.entries.Entries.add_bytes.Goals as goal
 

@@ -1,5 +1,5 @@
 use Rattle.std.proofs.Common.{refl}
-use Rattle.emit65.proofs.Standings.{added_room}
+use Rattle.emit65.proofs.RepresentedSlots.{added_room}
 use Rattle.emit65.proofs.entries.Entries.add_reserved.Goals as goal
 
 pub returns : goal.returns

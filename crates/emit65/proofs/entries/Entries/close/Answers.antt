@@ -1,5 +1,5 @@
 use Rattle.std.proofs.Common.{[], refl}
-use Rattle.emit65.proofs.Standings.{room_closed, takes_both}
+use Rattle.emit65.proofs.RepresentedSlots.{room_closed, takes_both}
 use Rattle.emit65.proofs.entries.Entries.close.Goals as goal
 
 pub returns-in_ok-add-clause-same : goal.returns-in_ok-add-clause-same

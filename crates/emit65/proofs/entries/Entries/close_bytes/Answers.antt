@@ -1,5 +1,5 @@
 use Rattle.std.proofs.Common.{◌∙◌, refl}
-use Rattle.emit65.proofs.Standings.{bytes_closed}
+use Rattle.emit65.proofs.RepresentedSlots.{bytes_closed}
 use Rattle.emit65.proofs.entries.Entries.close_bytes.Goals as goal
 
 pub returns-in_ok-add-clause-same : goal.returns-in_ok-add-clause-same

@@ -1,4 +1,4 @@
-use Rattle.emit65.proofs.Standings.{closed_entries}
+use Rattle.emit65.proofs.RepresentedSlots.{closed_entries}
 use Rattle.emit65.proofs.entries.Entries.into_list.Goals as goal
 
 pub returns-clause-equivalent : goal.returns-clause-equivalent

@@ -1,5 +1,5 @@
 use Rattle.std.proofs.Common.{refl}
-use Rattle.emit65.proofs.Standings.{takes_moved, takes_nothing}
+use Rattle.emit65.proofs.RepresentedSlots.{takes_moved, takes_nothing}
 use Rattle.emit65.proofs.entries.Entries.open_part.Goals as goal
 
 pub returns-then-self-segment-clause-same : goal.returns-then-self-segment-clause-same

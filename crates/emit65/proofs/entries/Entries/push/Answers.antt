@@ -1,6 +1,6 @@
 use Rattle.std.proofs.Common.{◌∷◌, []}
 use Rattle.emit65.specs.SectionContents.{slot_of}
-use Rattle.emit65.proofs.Standings.{takes_both, takes_pushed}
+use Rattle.emit65.proofs.RepresentedSlots.{takes_both, takes_pushed}
 use Rattle.emit65.proofs.entries.Entries.push.Goals as goal
 
 pub returns : goal.returns

@@ -1,7 +1,7 @@
 use Rattle.std.proofs.Common.{ap}
 use Rattle.std.proofs.lemmas.Result.{on_ok_weaker}
 use Rattle.emit65.specs.Internal.Drafts.{segment_of}
-use Rattle.emit65.proofs.Drafting.{nothing_put}
+use Rattle.emit65.proofs.SectionDrafts.{nothing_put}
 use Rattle.emit65.proofs.numbering.drafts.add_entry.Goals as goal
 
 pub returns-in-DeclarationEntry-clause-drafts : goal.returns-in-DeclarationEntry-clause-drafts

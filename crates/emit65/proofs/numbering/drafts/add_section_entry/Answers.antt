@@ -1,7 +1,7 @@
 use Rattle.std.proofs.Common.{◌∙◌, sym, ap, nat_eq}
 use Rattle.std.specs.List.{list_any}
 use Rattle.emit65.specs.declared.numbering.drafts.SectionDraft.{SectionDraft}
-use Rattle.emit65.proofs.Drafting.{none_stands, nothing_put, one_changed, pushed, put_there}
+use Rattle.emit65.proofs.SectionDrafts.{none_stands, nothing_put, one_changed, pushed, put_there}
 use Rattle.emit65.proofs.numbering.drafts.add_section_entry.Goals as goal
 
 pub returns-in_ok-push : goal.returns-in_ok-push

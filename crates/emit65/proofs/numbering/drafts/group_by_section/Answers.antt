@@ -4,7 +4,7 @@ use Rattle.std.specs.Vec.Iter.{into_iter_items}
 use Rattle.std.proofs.lemmas.Grind.{common_steps}
 use Rattle.emit65.specs.Internal.Drafts.{draft_of, declarations_of}
 use Rattle.emit65.specs.declared.numbering.drafts.SectionDraft.{SectionDraft}
-use Rattle.emit65.proofs.Drafting.{all_after, following, none_after, one_after, segments_begin, segments_stay}
+use Rattle.emit65.proofs.SectionDrafts.{all_after, following, none_after, one_after, segments_begin, segments_stay}
 use Rattle.emit65.proofs.numbering.drafts.group_by_section.Goals as goal
 
 pub loop-entry-init : goal.loop-entry-init

@@ -2,7 +2,7 @@ use Rattle.std.proofs.Common.{◌≡◌, ◌++◌, map}
 use Rattle.std.specs.List.{flat_map}
 use Rattle.std.specs.Vec.Iter.{into_iter_items}
 use Rattle.emit65.specs.Internal.Drafts.{draft_of, declarations_of}
-use Rattle.emit65.proofs.Drafting.{following}
+use Rattle.emit65.proofs.SectionDrafts.{following}
 use Rattle.emit65.proofs.numbering.drafts.group_by_section.Given as goal
 
 abbrev pub invariant-loop-entry : goal.invariant-loop-entry

@@ -6,7 +6,7 @@ use Rattle.semantics65.specs.Numbering.{merged_neighbours, is_empty, merged_frag
 use Rattle.emit65.specs.Internal.Drafts.{MergerFits, fragment_of, fragments_of}
 use Rattle.emit65.proofs.numbering.fragments.fragments_of.Given as goal
 
--- an open fragment with others behind it
+-- an optional open fragment, merged with the fragments after it
 abbrev followed : Option Fragment → List Fragment → List Fragment
 followed None fs = merged_neighbours fs
 followed (Some f) fs = merged_fragments f fs

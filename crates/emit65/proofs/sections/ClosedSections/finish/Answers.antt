@@ -4,7 +4,7 @@ use Rattle.object65.specs.Objects.{is_well_formed_object}
 use Rattle.emit65.specs.SectionContents.{names_of}
 use Rattle.emit65.specs.Internal.Drafts.{object_of}
 use Rattle.emit65.proofs.GoodObjects.{good_object}
-use Rattle.emit65.proofs.Ordered.{finished}
+use Rattle.emit65.proofs.NumberedObjects.{finished}
 use Rattle.emit65.proofs.sections.ClosedSections.finish.Goals as goal
 
 pub returns-clause-object : goal.returns-clause-object

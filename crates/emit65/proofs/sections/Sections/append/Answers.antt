@@ -1,6 +1,6 @@
 use Rattle.std.proofs.Common.{refl}
 use Rattle.emit65.specs.SectionContents.{names_in}
-use Rattle.emit65.proofs.Standings.{begins_same, stands_taken}
+use Rattle.emit65.proofs.RepresentedSlots.{begins_same, stands_taken}
 use Rattle.emit65.proofs.sections.Sections.append.Goals as goal
 
 pub returns : goal.returns

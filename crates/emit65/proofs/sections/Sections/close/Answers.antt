@@ -1,6 +1,6 @@
 use Rattle.std.proofs.Common.{refl}
 use Rattle.emit65.specs.SectionContents.{names_in}
-use Rattle.emit65.proofs.Standings.{stands_closed}
+use Rattle.emit65.proofs.RepresentedSlots.{stands_closed}
 use Rattle.emit65.proofs.sections.Sections.close.Goals as goal
 
 pub returns : goal.returns

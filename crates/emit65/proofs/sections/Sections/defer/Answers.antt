@@ -4,7 +4,7 @@ use Rattle.semantics65.specs.Module.{deferred}
 use Rattle.emit65.specs.SectionContents.{fixup_of, names_in, piece_of, has_file_below}
 use Rattle.emit65.specs.declared.entries.SectionEntry.TheVariants.{FixupEntry}
 use Rattle.emit65.specs.declared.fixups.Fixup.{Fixup}
-use Rattle.emit65.proofs.Standings.{stands_put}
+use Rattle.emit65.proofs.RepresentedSlots.{stands_put}
 use Rattle.emit65.proofs.sections.Sections.defer.Goals as goal
 
 pub returns : goal.returns

@@ -3,7 +3,7 @@ use Rattle.std.specs.Prelude.{replicate}
 use Rattle.semantics65.specs.Contents.{Known, section_part}
 use Rattle.semantics65.specs.Module.{resolved}
 use Rattle.emit65.specs.SectionContents.{AppendsSlotsWithFiles, names_in}
-use Rattle.emit65.proofs.Standings.{begins_same, stands_taken}
+use Rattle.emit65.proofs.RepresentedSlots.{begins_same, stands_taken}
 use Rattle.emit65.proofs.sections.Sections.fill.Goals as goal
 
 pub returns : goal.returns

@@ -1,5 +1,5 @@
 use Rattle.std.proofs.Common.{◌∙◌, Some, ap, refl}
-use Rattle.emit65.proofs.Standings.{stands_again, stands_asked}
+use Rattle.emit65.proofs.RepresentedSlots.{stands_again, stands_asked}
 use Rattle.emit65.proofs.sections.Sections.request_section.Goals as goal
 
 pub returns : goal.returns

@@ -3,7 +3,7 @@ use Rattle.semantics65.specs.Contents.{LinkTimeValue, section_part}
 use Rattle.semantics65.specs.Module.{resolved}
 use Rattle.emit65.specs.SectionContents.{names_in, has_file_below}
 use Rattle.emit65.specs.declared.entries.SectionEntry.TheVariants.{Value}
-use Rattle.emit65.proofs.Standings.{stands_put}
+use Rattle.emit65.proofs.RepresentedSlots.{stands_put}
 use Rattle.emit65.proofs.sections.Sections.value.Goals as goal
 
 pub returns : goal.returns

@@ -26,7 +26,7 @@ returns-in_err-line_outcome-clause-next_item g c =
     let k = g.K.Knows.meaning c.args.knows.now in
     let f = c.in_err-line_outcome.field-0.0 in
     let new = c.line_outcome.new.self in
-    let step = moved_to (λ m. Unless (is_system_error f) (IsStep m k (state_in m c.steps.self) (raises (f, location_of new)))) o (g.S.Store.files c.steps.store) c.steps.invariant.files c.in_err-line_outcome.ensures.turns in
+    let step = moved_to (λ m. Unless (is_system_error f) (IsStep m k (state_in m c.steps.self) (raises (f, location_of new)))) o (g.S.Store.files c.steps.store) c.steps.invariant.files c.in_err-line_outcome.ensures.outcome in
     rw (p.1, p.2) (came_to_fault o k c.args.self.now c.steps.self new f c.steps.invariant.so_far step)
 
 pub returns-in-Some-clause-next_item : goal.returns-in-Some-clause-next_item
@@ -36,8 +36,8 @@ returns-in-Some-clause-next_item g c =
     let mid = c.line_outcome.new.self in
     let new = c.apply_outcome.new.self in
     let t = c.in_ok-line_outcome.line_outcome in
-    let step = moved_to (λ m. IsStep m k (state_in m c.steps.self) (outcome_of_line (state_of m mid.processor) t)) o (g.S.Store.files c.steps.store) c.steps.invariant.files c.in_ok-line_outcome.ensures.turns in
-    gave o k c.args.self.now c.steps.self mid new t c.in-Some.statement c.steps.invariant.so_far step (λ m. c.apply_outcome.ensures.led m ∙ ap (step_of (state_in m new)) c.in-Some.is)
+    let step = moved_to (λ m. IsStep m k (state_in m c.steps.self) (outcome_of_line (state_of m mid.processor) t)) o (g.S.Store.files c.steps.store) c.steps.invariant.files c.in_ok-line_outcome.ensures.outcome in
+    gave o k c.args.self.now c.steps.self mid new t c.in-Some.statement c.steps.invariant.so_far step (λ m. c.apply_outcome.ensures.pending m ∙ ap (step_of (state_in m new)) c.in-Some.is)
 
 pub returns-in-Some-clause-size : goal.returns-in-Some-clause-size
 returns-in-Some-clause-size g c = omega (arith, c.steps.invariant.size, c.in_ok-line_outcome.ensures.size, c.apply_outcome.ensures.size)
@@ -49,15 +49,15 @@ steps-preserved g c =
     let mid = c.line_outcome.new.self in
     let new = c.apply_outcome.new.self in
     let t = c.in_ok-line_outcome.line_outcome in
-    let step = moved_to (λ m. IsStep m k (state_in m c.steps.self) (outcome_of_line (state_of m mid.processor) t)) o (g.S.Store.files c.steps.store) c.steps.invariant.files c.in_ok-line_outcome.ensures.turns in
-    let moves : IsStackPositionedIfKnown o mid.processor.stack → IsStackPositionedIfKnown o new.processor.stack = subst (λ (r : Preprocessor). IsStackPositionedIfKnown o r.stack) (sym c.apply_outcome.ensures.stands) in
+    let step = moved_to (λ m. IsStep m k (state_in m c.steps.self) (outcome_of_line (state_of m mid.processor) t)) o (g.S.Store.files c.steps.store) c.steps.invariant.files c.in_ok-line_outcome.ensures.outcome in
+    let moves : IsStackPositionedIfKnown o mid.processor.stack → IsStackPositionedIfKnown o new.processor.stack = subst (λ (r : Preprocessor). IsStackPositionedIfKnown o r.stack) (sym c.apply_outcome.ensures.processor) in
     record {
       files = c.in_ok-line_outcome.ensures.frame.files ∙ c.steps.invariant.files;
       count = search rules;
       size = omega (arith, c.steps.invariant.size, c.in_ok-line_outcome.ensures.size, c.apply_outcome.ensures.size);
-      stands = λ h. moves (stands_back o (g.S.Store.files c.steps.store) c.steps.self.processor.stack mid.processor.stack c.steps.invariant.files c.in_ok-line_outcome.ensures.stands (c.steps.invariant.stands h));
-      gone = gone_on o k c.args.self.now c.steps.self mid new t c.steps.invariant.gone step (λ m. c.apply_outcome.ensures.led m ∙ ap (step_of (state_in m new)) c.in_default.is);
-      so_far = goes_on o k c.args.self.now c.steps.self mid new t c.steps.invariant.so_far step (λ m. c.apply_outcome.ensures.led m ∙ ap (step_of (state_in m new)) c.in_default.is);
+      stands = λ h. moves (stands_back o (g.S.Store.files c.steps.store) c.steps.self.processor.stack mid.processor.stack c.steps.invariant.files c.in_ok-line_outcome.ensures.stack_position (c.steps.invariant.stands h));
+      gone = gone_on o k c.args.self.now c.steps.self mid new t c.steps.invariant.gone step (λ m. c.apply_outcome.ensures.pending m ∙ ap (step_of (state_in m new)) c.in_default.is);
+      so_far = goes_on o k c.args.self.now c.steps.self mid new t c.steps.invariant.so_far step (λ m. c.apply_outcome.ensures.pending m ∙ ap (step_of (state_in m new)) c.in_default.is);
     }
 
 pub returns-in_err-line_outcome-clause-stopped : goal.returns-in_err-line_outcome-clause-stopped
@@ -84,12 +84,12 @@ steps-init g c =
       so_far = none_led o k c.args.self.now;
     }
 
-pub returns-in-Some-clause-stands : goal.returns-in-Some-clause-stands
-returns-in-Some-clause-stands g c = λ stands.
+pub returns-in-Some-clause-stack_position : goal.returns-in-Some-clause-stack_position
+returns-in-Some-clause-stack_position g c = λ stands.
     (let o = g.S.Store.files c.args.store.now in
     let old = c.steps.self.processor.stack in
     let mid = c.line_outcome.new.self.processor.stack in
-    subst (λ (r : Preprocessor). IsStackPositionedIfKnown o r.stack) (sym c.apply_outcome.ensures.stands) (stands_back o (g.S.Store.files c.steps.store) old mid c.steps.invariant.files c.in_ok-line_outcome.ensures.stands (c.steps.invariant.stands stands)))
+    subst (λ (r : Preprocessor). IsStackPositionedIfKnown o r.stack) (sym c.apply_outcome.ensures.processor) (stands_back o (g.S.Store.files c.steps.store) old mid c.steps.invariant.files c.in_ok-line_outcome.ensures.stack_position (c.steps.invariant.stands stands)))
 
 pub returns-in-Some-clause-stopped : goal.returns-in-Some-clause-stopped
 returns-in-Some-clause-stopped g c = grind (arith, common_steps)

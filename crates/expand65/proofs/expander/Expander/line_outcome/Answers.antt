@@ -12,17 +12,17 @@ use Rattle.expand65.proofs.StepSequences.{turns_so, where_known, step_branch, st
 use Rattle.expand65.proofs.ExpansionFailures.{stops_branch, stops_plain, stops_rest}
 use Rattle.expand65.proofs.expander.Expander.line_outcome.Goals as goal
 
-pub returns-in-Rest-clause-turns : goal.returns-in-Rest-clause-turns
-returns-in-Rest-clause-turns g c =
+pub returns-in-Rest-clause-outcome : goal.returns-in-Rest-clause-outcome
+returns-in-Rest-clause-outcome g c =
     let old = c.args.self.now in
     let k = g.K.Knows.meaning c.args.knows.now in
     let line = c.in-Rest.line in
     let ts = tokens_in line in
     let new = c.execute_line.new.self in
-    where_known (g.S.Store.files c.args.store.now) (λ m. RefinesLineOutcome c.execute_line.result (state_of m new) (StepReaches m (line_step k (state_of m old.processor) ts (first_directive ts)))) (λ m. RefinesLineOutcome c.execute_line.result (state_of m new) (IsStep m k (state_in m old))) (λ m h. turns_so c.execute_line.result (state_of m new) (StepReaches m (line_step k (state_of m old.processor) ts (first_directive ts))) (IsStep m k (state_in m old)) (λ x s. step_rest m k old line x (sym c.replace.ensures.value ∙ c.in-Rest.is) s) h) c.execute_line.ensures.turns
+    where_known (g.S.Store.files c.args.store.now) (λ m. RefinesLineOutcome c.execute_line.result (state_of m new) (StepReaches m (line_step k (state_of m old.processor) ts (first_directive ts)))) (λ m. RefinesLineOutcome c.execute_line.result (state_of m new) (IsStep m k (state_in m old))) (λ m h. turns_so c.execute_line.result (state_of m new) (StepReaches m (line_step k (state_of m old.processor) ts (first_directive ts))) (IsStep m k (state_in m old)) (λ x s. step_rest m k old line x (sym c.replace.ensures.value ∙ c.in-Rest.is) s) h) c.execute_line.ensures.outcome
 
-pub returns-in_ok-tokens-in-Branch-clause-turns : goal.returns-in_ok-tokens-in-Branch-clause-turns
-returns-in_ok-tokens-in-Branch-clause-turns g c =
+pub returns-in_ok-tokens-in-Branch-clause-outcome : goal.returns-in_ok-tokens-in-Branch-clause-outcome
+returns-in_ok-tokens-in-Branch-clause-outcome g c =
     let o = g.S.Store.files c.args.store.now in
     let old = c.args.self.now in
     let k = g.K.Knows.meaning c.args.knows.now in
@@ -31,7 +31,7 @@ returns-in_ok-tokens-in-Branch-clause-turns g c =
     let r = c.begin_if.result in
     let new = c.begin_if.new.self in
     let P : List Lexeme → Type 0 = λ us. IfSome o (λ m. RefinesLineOutcome r (state_of m new) (StepReaches m (if_line k (state_of m old.processor) True us))) in
-    let turns = subst P (ap lexemes c.as_slice.ensures.value ∙ c.in_ok-tokens-in-Branch.ensures) c.begin_if.ensures.turns in
+    let turns = subst P (ap lexemes c.as_slice.ensures.value ∙ c.in_ok-tokens-in-Branch.ensures) c.begin_if.ensures.outcome in
     where_known o (λ m. RefinesLineOutcome r (state_of m new) (StepReaches m (if_line k (state_of m old.processor) True ts))) (λ m. RefinesLineOutcome r (state_of m new) (IsStep m k (state_in m old))) (λ m h. turns_so r (state_of m new) (StepReaches m (if_line k (state_of m old.processor) True ts)) (IsStep m k (state_in m old)) (λ x s. step_branch m k old line x (sym c.replace.ensures.value ∙ c.in-Branch.is) s) h) turns
 
 pub returns-in-Nothing-clause-stopped : goal.returns-in-Nothing-clause-stopped

@@ -9,8 +9,8 @@ pub returns-in-Some-clause-next_item : goal.returns-in-Some-clause-next_item
 returns-in-Some-clause-next_item g c =
     file_begins (g.S.Store.files c.args.store.now) c.has_more.new.self c.in-Some.number (c.in_ok-has_more.ensures.more c.if-not-branch.false) c.in-Some.ensures.1
 
-pub returns-in-Some-clause-onward : goal.returns-in-Some-clause-onward
-returns-in-Some-clause-onward g c = λ p line more. ap (location_at p) (c.in-Some.ensures.1 ∙ ap (λ n. n + 1) (c.in_ok-has_more.ensures.line ∙ sym line))
+pub returns-in-Some-clause-location_after : goal.returns-in-Some-clause-location_after
+returns-in-Some-clause-location_after g c = λ p line more. ap (location_at p) (c.in-Some.ensures.1 ∙ ap (λ n. n + 1) (c.in_ok-has_more.ensures.line ∙ sym line))
 
 pub returns-in-Some-clause-at : goal.returns-in-Some-clause-at
 returns-in-Some-clause-at g c = reads_on_at (g.S.Store.files c.args.store.now) c.args.self.now c.has_more.new.self c.in_ok-has_more.ensures.name c.in_ok-has_more.ensures.line c.in_ok-has_more.ensures.kept

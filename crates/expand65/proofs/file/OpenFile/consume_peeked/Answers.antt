@@ -5,8 +5,8 @@ use Rattle.expand65.proofs.LineCounts.{here_at}
 use Rattle.expand65.proofs.LineReads.{file_peeked}
 use Rattle.expand65.proofs.file.OpenFile.consume_peeked.Goals as goal
 
-pub returns-clause-taken : goal.returns-clause-taken
-returns-clause-taken c = λ m ts (n, pending, following, number).
+pub returns-clause-next_line : goal.returns-clause-next_line
+returns-clause-next_line c = λ m ts (n, pending, following, number).
     let old = c.args.self.now in
     let line = c.args.line in
     let P : ℕ → Type 0 = λ k. ReadsFileLine (remaining_file_lines m old) line.number ts (remaining_file_lines m (record { name = old.name; buffer = old.buffer; at = k; next = old.next; line = line.number; spare = old.spare })) in

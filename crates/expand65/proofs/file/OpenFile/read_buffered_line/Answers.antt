@@ -11,8 +11,8 @@ use Rattle.expand65.proofs.LineCounts.{here_at}
 use Rattle.expand65.proofs.LineReads.{file_refused, file_taken, first_at_hand}
 use Rattle.expand65.proofs.file.OpenFile.read_buffered_line.Goals as goal
 
-pub returns-in_err-line-clause-taken : goal.returns-in_err-line-clause-taken
-returns-in_err-line-clause-taken c = λ m.
+pub returns-in_err-line-clause-next_line : goal.returns-in_err-line-clause-next_line
+returns-in_err-line-clause-next_line c = λ m.
     let p = err_from_is_err_and c.from_residual.result c.from_residual.ensures.1 in
     let old = c.args.self.now in
     let next : OpenFile = record { name = old.name; buffer = old.buffer; at = old.at + (c.args.len + 1); next = old.next; line = old.line; spare = old.spare } in
@@ -21,8 +21,8 @@ returns-in_err-line-clause-taken c = λ m.
     let P : List ℕ → Type 0 = λ bytes. Unless (is_system_error c.in_err-line.field-0.0) ((q : Result (List Lexeme) LexFault) × IsRead bytes q × (Err c.in_err-line.field-0.0 ≡ file_line_tokens q)) in
     rw (p.1, p.2) (file_refused (Some m) old next old (without_return (take c.args.len (drop old.at old.buffer.items))) c.in_err-line.field-0.0 (first_at_hand m old c.args.len old.line c.requires.end c.requires.within) (subst P same c.in_err-line.ensures.tokens))
 
-pub returns-clause-taken : goal.returns-clause-taken
-returns-clause-taken c = λ m.
+pub returns-clause-next_line : goal.returns-clause-next_line
+returns-clause-next_line c = λ m.
     let old = c.args.self.now in
     let new : OpenFile = record { name = old.name; buffer = old.buffer; at = old.at + (c.args.len + 1); next = old.next; line = c.in-Some.number; spare = old.spare } in
     let here = c.split_at.ensures.back ∙ ap (drop old.at) c.deref.ensures.value in

@@ -31,15 +31,15 @@ pub returns-in-Call-clause-last_failure : goal.returns-in-Call-clause-last_failu
 returns-in-Call-clause-last_failure g c = never_at {A = NextLine} (g.S.Store.files c.args.store.now) (λ m p. IsSourceAt m c.args.self.now p) (λ m p. IsReadingAt m (g.S.Store.last_failure c.args.store.now) p) (Ok c.next_line.result) tt
 
 pub returns-in-Repeat-clause-last_failure : goal.returns-in-Repeat-clause-last_failure
-returns-in-Repeat-clause-last_failure g c = never_at (g.S.Store.files c.args.store.now) (λ m p. IsSourceAt m c.args.self.now p) (λ m p. IsReadingAt m (g.S.Store.last_failure c.args.store.now) p) c.begin_iteration.result c.begin_iteration.ensures.inside
+returns-in-Repeat-clause-last_failure g c = never_at (g.S.Store.files c.args.store.now) (λ m p. IsSourceAt m c.args.self.now p) (λ m p. IsReadingAt m (g.S.Store.last_failure c.args.store.now) p) c.begin_iteration.result c.begin_iteration.ensures.no_failure
 
-pub returns-in-File-clause-onward : goal.returns-in-File-clause-onward
-returns-in-File-clause-onward g c = λ p.
+pub returns-in-File-clause-location_after : goal.returns-in-File-clause-location_after
+returns-in-File-clause-location_after g c = λ p.
     let P : LineSource → Type 0 = λ s. IsLineOf s p → IfOk c.begin_line.result (λ n. (n ≡ AtEnd → ⊥) → location_after_next n p ≡ location_at p (p.line + 1)) in
-    subst P (sym c.in-File.is) (c.begin_line.ensures.onward p)
+    subst P (sym c.in-File.is) (c.begin_line.ensures.location_after p)
 
-pub returns-in-Call-clause-onward : goal.returns-in-Call-clause-onward
-returns-in-Call-clause-onward g c = λ p line. played_on (Ok c.next_line.result) p c.next_line.ensures.played
+pub returns-in-Call-clause-location_after : goal.returns-in-Call-clause-location_after
+returns-in-Call-clause-location_after g c = λ p line. played_on (Ok c.next_line.result) p c.next_line.ensures.replayed
 
-pub returns-in-Repeat-clause-onward : goal.returns-in-Repeat-clause-onward
-returns-in-Repeat-clause-onward g c = λ p line. played_on c.begin_iteration.result p c.begin_iteration.ensures.played
+pub returns-in-Repeat-clause-location_after : goal.returns-in-Repeat-clause-location_after
+returns-in-Repeat-clause-location_after g c = λ p line. played_on c.begin_iteration.result p c.begin_iteration.ensures.replayed

@@ -10,14 +10,14 @@ use Rattle.expand65.proofs.StepSequences.{where_so}
 use Rattle.expand65.proofs.Iterations.{takes_in_turn}
 use Rattle.expand65.proofs.input.LineSource.read_stored_line.Goals as goal
 
-pub returns-in-Repeat-clause-taken : goal.returns-in-Repeat-clause-taken
-returns-in-Repeat-clause-taken g c =
+pub returns-in-Repeat-clause-next_line : goal.returns-in-Repeat-clause-next_line
+returns-in-Repeat-clause-next_line g c =
     let old = c.in-Repeat.replay in
     let new = c.read_stored_line-in-Repeat.new.self in
     let r = c.read_stored_line-in-Repeat.result in
     let next = c.in-Repeat.field-1 in
     let count = c.in-Repeat.field-2 in
-    where_so (g.S.Store.files c.args.store.now) (λ m. ReadsStoredLine (remaining_in m c.args.self.now) r (remaining_iterations new next count)) (λ m. let P : LineSource → Type 0 = λ s. ReadsStoredLine (remaining_in m s) r (remaining_iterations new next count) in subst P (sym c.in-Repeat.is) (takes_in_turn old new next count r c.read_stored_line-in-Repeat.ensures.taken c.read_stored_line-in-Repeat.ensures.body c.read_stored_line-in-Repeat.ensures.same))
+    where_so (g.S.Store.files c.args.store.now) (λ m. ReadsStoredLine (remaining_in m c.args.self.now) r (remaining_iterations new next count)) (λ m. let P : LineSource → Type 0 = λ s. ReadsStoredLine (remaining_in m s) r (remaining_iterations new next count) in subst P (sym c.in-Repeat.is) (takes_in_turn old new next count r c.read_stored_line-in-Repeat.ensures.next_line c.read_stored_line-in-Repeat.ensures.body c.read_stored_line-in-Repeat.ensures.same))
 
 pub returns-in-File-clause-at : goal.returns-in-File-clause-at
 returns-in-File-clause-at g c =
@@ -37,7 +37,7 @@ returns-in-File-clause-last_failure g c =
     subst P (sym c.in-File.is) c.read_stored_line.ensures.last_failure
 
 pub returns-in-Call-clause-last_failure : goal.returns-in-Call-clause-last_failure
-returns-in-Call-clause-last_failure g c = never_at (g.S.Store.files c.args.store.now) (λ m p. IsSourceAt m c.args.self.now p) (λ m p. IsReadingAt m (g.S.Store.last_failure c.args.store.now) (next_location c.args.self.now p)) c.read_stored_line-in-Call.result c.read_stored_line-in-Call.ensures.inside
+returns-in-Call-clause-last_failure g c = never_at (g.S.Store.files c.args.store.now) (λ m p. IsSourceAt m c.args.self.now p) (λ m p. IsReadingAt m (g.S.Store.last_failure c.args.store.now) (next_location c.args.self.now p)) c.read_stored_line-in-Call.result c.read_stored_line-in-Call.ensures.no_failure
 
 pub returns-in-Repeat-clause-last_failure : goal.returns-in-Repeat-clause-last_failure
-returns-in-Repeat-clause-last_failure g c = never_at (g.S.Store.files c.args.store.now) (λ m p. IsSourceAt m c.args.self.now p) (λ m p. IsReadingAt m (g.S.Store.last_failure c.args.store.now) (next_location c.args.self.now p)) c.read_stored_line-in-Repeat.result c.read_stored_line-in-Repeat.ensures.inside
+returns-in-Repeat-clause-last_failure g c = never_at (g.S.Store.files c.args.store.now) (λ m p. IsSourceAt m c.args.self.now p) (λ m p. IsReadingAt m (g.S.Store.last_failure c.args.store.now) (next_location c.args.self.now p)) c.read_stored_line-in-Repeat.result c.read_stored_line-in-Repeat.ensures.no_failure

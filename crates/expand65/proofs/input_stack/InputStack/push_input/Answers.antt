@@ -17,8 +17,8 @@ returns-clause-entered c =
     let new : InputStack = record { top = c.replace-outer.new.dest; outer = c.push.new.self; budget = old.budget; location = old.location } in
     λ m. entered_one m old new c.args.input few c.replace-outer.ensures.after (c.in_ok-push.ensures.items ∙ ap (λ i. old.outer.items ++ i ∷ []) c.replace-outer.ensures.value) refl refl
 
-pub returns-clause-stands : goal.returns-clause-stands
-returns-clause-stands c = λ m p s k b h.
+pub returns-clause-stack_position : goal.returns-clause-stack_position
+returns-clause-stack_position c = λ m p s k b h.
     (let old = c.args.self.now in
     let items = c.push.new.self.items in
     subst (λ i. AreInputsAt m (i ∷ reverse items) p) (sym c.replace-outer.ensures.after) (enters m old items c.args.input p (c.in_ok-push.ensures.items ∙ ap (λ i. old.outer.items ++ i ∷ []) c.replace-outer.ensures.value) s k b h))

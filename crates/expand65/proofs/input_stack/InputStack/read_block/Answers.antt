@@ -67,11 +67,11 @@ lines-preserved g c =
     let P : BlockStep → Type 0 = λ s. RefinesVerdict (Ok s) (line_verdict k c.lines.depth (tokens_in line)) in
     let goes = subst P c.in-Open.is c.in_ok-end.ensures.step in
     let Q : List (List Lexeme) → Type 0 = λ b. IfSome o (Leads k c.in-Open.deeper b new c.args.self.now) in
-    let stands_on : IsStackPositionedIfKnown o c.lines.self → IsStackPositionedIfKnown o new = λ h. stands_back o (g.S.Store.files c.lines.store) mid new c.lines.invariant.files c.in_ok-line.ensures.stands (stands_so o c.lines.self mid c.skip_uncollected_lines.ensures.stands h) in
+    let stands_on : IsStackPositionedIfKnown o c.lines.self → IsStackPositionedIfKnown o new = λ h. stands_back o (g.S.Store.files c.lines.store) mid new c.lines.invariant.files c.in_ok-line.ensures.stack_position (stands_so o c.lines.self mid c.skip_uncollected_lines.ensures.stack_position h) in
     record {
       outer = c.in_ok-line.ensures.innermost.outer ∙ c.skip_uncollected_lines.ensures.innermost.outer ∙ c.lines.invariant.outer;
       mark = c.in_ok-line.ensures.innermost.mark ∙ c.skip_uncollected_lines.ensures.innermost.mark ∙ c.lines.invariant.mark;
-      budget = omega (arith, c.in_ok-line.ensures.room, c.skip_uncollected_lines.ensures.budget, c.lines.invariant.budget);
+      budget = omega (arith, c.in_ok-line.ensures.remaining_budget, c.skip_uncollected_lines.ensures.budget, c.lines.invariant.budget);
       files = c.in_ok-line.ensures.frame.files ∙ c.lines.invariant.files;
       count = search rules;
       stands = λ h. stands_on (c.lines.invariant.stands h);
@@ -87,12 +87,12 @@ returns-in_err-line-clause-stopped g c = λ stands.
     let mid = c.skip_uncollected_lines.new.self in
     let f = c.in_err-line.field-0.0 in
     let reads = plainly_read k o c.args.self.now c.lines.self mid c.lines.depth c.skip_uncollected_lines.ensures.skipped c.lines.invariant.reads in
-    let stops = moved_to (λ m. is_failure f ≡ true → IsAtFailure (FailsAtLine m (g.S.Store.last_failure c.read_block_line.new.store) (remaining_of m mid)) mid c.read_block_line.new.self) o (g.S.Store.files c.lines.store) c.lines.invariant.files (c.in_err-line.ensures.stopped (stands_where o (g.S.Store.files c.lines.store) mid c.lines.invariant.files (stands_so o c.lines.self mid c.skip_uncollected_lines.ensures.stands (c.lines.invariant.stands stands)))) in
+    let stops = moved_to (λ m. is_failure f ≡ true → IsAtFailure (FailsAtLine m (g.S.Store.last_failure c.read_block_line.new.store) (remaining_of m mid)) mid c.read_block_line.new.self) o (g.S.Store.files c.lines.store) c.lines.invariant.files (c.in_err-line.ensures.stopped (stands_where o (g.S.Store.files c.lines.store) mid c.lines.invariant.files (stands_so o c.lines.self mid c.skip_uncollected_lines.ensures.stack_position (c.lines.invariant.stands stands)))) in
     rw (p.1, p.2) (stops_on (g.S.Store.last_failure c.read_block_line.new.store) k o c.args.self.now mid c.read_block_line.new.self c.lines.depth f reads (c.skip_uncollected_lines.ensures.innermost.mark ∙ c.lines.invariant.mark) stops))
 
-pub returns-in-Closed-clause-stands : goal.returns-in-Closed-clause-stands
-returns-in-Closed-clause-stands g c = λ stands.
+pub returns-in-Closed-clause-stack_position : goal.returns-in-Closed-clause-stack_position
+returns-in-Closed-clause-stack_position g c = λ stands.
     (let o = g.S.Store.files c.args.store.now in
     let mid = c.skip_uncollected_lines.new.self in
     let new = c.read_block_line.new.self in
-    stands_back o (g.S.Store.files c.lines.store) mid new c.lines.invariant.files c.in_ok-line.ensures.stands (stands_so o c.lines.self mid c.skip_uncollected_lines.ensures.stands (c.lines.invariant.stands stands)))
+    stands_back o (g.S.Store.files c.lines.store) mid new c.lines.invariant.files c.in_ok-line.ensures.stack_position (stands_so o c.lines.self mid c.skip_uncollected_lines.ensures.stack_position (c.lines.invariant.stands stands)))

@@ -20,6 +20,6 @@ lines-preserved c =
       outer = c.skip_plain_line.ensures.innermost.outer ∙ c.lines.invariant.outer;
       mark = c.skip_plain_line.ensures.innermost.mark ∙ c.lines.invariant.mark;
       budget = omega (arith, less, c.lines.invariant.budget);
-      stands = λ m h. c.skip_plain_line.ensures.stands m (c.lines.invariant.stands m h);
+      stands = λ m h. c.skip_plain_line.ensures.stack_position m (c.lines.invariant.stands m h);
       so_far = λ m. a_line (remaining_of m c.args.self.now) (remaining_of m c.lines.self) (remaining_of m new) (c.lines.invariant.so_far m) (c.skip_plain_line.ensures.skipped m c.if-not-skip_plain_line.false);
     }

@@ -8,16 +8,16 @@ use Rattle.expand65.specs.declared.input_stack.InputStack.{InputStack}
 use Rattle.expand65.proofs.FilePositions.{call_at, call_kind, reads_on, stands_so}
 use Rattle.expand65.proofs.preprocessor.Preprocessor.add_locals.Goals as goal
 
-pub returns-then-not-is_call-clause-turns : goal.returns-then-not-is_call-clause-turns
-returns-then-not-is_call-clause-turns c = λ m. no_macro m c.args.self.now (lexemes c.args.tokens.now) (sym c.is_call.ensures ∙ c.if-not-is_call.true)
+pub returns-then-not-is_call-clause-outcome : goal.returns-then-not-is_call-clause-outcome
+returns-then-not-is_call-clause-outcome c = λ m. no_macro m c.args.self.now (lexemes c.args.tokens.now) (sym c.is_call.ensures ∙ c.if-not-is_call.true)
 
-pub returns-in_err-names-clause-turns : goal.returns-in_err-names-clause-turns
-returns-in_err-names-clause-turns c =
+pub returns-in_err-names-clause-outcome : goal.returns-in_err-names-clause-outcome
+returns-in_err-names-clause-outcome c =
     let p = err_from_is_err_and c.from_residual.result c.from_residual.ensures.1 in
     λ m. rw (p.1, p.2) (bad_names m c.args.self.now (lexemes c.args.tokens.now) c.in_err-names.field-0.0 (sym c.is_call.ensures ∙ c.if-not-is_call.false) c.in_err-names.ensures.names)
 
-pub returns-clause-turns : goal.returns-clause-turns
-returns-clause-turns c = λ m. names_added m c.args.self.now c.add_locals.new.self (lexemes c.args.tokens.now) (map (λ s. s.now) c.in_ok-names.names.items) (sym c.is_call.ensures ∙ c.if-not-is_call.false) c.in_ok-names.ensures.names c.add_locals.ensures.call (λ k is. let P : List (Bor (List ℕ)) → Type 0 = λ ns. remaining_in m c.add_locals.new.self ++ end_mark k ∷ is ≡ with_local_names (map (λ s. s.now) ns) (remaining_in m c.args.self.now.stack.top.source ++ end_mark k ∷ is) in subst P c.as_slice.ensures.value (c.in_ok-add_locals.ensures.added m k is))
+pub returns-clause-outcome : goal.returns-clause-outcome
+returns-clause-outcome c = λ m. names_added m c.args.self.now c.add_locals.new.self (lexemes c.args.tokens.now) (map (λ s. s.now) c.in_ok-names.names.items) (sym c.is_call.ensures ∙ c.if-not-is_call.false) c.in_ok-names.ensures.names c.add_locals.ensures.call (λ k is. let P : List (Bor (List ℕ)) → Type 0 = λ ns. remaining_in m c.add_locals.new.self ++ end_mark k ∷ is ≡ with_local_names (map (λ s. s.now) ns) (remaining_in m c.args.self.now.stack.top.source ++ end_mark k ∷ is) in subst P c.as_slice.ensures.value (c.in_ok-add_locals.ensures.added m k is))
 
 pub returns-clause-keeps : goal.returns-clause-keeps
 returns-clause-keeps c = λ files.

@@ -11,8 +11,8 @@ returns-then-branch-clause-frame g c = grind (arith, common_steps)
 pub returns-then-branch-clause-keeps : goal.returns-then-branch-clause-keeps
 returns-then-branch-clause-keeps g c = grind (arith, common_steps)
 
-pub returns-clause-turns : goal.returns-clause-turns
-returns-clause-turns g c = grind (arith, common_steps)
+pub returns-clause-outcome : goal.returns-clause-outcome
+returns-clause-outcome g c = grind (arith, common_steps)
 
 pub returns-clause-keeps : goal.returns-clause-keeps
 returns-clause-keeps g c = grind (arith, common_steps)

@@ -21,8 +21,8 @@ use Rattle.expand65.proofs.StepSequences.{turns_by, where_known, where_so}
 use Rattle.expand65.proofs.Definitions.{block_refused, entry_of, is_none, kept_one, macro_is, rewritten, twice}
 use Rattle.expand65.proofs.preprocessor.Preprocessor.begin_macro.Goals as goal
 
-pub returns-then-has_macro-clause-turns : goal.returns-then-has_macro-clause-turns
-returns-then-has_macro-clause-turns g c =
+pub returns-then-has_macro-clause-outcome : goal.returns-then-has_macro-clause-outcome
+returns-then-has_macro-clause-outcome g c =
     let o = g.S.Store.files c.args.store.now in
     let old = c.args.self.now in
     let ts = lexemes c.args.tokens.now in
@@ -32,8 +32,8 @@ returns-then-has_macro-clause-turns g c =
     let there = ap (λ (n : List ℕ). is_some (macro_of (macros_of old) n)) (sym c.as_slice.ensures.value) ∙ sym c.has_macro.ensures ∙ c.if-has_macro.true in
     turns_by o (Err MacroTwice) old (λ m. definition_step (state_of m old) name params (macro_of (macros_of old) name)) (λ m. macro_line (state_of m old) ts) (λ m. macro_is (state_of m old) ts name params (macro_of (macros_of old) name) c.in_ok-name.ensures.header refl) (where_so o (λ m. StepReaches m (definition_step (state_of m old) name params (macro_of (macros_of old) name)) (raises (MacroTwice, old.stack.location))) (λ m. twice m (state_of m old) name params there))
 
-pub returns-in_err-block-clause-turns : goal.returns-in_err-block-clause-turns
-returns-in_err-block-clause-turns g c =
+pub returns-in_err-block-clause-outcome : goal.returns-in_err-block-clause-outcome
+returns-in_err-block-clause-outcome g c =
     let p = err_from_is_err_and c.from_residual-in_err-block.result c.from_residual-in_err-block.ensures.1 in
     let o = g.S.Store.files c.args.store.now in
     let old = c.args.self.now in
@@ -46,8 +46,8 @@ returns-in_err-block-clause-turns g c =
     let none = is_none (macro_of (macros_of old) name) (ap (λ (n : List ℕ). is_some (macro_of (macros_of old) n)) (sym c.as_slice.ensures.value) ∙ sym c.has_macro.ensures ∙ c.if-has_macro.false) in
     rw (p.1, p.2) (where_known o (λ m. Unless (is_system_error f) (Block Macro 0 [] (remaining_of m old.stack) (Err (f, location)))) (λ m. Unless (is_system_error f) (StepReaches m (macro_line (state_of m old) ts) (raises (f, location)))) (λ m h. subst (λ z. Unless (is_system_error f) (StepReaches m z (raises (f, location)))) (macro_is (state_of m old) ts name params None c.in_ok-name.ensures.header none) (block_refused m (state_of m old) name params f location h)) c.in_err-block.ensures.read)
 
-pub returns-clause-turns : goal.returns-clause-turns
-returns-clause-turns g c =
+pub returns-clause-outcome : goal.returns-clause-outcome
+returns-clause-outcome g c =
     let o = g.S.Store.files c.args.store.now in
     let old = c.args.self.now in
     let ts = lexemes c.args.tokens.now in

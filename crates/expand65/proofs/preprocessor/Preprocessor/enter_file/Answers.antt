@@ -11,12 +11,12 @@ returns-clause-keeps c = λ files.
     let mid = c.push_input.new.self in
     let new : InputStack = record { top = mid.top; outer = mid.outer; budget = mid.budget; location = location } in
     record {
-      stands = stands_so files c.args.self.now.stack new (λ m h. goes_back m mid new location refl refl refl (c.in_ok-push_input.ensures.stands m location (opened_at m c.new.result location (c.new.ensures.name ∙ sym (c.in_ok-copy_of.ensures ∙ c.as_str.ensures)) c.new.ensures.line refl (c.new.ensures.following m)) tt c.in_ok-return_location.ensures h));
+      stands = stands_so files c.args.self.now.stack new (λ m h. goes_back m mid new location refl refl refl (c.in_ok-push_input.ensures.stack_position m location (opened_at m c.new.result location (c.new.ensures.name ∙ sym (c.in_ok-copy_of.ensures ∙ c.as_str.ensures)) c.new.ensures.line refl (c.new.ensures.following m)) tt c.in_ok-return_location.ensures h));
       size = search rules;
     })
 
-pub returns-in_err-push_input-clause-turns : goal.returns-in_err-push_input-clause-turns
-returns-in_err-push_input-clause-turns c = grind (arith, common_steps)
+pub returns-in_err-push_input-clause-outcome : goal.returns-in_err-push_input-clause-outcome
+returns-in_err-push_input-clause-outcome c = grind (arith, common_steps)
 
-pub returns-clause-turns : goal.returns-clause-turns
-returns-clause-turns c = grind (arith, common_steps)
+pub returns-clause-outcome : goal.returns-clause-outcome
+returns-clause-outcome c = grind (arith, common_steps)

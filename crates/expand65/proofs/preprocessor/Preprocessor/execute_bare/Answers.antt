@@ -8,8 +8,8 @@ returns-in-EndIf-clause-keeps g c = c.end_if.ensures.keeps (g.S.Store.files c.ar
 pub returns-in-ExitMacro-clause-keeps : goal.returns-in-ExitMacro-clause-keeps
 returns-in-ExitMacro-clause-keeps g c = c.exit_macro.ensures.keeps (g.S.Store.files c.args.store.now)
 
-pub returns-in-EndIf-clause-turns : goal.returns-in-EndIf-clause-turns
-returns-in-EndIf-clause-turns g c = grind (arith, common_steps)
+pub returns-in-EndIf-clause-outcome : goal.returns-in-EndIf-clause-outcome
+returns-in-EndIf-clause-outcome g c = grind (arith, common_steps)
 
 pub returns-in-End-clause-keeps : goal.returns-in-End-clause-keeps
 returns-in-End-clause-keeps g c = grind (arith, common_steps)
@@ -20,5 +20,5 @@ returns-in-EndIf-clause-stopped g c = grind (arith, common_steps)
 pub returns-in-ExitMacro-clause-stopped : goal.returns-in-ExitMacro-clause-stopped
 returns-in-ExitMacro-clause-stopped g c = grind (arith, common_steps)
 
-pub returns-in-Else-clause-turns : goal.returns-in-Else-clause-turns
-returns-in-Else-clause-turns g c = grind (arith, common_steps)
+pub returns-in-Else-clause-outcome : goal.returns-in-Else-clause-outcome
+returns-in-Else-clause-outcome g c = grind (arith, common_steps)

@@ -9,15 +9,15 @@ use Rattle.expand65.proofs.StepSequences.{acted_by, turns_by}
 use Rattle.expand65.proofs.ExpansionFailures.{stops_by}
 use Rattle.expand65.proofs.preprocessor.Preprocessor.execute_line.Goals as goal
 
-pub returns-in_ok-tokens-in-Some-clause-turns : goal.returns-in_ok-tokens-in-Some-clause-turns
-returns-in_ok-tokens-in-Some-clause-turns g c =
+pub returns-in_ok-tokens-in-Some-clause-outcome : goal.returns-in_ok-tokens-in-Some-clause-outcome
+returns-in_ok-tokens-in-Some-clause-outcome g c =
     let old = c.args.self.now in
     let k = g.K.Knows.meaning c.args.knows.now in
     let ts = tokens_in c.args.line in
     let us = lexemes c.after_first.result.now in
     let d = c.in-Some.directive in
     let following = c.after_first.ensures ∙ ap (λ (l : List Token). drop 1 (lexemes l)) c.as_slice.ensures.value ∙ ap (drop 1) c.in_ok-tokens-in-Some.ensures in
-    turns_by (g.S.Store.files c.args.store.now) c.execute_with_operands.result c.execute_with_operands.new.self (λ m. directive_step k (state_of m old) d us) (λ m. line_step k (state_of m old) ts (first_directive ts)) (λ m. acted_by k (state_of m old) ts us d (sym c.directive.ensures ∙ c.in-Some.is) following) c.execute_with_operands.ensures.turns
+    turns_by (g.S.Store.files c.args.store.now) c.execute_with_operands.result c.execute_with_operands.new.self (λ m. directive_step k (state_of m old) d us) (λ m. line_step k (state_of m old) ts (first_directive ts)) (λ m. acted_by k (state_of m old) ts us d (sym c.directive.ensures ∙ c.in-Some.is) following) c.execute_with_operands.ensures.outcome
 
 pub returns-in_ok-tokens-in-Some-clause-stopped : goal.returns-in_ok-tokens-in-Some-clause-stopped
 returns-in_ok-tokens-in-Some-clause-stopped g c = λ names.

@@ -26,8 +26,8 @@ returns-in_err-next_line-clause-stopped g c = λ names.
     (let p = err_from_is_err_and c.from_residual.result c.from_residual.ensures.1 in
     rw (p.1, p.2) (stops_taking {A = LineOutcome} (g.S.Store.files c.args.store.now) (g.S.Store.last_failure c.next_line.new.store) (g.K.Knows.meaning c.args.knows.now) c.args.self.now c.next_line.new.self (Err c.in_err-next_line.field-0.0) (c.in_err-next_line.ensures.stopped names)))
 
-pub returns-in_err-next_line-clause-turns : goal.returns-in_err-next_line-clause-turns
-returns-in_err-next_line-clause-turns g c =
+pub returns-in_err-next_line-clause-outcome : goal.returns-in_err-next_line-clause-outcome
+returns-in_err-next_line-clause-outcome g c =
     let p = err_from_is_err_and c.from_residual.result c.from_residual.ensures.1 in
     let old = c.args.self.now in
     let k = g.K.Knows.meaning c.args.knows.now in
@@ -35,8 +35,8 @@ returns-in_err-next_line-clause-turns g c =
     let location = c.next_line.new.self.location in
     rw (p.1, p.2) (where_known (g.S.Store.files c.args.store.now) (λ m. Unless (is_system_error f) (ReadsNextLine (remaining_of m old.stack) (Err (f, location)))) (λ m. Unless (is_system_error f) (IsStep m k (state_of m old) (raises (f, location)))) (λ m h. refused_step m k old f location h) c.in_err-next_line.ensures.read)
 
-pub returns-in-None-clause-turns : goal.returns-in-None-clause-turns
-returns-in-None-clause-turns g c =
+pub returns-in-None-clause-outcome : goal.returns-in-None-clause-outcome
+returns-in-None-clause-outcome g c =
     let old = c.args.self.now in
     let new = c.next_line.new.self in
     let o = g.S.Store.files c.args.store.now in
@@ -48,10 +48,10 @@ returns-in-None-clause-turns g c =
     let Q : Option StoredLine → Type 0 = λ l. IfSome o (λ m. IfNone l (remaining_in m new.top.source ≡ [])) in
     let taken = subst P c.in-None.is c.in_ok-next_line.ensures.read in
     let spent = subst Q c.in-None.is c.in_ok-next_line.ensures.at_end in
-    where_both o (λ m. ReadsNextLine (remaining_of m old.stack) (Ok (None, remaining_of m new))) (λ m. remaining_in m new.top.source ≡ []) (λ m. RefinesLineOutcome r (state_of m end) (IsStep m k (state_of m old))) (λ m h e. turns_so r (state_of m end) (λ x. x ≡ end_mark_step (state_of m mid) (remaining_of m new).items) (IsStep m k (state_of m old)) (λ x y. step_taken m k old (Ok (None, remaining_of m new)) x h y) (c.end_input.ensures.turns m e)) taken spent
+    where_both o (λ m. ReadsNextLine (remaining_of m old.stack) (Ok (None, remaining_of m new))) (λ m. remaining_in m new.top.source ≡ []) (λ m. RefinesLineOutcome r (state_of m end) (IsStep m k (state_of m old))) (λ m h e. turns_so r (state_of m end) (λ x. x ≡ end_mark_step (state_of m mid) (remaining_of m new).items) (IsStep m k (state_of m old)) (λ x y. step_taken m k old (Ok (None, remaining_of m new)) x h y) (c.end_input.ensures.outcome m e)) taken spent
 
-pub returns-in-Some-clause-turns : goal.returns-in-Some-clause-turns
-returns-in-Some-clause-turns g c =
+pub returns-in-Some-clause-outcome : goal.returns-in-Some-clause-outcome
+returns-in-Some-clause-outcome g c =
     let old = c.args.self.now in
     let new = c.next_line.new.self in
     let o = g.S.Store.files c.args.store.now in
@@ -62,7 +62,7 @@ returns-in-Some-clause-turns g c =
     let end = c.execute_labelled_line.new.self in
     let P : Option StoredLine → Type 0 = λ l. IfSome o (λ m. ReadsNextLine (remaining_of m old.stack) (Ok (option_map tokens_in l, remaining_of m new))) in
     let taken = subst P c.in-Some.is c.in_ok-next_line.ensures.read in
-    let from = moved_to (λ m. RefinesLineOutcome r (state_of m end) (StepReaches m (unless_mislabelled k (state_of m mid) ts (is_mislabelled ts)))) o (g.S.Store.files c.next_line.new.store) c.in_ok-next_line.ensures.frame.files c.execute_labelled_line.ensures.turns in
+    let from = moved_to (λ m. RefinesLineOutcome r (state_of m end) (StepReaches m (unless_mislabelled k (state_of m mid) ts (is_mislabelled ts)))) o (g.S.Store.files c.next_line.new.store) c.in_ok-next_line.ensures.frame.files c.execute_labelled_line.ensures.outcome in
     where_both o (λ m. ReadsNextLine (remaining_of m old.stack) (Ok (Some ts, remaining_of m new))) (λ m. RefinesLineOutcome r (state_of m end) (StepReaches m (unless_mislabelled k (state_of m mid) ts (is_mislabelled ts)))) (λ m. RefinesLineOutcome r (state_of m end) (IsStep m k (state_of m old))) (λ m h e. turns_so r (state_of m end) (StepReaches m (unless_mislabelled k (state_of m mid) ts (is_mislabelled ts))) (IsStep m k (state_of m old)) (λ x y. step_taken m k old (Ok (Some ts, remaining_of m new)) x h y) e) taken from
 
 pub returns-in-Some-clause-stopped : goal.returns-in-Some-clause-stopped
@@ -78,15 +78,15 @@ returns-in-Some-clause-stopped g c = λ names.
     let P : Option StoredLine → Type 0 = λ l. IfSome o (λ m. ReadsNextLine (remaining_of m old.stack) (Ok (option_map tokens_in l, remaining_of m new))) in
     let last_failure = g.S.Store.last_failure c.execute_labelled_line.new.store in
     let taken = subst P c.in-Some.is c.in_ok-next_line.ensures.read in
-    let stopped = moved_to (λ m. HasFailureLocation (StepFails m last_failure (unless_mislabelled k (state_of m mid) ts (is_mislabelled ts))) new end.stack r) o (g.S.Store.files c.next_line.new.store) c.in_ok-next_line.ensures.frame.files (c.execute_labelled_line.ensures.stopped (stands_where o (g.S.Store.files c.next_line.new.store) new c.in_ok-next_line.ensures.frame.files (c.in_ok-next_line.ensures.stands names))) in
+    let stopped = moved_to (λ m. HasFailureLocation (StepFails m last_failure (unless_mislabelled k (state_of m mid) ts (is_mislabelled ts))) new end.stack r) o (g.S.Store.files c.next_line.new.store) c.in_ok-next_line.ensures.frame.files (c.execute_labelled_line.ensures.stopped (stands_where o (g.S.Store.files c.next_line.new.store) new c.in_ok-next_line.ensures.frame.files (c.in_ok-next_line.ensures.stack_position names))) in
     stops_after o last_failure k old mid end.stack ts r taken (λ m. refl) c.in_ok-next_line.ensures.innermost.mark stopped)
 
-pub returns-in-None-clause-stands : goal.returns-in-None-clause-stands
-returns-in-None-clause-stands g c = λ stands. c.end_input.ensures.stands (g.S.Store.files c.args.store.now) (c.in_ok-next_line.ensures.stands stands)
+pub returns-in-None-clause-stack_position : goal.returns-in-None-clause-stack_position
+returns-in-None-clause-stack_position g c = λ stands. c.end_input.ensures.stack_position (g.S.Store.files c.args.store.now) (c.in_ok-next_line.ensures.stack_position stands)
 
-pub returns-in-Some-clause-stands : goal.returns-in-Some-clause-stands
-returns-in-Some-clause-stands g c = λ stands.
-    stands_on_ok (g.S.Store.files c.args.store.now) (g.S.Store.files c.next_line.new.store) c.execute_labelled_line.result c.next_line.new.self c.execute_labelled_line.new.self.stack c.in_ok-next_line.ensures.frame.files c.execute_labelled_line.ensures.stands (c.in_ok-next_line.ensures.stands stands)
+pub returns-in-Some-clause-stack_position : goal.returns-in-Some-clause-stack_position
+returns-in-Some-clause-stack_position g c = λ stands.
+    stands_on_ok (g.S.Store.files c.args.store.now) (g.S.Store.files c.next_line.new.store) c.execute_labelled_line.result c.next_line.new.self c.execute_labelled_line.new.self.stack c.in_ok-next_line.ensures.frame.files c.execute_labelled_line.ensures.stack_position (c.in_ok-next_line.ensures.stack_position stands)
 
 pub returns-in-None-clause-frame : goal.returns-in-None-clause-frame
 returns-in-None-clause-frame g c = grind (arith, common_steps)

@@ -15,8 +15,8 @@ use Rattle.expand65.proofs.FileSearch.{found_fits}
 use Rattle.expand65.proofs.ExpansionFailures.{only_error, stood, stops_by}
 use Rattle.expand65.proofs.preprocessor.Preprocessor.include.Goals as goal
 
-pub returns-clause-turns : goal.returns-clause-turns
-returns-clause-turns g c =
+pub returns-clause-outcome : goal.returns-clause-outcome
+returns-clause-outcome g c =
     let o = g.S.Store.files c.args.store.now in
     let old = c.args.self.now in
     let ts = lexemes c.args.tokens.now in
@@ -27,7 +27,7 @@ returns-clause-turns g c =
     let r = c.enter_file.result in
     let new = c.enter_file.new.self in
     let text = sym c.string_of.ensures ∙ ap (option_map (λ (s : Bor (List ℕ)). s.now)) c.in-Some.is in
-    turns_by o r new (λ m. include_file (state_of m old) name) (λ m. and_then_step (state_of m old) (ok_or_not_understood (string_of ts)) (include_file (state_of m old))) (λ m. include_is (state_of m old) ts name text) (where_known o (λ m. first_file m (candidate_names includer folders name) ≡ Ok (file_of m file)) (λ m. RefinesLineOutcome r (state_of m new) (StepReaches m (include_file (state_of m old) name))) (λ m h. turns_so r (state_of m new) (λ x. x ≡ file_step (state_of m old) (file_of m file)) (StepReaches m (include_file (state_of m old) name)) (λ x e. include_found m (state_of m old) name includer file folders x c.as_str-includer.ensures c.as_slice.ensures h e) (c.enter_file.ensures.turns m (found_fits m (candidate_names includer folders name) file h))) c.in_ok-file.ensures.found)
+    turns_by o r new (λ m. include_file (state_of m old) name) (λ m. and_then_step (state_of m old) (ok_or_not_understood (string_of ts)) (include_file (state_of m old))) (λ m. include_is (state_of m old) ts name text) (where_known o (λ m. first_file m (candidate_names includer folders name) ≡ Ok (file_of m file)) (λ m. RefinesLineOutcome r (state_of m new) (StepReaches m (include_file (state_of m old) name))) (λ m h. turns_so r (state_of m new) (λ x. x ≡ file_step (state_of m old) (file_of m file)) (StepReaches m (include_file (state_of m old) name)) (λ x e. include_found m (state_of m old) name includer file folders x c.as_str-includer.ensures c.as_slice.ensures h e) (c.enter_file.ensures.outcome m (found_fits m (candidate_names includer folders name) file h))) c.in_ok-file.ensures.found)
 
 pub returns-in_err-file-clause-stopped : goal.returns-in_err-file-clause-stopped
 returns-in_err-file-clause-stopped g c = λ names.

@@ -17,8 +17,8 @@ use Rattle.expand65.proofs.Definitions.{repeated_none, repeated_one, rewritten, 
 use Rattle.expand65.proofs.FilePositions.{goes_back, stands_so}
 use Rattle.expand65.proofs.preprocessor.Preprocessor.repeat.Goals as goal
 
-pub returns-clause-turns : goal.returns-clause-turns
-returns-clause-turns g c =
+pub returns-clause-outcome : goal.returns-clause-outcome
+returns-clause-outcome g c =
     let old = c.args.self.now in
     let rd = c.read_block.new.self in
     let new = c.push_input.new.self in
@@ -31,8 +31,8 @@ returns-clause-turns g c =
     let ready = turns_ready replay body n c.in_ok-body.ensures.ok c.len-at.ensures c.new-arguments.ensures refl c.with_hasher-locals.ensures.empty refl in
     where_known (g.S.Store.files c.args.store.now) (λ m. Block Repeat 0 [] (remaining_of m old.stack) (Ok ((map tokens_in lines, end), remaining_of m rd))) (λ m. StepReaches m (iterations_step (state_of m old) n params) (continues (rewritten m old new (macros_of old)))) (λ m h. let P : ℕ → Type 0 = λ i. Ok (remaining_of m new) ≡ with_lines (remaining_iterations replay 0 n) (record { is_macro = false; conditions = i; return_location = None }) (remaining_of m rd) in repeated_one m old rd new replay body end n h ready (subst P c.len.ensures (c.in_ok-push_input.ensures.entered m))) c.in_ok-block.ensures.read
 
-pub returns-in_err-push_input-clause-turns : goal.returns-in_err-push_input-clause-turns
-returns-in_err-push_input-clause-turns g c =
+pub returns-in_err-push_input-clause-outcome : goal.returns-in_err-push_input-clause-outcome
+returns-in_err-push_input-clause-outcome g c =
     let p = err_from_is_err_and c.from_residual-in_err-push_input.result c.from_residual-in_err-push_input.ensures.1 in
     let f = c.in_err-push_input.field-0.0 in
     let old = c.args.self.now in
@@ -51,4 +51,4 @@ pub returns-clause-keeps : goal.returns-clause-keeps
 returns-clause-keeps g c =
     let mid = c.read_block.new.self in
     let new = c.push_input.new.self in
-    record { stands = λ h. stands_so (g.S.Store.files c.args.store.now) mid new (λ m s. goes_back m new new mid.location refl refl c.push_input.ensures.current_location (c.in_ok-push_input.ensures.stands m mid.location tt refl refl s)) (c.in_ok-block.ensures.stands h); size = search rules }
+    record { stands = λ h. stands_so (g.S.Store.files c.args.store.now) mid new (λ m s. goes_back m new new mid.location refl refl c.push_input.ensures.current_location (c.in_ok-push_input.ensures.stack_position m mid.location tt refl refl s)) (c.in_ok-block.ensures.stack_position h); size = search rules }

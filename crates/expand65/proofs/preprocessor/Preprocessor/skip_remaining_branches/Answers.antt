@@ -5,22 +5,22 @@ use Rattle.expand65.proofs.ExpansionFailures.{else_passed, else_refused, else_no
 use Rattle.expand65.specs.declared.preprocessor.LineOutcome.{LineOutcome}
 use Rattle.expand65.proofs.preprocessor.Preprocessor.skip_remaining_branches.Goals as goal
 
-pub returns-in_err-read_block-in-Some-false-clause-turns : goal.returns-in_err-read_block-in-Some-false-clause-turns
-returns-in_err-read_block-in-Some-false-clause-turns g c =
+pub returns-in_err-read_block-in-Some-false-clause-outcome : goal.returns-in_err-read_block-in-Some-false-clause-outcome
+returns-in_err-read_block-in-Some-false-clause-outcome g c =
     let p = err_from_is_err_and c.from_residual.result c.from_residual.ensures.1 in
     let popped = rw c.in-Some-false.field-0-test at c.in-Some-false.ensures.pops in
     rw (p.1, p.2) (else_refused (g.S.Store.files c.args.store.now) c.args.self.now c.read_block.new.self.location c.pop_above.new.self c.in_err-read_block-in-Some-false.field-0.0 popped c.in_err-read_block-in-Some-false.ensures.read)
 
-pub returns-in_ok-read_block-in-Some-false-clause-turns : goal.returns-in_ok-read_block-in-Some-false-clause-turns
-returns-in_ok-read_block-in-Some-false-clause-turns g c =
+pub returns-in_ok-read_block-in-Some-false-clause-outcome : goal.returns-in_ok-read_block-in-Some-false-clause-outcome
+returns-in_ok-read_block-in-Some-false-clause-outcome g c =
     let popped = rw c.in-Some-false.field-0-test at c.in-Some-false.ensures.pops in
     else_passed (g.S.Store.files c.args.store.now) c.args.self.now c.read_block.new.self c.pop_above.new.self _ popped c.in_ok-read_block-in-Some-false.ensures.read
 
-pub returns-in-None-clause-turns : goal.returns-in-None-clause-turns
-returns-in-None-clause-turns g c = else_none (g.S.Store.files c.args.store.now) c.args.self.now c.in-None.ensures.pops
+pub returns-in-None-clause-outcome : goal.returns-in-None-clause-outcome
+returns-in-None-clause-outcome g c = else_none (g.S.Store.files c.args.store.now) c.args.self.now c.in-None.ensures.pops
 
-pub returns-in-Some-true-clause-turns : goal.returns-in-Some-true-clause-turns
-returns-in-Some-true-clause-turns g c =
+pub returns-in-Some-true-clause-outcome : goal.returns-in-Some-true-clause-outcome
+returns-in-Some-true-clause-outcome g c =
     let popped = rw c.in-Some-true.field-0-test at c.in-Some-true.ensures.pops in
     else_twice (g.S.Store.files c.args.store.now) c.args.self.now c.pop_above.new.self popped
 

@@ -17,6 +17,6 @@ invariant_of-self-2 c = λ running.
     let b = c.self.inside in
     whole_next b.parts c.add_item.new.parts b.scan c.take.new.self (raw_record c.args.next.now) c.in_ok-item.item (c.self.invariant c.if-self.false) c.in_ok-item.ensures.scanned c.in_ok-item.ensures.within c.in_ok-add_item.ensures
 
-pub returns-clause-taken : goal.returns-clause-taken
+pub returns-clause-effect : goal.returns-clause-effect
 unfolding state_after_record scan_step
-returns-clause-taken c = grind (arith, common_steps)
+returns-clause-effect c = grind (arith, common_steps)

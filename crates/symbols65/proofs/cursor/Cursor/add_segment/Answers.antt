@@ -2,7 +2,7 @@ use Rattle.std.proofs.Common.{◌≡◌, ◌∙◌, ◌++◌, ◌∷◌, [], Non
 use Rattle.std.specs.Prelude.{if◌then◌else◌}
 use Rattle.semantics65.specs.declared.contents.Segment.{Segment}
 use Rattle.semantics65.specs.Layout.{Cursor, segment_index}
-use Rattle.symbols65.proofs.Words.{insert_name, with_one}
+use Rattle.symbols65.proofs.InternedNames.{insert_name, with_one}
 use Rattle.symbols65.proofs.Segments.{new_name, sound_begun}
 use Rattle.symbols65.proofs.cursor.Cursor.add_segment.Goals as goal
 

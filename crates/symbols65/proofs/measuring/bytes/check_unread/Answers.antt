@@ -8,8 +8,8 @@ use Rattle.semantics65.specs.Symbols.{Symbols}
 use Rattle.symbols65.specs.Evaluations.{IsEvaluated}
 use Rattle.symbols65.specs.Views.{table_of}
 use Rattle.symbols65.specs.declared.constants.Evaluation.{Evaluation}
-use Rattle.symbols65.proofs.Measures.{refused_same}
-use Rattle.symbols65.proofs.Parts.{unread_len, unread_lost, unread_start, unread_well}
+use Rattle.symbols65.proofs.StatementLayouts.{refused_same}
+use Rattle.symbols65.proofs.FileParts.{unread_len, unread_lost, unread_start, unread_well}
 use Rattle.symbols65.proofs.measuring.bytes.check_unread.Goals as goal
 
 abbrev checks : Symbols → Cursor → Option Tree → Option Tree → Result (Unit {0}) AsmFault

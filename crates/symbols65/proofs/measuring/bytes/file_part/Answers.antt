@@ -4,7 +4,7 @@ use Rattle.base65.specs.Outcome.{Unless}
 use Rattle.ast65.specs.Faults.{is_out_of_memory}
 use Rattle.semantics65.specs.Layout.{context_of, own_size}
 use Rattle.symbols65.specs.Measuring.{range_in_file}
-use Rattle.symbols65.proofs.Parts.{bad_len, bad_start, refused}
+use Rattle.symbols65.proofs.FileParts.{bad_len, bad_start, refused}
 use Rattle.symbols65.proofs.measuring.bytes.file_part.Goals as goal
 
 pub returns-in_err-start : goal.returns-in_err-start

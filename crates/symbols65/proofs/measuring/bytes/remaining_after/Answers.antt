@@ -4,7 +4,7 @@ use Rattle.object65.specs.Objects.{width_len}
 use Rattle.ast65.specs.declared.language.Item.{Item}
 use Rattle.ast65.specs.Items.{items_of}
 use Rattle.semantics65.specs.Norms.{item_len}
-use Rattle.symbols65.proofs.Measures.{numbers_len, what_is_left}
+use Rattle.symbols65.proofs.StatementLayouts.{numbers_len, what_is_left}
 use Rattle.symbols65.proofs.measuring.bytes.remaining_after.Goals as goal
 
 pub returns-in_ok-length-in-Numbers : goal.returns-in_ok-length-in-Numbers

@@ -1,5 +1,5 @@
 use Rattle.std.proofs.Common.{arith}
-use Rattle.symbols65.proofs.Measures.{items_left, none_left}
+use Rattle.symbols65.proofs.StatementLayouts.{items_left, none_left}
 use Rattle.symbols65.proofs.measuring.bytes.remaining_after_mixed.Goals as goal
 
 pub loop-item-preserved : goal.loop-item-preserved

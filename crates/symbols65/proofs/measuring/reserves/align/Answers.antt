@@ -4,7 +4,7 @@ use Rattle.std.proofs.lemmas.Result.{err_from_is_err_and}
 use Rattle.ast65.specs.declared.fault.AsmFault.TheVariants.{BadOperand}
 use Rattle.semantics65.specs.Layout.{context_of, is_byte_value, own_size, fault_if}
 use Rattle.semantics65.specs.Norms.{fill_encoding, optional_value}
-use Rattle.symbols65.proofs.Measures.{aligned_as, aligned_full, aligned_well, as_ok, bad_byte, bad_multiple, fill_refused, fill_there, is_multiple, no_multiple, none_there, refused_same}
+use Rattle.symbols65.proofs.StatementLayouts.{aligned_as, aligned_full, aligned_well, as_ok, bad_byte, bad_multiple, fill_refused, fill_there, is_multiple, no_multiple, none_there, refused_same}
 use Rattle.symbols65.proofs.measuring.reserves.align.Goals as goal
 
 pub returns-then-is_none : goal.returns-then-is_none

@@ -4,7 +4,7 @@ use Rattle.std.proofs.lemmas.Result.{err_from_is_err_and}
 use Rattle.ast65.specs.declared.fault.AsmFault.TheVariants.{BadOperand}
 use Rattle.semantics65.specs.Layout.{context_of, is_byte_value, own_size, fault_if}
 use Rattle.semantics65.specs.Norms.{fill_encoding, optional_value}
-use Rattle.symbols65.proofs.Measures.{as_ok, bad_count, bad_fill, fill_refused, fill_there, refused_same, reserved_as, reserved_full, reserved_well}
+use Rattle.symbols65.proofs.StatementLayouts.{as_ok, bad_count, bad_fill, fill_refused, fill_there, refused_same, reserved_as, reserved_full, reserved_well}
 use Rattle.symbols65.proofs.measuring.reserves.reserve.Goals as goal
 
 pub returns-in_err-count : goal.returns-in_err-count

@@ -1,6 +1,6 @@
 use Rattle.std.proofs.Common.{◌<◌, ◌≤◌, length, ap, sym, arith}
 use Rattle.std.proofs.lemmas.Bool.Decides.{nat_tests}
-use Rattle.symbols65.proofs.Measures.{no_segment}
+use Rattle.symbols65.proofs.StatementLayouts.{no_segment}
 use Rattle.symbols65.proofs.Segments.{segment_is}
 use Rattle.symbols65.proofs.measuring.reserves.size_at.Goals as goal
 

@@ -3,7 +3,7 @@ use Rattle.std.proofs.lemmas.Result.{err_from_is_err_and}
 use Rattle.semantics65.specs.Layout.{context_of, item_trees, missing_scopes_fault, unless_fault}
 use Rattle.symbols65.specs.Views.{table_of}
 use Rattle.symbols65.proofs.Evaluations.{finals_more, item_at}
-use Rattle.symbols65.proofs.Measures.{items_lost, left_after, refused_first, refused_same}
+use Rattle.symbols65.proofs.StatementLayouts.{items_lost, left_after, refused_first, refused_same}
 use Rattle.symbols65.proofs.measuring.trees.evaluate_items.Goals as goal
 
 pub returns-in_err-form-clause-scopes : goal.returns-in_err-form-clause-scopes

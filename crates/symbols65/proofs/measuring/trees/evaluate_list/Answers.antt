@@ -2,7 +2,7 @@ use Rattle.std.proofs.Common.{◌∙◌, ap, sym}
 use Rattle.ast65.specs.Items.{items_of}
 use Rattle.semantics65.specs.Layout.{context_of, item_trees, missing_scopes_fault, unless_fault}
 use Rattle.symbols65.specs.Views.{table_of}
-use Rattle.symbols65.proofs.Measures.{numbers_keep}
+use Rattle.symbols65.proofs.StatementLayouts.{numbers_keep}
 use Rattle.symbols65.proofs.measuring.trees.evaluate_list.Goals as goal
 
 pub returns-in-Numbers-clause-scopes : goal.returns-in-Numbers-clause-scopes

@@ -3,7 +3,7 @@ use Rattle.std.proofs.lemmas.Result.{err_from_is_err_and}
 use Rattle.semantics65.specs.Layout.{context_of, optional_tree}
 use Rattle.symbols65.specs.Views.{table_of}
 use Rattle.symbols65.proofs.Evaluations.{left_of_two, right_of_two}
-use Rattle.symbols65.proofs.Measures.{refused_same}
+use Rattle.symbols65.proofs.StatementLayouts.{refused_same}
 use Rattle.symbols65.proofs.measuring.trees.evaluate_two.Goals as goal
 
 pub returns-in_err-first-clause-scopes : goal.returns-in_err-first-clause-scopes

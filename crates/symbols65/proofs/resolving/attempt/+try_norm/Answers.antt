@@ -6,9 +6,9 @@ use Rattle.ast65.specs.Faults.{is_out_of_memory}
 use Rattle.symbols65.specs.declared.resolving.attempt.AttemptError.{AttemptError}
 use Rattle.symbols65.specs.Resolving.{lacks_memory, binding_form, operand_form, attempt_result}
 use Rattle.symbols65.specs.Views.{known_among, table_of}
-use Rattle.symbols65.proofs.Pursuits.{unless_more}
+use Rattle.symbols65.proofs.FormSearch.{unless_more}
 use Rattle.symbols65.proofs.Scopes.{reference}
-use Rattle.symbols65.proofs.Tries.{operand_tried}
+use Rattle.symbols65.proofs.Attempts.{operand_tried}
 use Rattle.symbols65.proofs.resolving.attempt.+try_norm.Goals as goal
 
 pub returns-in_err-meaning-in-Plain : goal.returns-in_err-meaning-in-Plain

@@ -1,6 +1,6 @@
 use Rattle.symbols65.specs.Resolving.{constant_attempt}
 use Rattle.symbols65.specs.Views.{known_among, table_of}
-use Rattle.symbols65.proofs.Lasts.{last_is}
+use Rattle.symbols65.proofs.LastPending.{last_is}
 use Rattle.symbols65.proofs.resolving.attempt.try_last.Goals as goal
 
 pub returns-in-Some : goal.returns-in-Some

@@ -2,7 +2,7 @@ use Rattle.std.proofs.Common.{rules, arith, ◌≡◌, ◌+◌, ◌-◌, ◌^◌
 use Rattle.ast65.specs.declared.fault.AsmFault.TheVariants.{NoSuchLabel}
 use Rattle.semantics65.specs.Symbols.{binding_or_fault}
 use Rattle.symbols65.specs.Views.{interned_names_of}
-use Rattle.symbols65.proofs.Words.{never_counted}
+use Rattle.symbols65.proofs.InternedNames.{never_counted}
 use Rattle.symbols65.proofs.resolving.bindings.label_after.Goals as goal
 
 pub returns-in_err-count-in-Some : goal.returns-in_err-count-in-Some

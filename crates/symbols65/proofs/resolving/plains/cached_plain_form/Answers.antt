@@ -6,7 +6,7 @@ use Rattle.symbols65.specs.declared.table.symbols.SearchEntry.TheVariants.{Known
 use Rattle.symbols65.specs.Tables.{entry_at}
 use Rattle.symbols65.specs.Views.{table_of}
 use Rattle.symbols65.proofs.Entries.{mark_says}
-use Rattle.symbols65.proofs.Pursuits.{plain_known}
+use Rattle.symbols65.proofs.FormSearch.{plain_known}
 use Rattle.symbols65.proofs.resolving.plains.cached_plain_form.Goals as goal
 
 pub returns-in-Some-KnownForm : goal.returns-in-Some-KnownForm

@@ -1,5 +1,5 @@
 use Rattle.symbols65.specs.Views.{table_of}
-use Rattle.symbols65.proofs.Turns.{extends_itself}
+use Rattle.symbols65.proofs.ExpansionDepths.{extends_itself}
 use Rattle.symbols65.proofs.resolving.plains.is_blocked.Goals as goal
 
 pub returns-in-Some : goal.returns-in-Some

@@ -9,8 +9,8 @@ use Rattle.symbols65.specs.Resolving.{binding_in, plain_result}
 use Rattle.symbols65.specs.Views.{final_form, table_of}
 use Rattle.symbols65.proofs.Blockers.{operand_defined}
 use Rattle.symbols65.proofs.Finals.{more_ok}
-use Rattle.symbols65.proofs.Settling.{finals_found}
-use Rattle.symbols65.proofs.Sizing.{operand_norm}
+use Rattle.symbols65.proofs.KnownForms.{finals_found}
+use Rattle.symbols65.proofs.PlainForms.{operand_norm}
 use Rattle.symbols65.proofs.resolving.plains.plain_form_of_binding.Goals as goal
 
 pub returns-in-Some-Some : goal.returns-in-Some-Some

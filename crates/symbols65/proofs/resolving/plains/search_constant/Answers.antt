@@ -4,7 +4,7 @@ use Rattle.semantics65.specs.Norms.{defined_form, form_of_definition, form_of_va
 use Rattle.symbols65.specs.Resolving.{FindsForm, IsEntryOf}
 use Rattle.symbols65.specs.Tables.{KeepsSearches}
 use Rattle.symbols65.specs.Views.{table_of}
-use Rattle.symbols65.proofs.Pursuits.{entry_kept, searched_more}
+use Rattle.symbols65.proofs.FormSearch.{entry_kept, searched_more}
 use Rattle.symbols65.proofs.resolving.plains.search_constant.Goals as goal
 
 pub run_search-found-requires : goal.run_search-found-requires

@@ -5,7 +5,7 @@ use Rattle.semantics65.specs.Symbols.{definition_index, first_found, named, outw
 use Rattle.symbols65.specs.declared.table.symbols.InternedKey.TheVariants as entry
 use Rattle.symbols65.specs.Views.{table_of, interned_names_of}
 use Rattle.symbols65.proofs.Scopes.{found_nowhere, outward_first, outward_last, outward_next}
-use Rattle.symbols65.proofs.Words.{finds, place_of_entry}
+use Rattle.symbols65.proofs.InternedNames.{finds, place_of_entry}
 use Rattle.symbols65.proofs.resolving.scopes.defined_outward.Goals as goal
 use Rattle.symbols65.proofs.resolving.scopes.defined_outward.Goals.{then-scope-eq-GLOBAL-via-then-scope-eq-GLOBAL, then-scope-eq-GLOBAL-via-else-scope-eq-GLOBAL+then-left-eq0}
 

@@ -19,13 +19,13 @@ use Rattle.symbols65.specs.Tables.{AreSearched, entries_at, entry_at}
 use Rattle.symbols65.specs.Views.{entry_form, known_by, table_of}
 use Rattle.symbols65.proofs.Chains.{Among, last_course}
 use Rattle.symbols65.proofs.Entries.{meets_form, meets_mark, past_form, past_mark, unmet_fewer, unmet_no_more}
-use Rattle.symbols65.proofs.Lasts.{last_tried}
-use Rattle.symbols65.proofs.Pursuits.{InheritsErrors, IsPursuit, all_recorded, ends_recorded, known_of, known_same, last_circular, last_faults, last_lacks, pursuit_known, pursuit_leads, pursuit_meets, pursuit_needs, pursuit_starts, pursuit_up, search_done, search_ends, still_unmarked, unless_more}
-use Rattle.symbols65.proofs.Tries.{IsAttempt, attempt_at, attempt_first, attempt_last}
-use Rattle.symbols65.proofs.Turns.{EventuallyEquals, comes_to_norm, expression_course}
+use Rattle.symbols65.proofs.LastPending.{last_tried}
+use Rattle.symbols65.proofs.FormSearch.{InheritsErrors, IsPursuit, all_recorded, ends_recorded, known_of, known_same, last_circular, last_faults, last_lacks, pursuit_known, pursuit_leads, pursuit_meets, pursuit_needs, pursuit_starts, pursuit_up, search_done, search_ends, still_unmarked, unless_more}
+use Rattle.symbols65.proofs.Attempts.{IsAttempt, attempt_at, attempt_first, attempt_last}
+use Rattle.symbols65.proofs.ExpansionDepths.{EventuallyEquals, comes_to_norm, expression_course}
 use Rattle.symbols65.proofs.resolving.search.run_search.Goals as goal
 
--- an expression without a form
+-- an error has no form
 no_form : (r : Result Form AsmFault) (z : AsmFault) → r ≡ Err z → result_ok r ≡ None
 no_form r z is = ap result_ok is
 
@@ -40,7 +40,7 @@ module _ (t : Symbols) (s : Context) (e : Tree) where
   abbrev course : ℕ → Result Form AsmFault
   course = expression_course (table_of t) s e
 
-  -- the attempt at the last that is pending, by the forms that are known
+  -- the attempt at the last pending constant, by the known forms
   abbrev last_by : (ℕ → Option Form) → List ℕ → Result Form AttemptError
   last_by known ws = last_attempt (constant_attempt known (table_of t)) (form_attempt known (table_of t) s e) ws
 
@@ -62,14 +62,14 @@ module _ (t : Symbols) (s : Context) (e : Tree) where
     leads : (j : ℕ) → last_at ≡ Err (Needs j) → InheritsErrors (table_of t) (last_course (table_of t) course ws) j × (j < count)
     leads j needs = pursuit_leads t before met course ws p last_at j attempt needs
 
-    -- the search ends with an error: that of the last that is pending
+    -- an error of the last pending constant is an error of the expression
     ended : (z : AsmFault) → EventuallyEquals (last_course (table_of t) course ws) (Err z) → norm_of (table_of t) s e ≡ Err z
     ended z ends = comes_to_norm (table_of t) s e (Err z) (search_ends t before met course ws p z ends)
 
     faults : (z : AsmFault) → last_at ≡ Err (Fault z) → EventuallyEquals (last_course (table_of t) course ws) (Err z)
     faults z is = last_faults t before met course ws p last_at z attempt is
 
-    -- a constant is needed that the search has met: it is pending, or had no form before
+    -- a needed constant with an entry is pending, or had an entry without a form before the search
     met_before : (j : ℕ) → last_at ≡ Err (Needs j) → is_some (met j) ≡ true → Among j ws ⊎ (before j ≡ Some None)
     met_before j needs there = pursuit_meets t before met course ws p last_at j attempt needs there
 
@@ -96,7 +96,7 @@ module _ (t : Symbols) (s : Context) (e : Tree) where
     found : (f : Form) → ws ≡ [] → last_at ≡ Ok f → norm_of (table_of t) s e ≡ Ok f
     found f empty is = comes_to_norm (table_of t) s e (Ok f) (search_done t before met course ws p empty last_at f attempt is)
 
--- ---- The answers.
+-- ---- The goals.
 
 pub find-init : goal.find-init
 find-init c =

@@ -3,8 +3,8 @@ use Rattle.indexmap.specs.IndexMap.{get}
 use Rattle.symbols65.specs.Tables.{ArePast, entries_at}
 use Rattle.symbols65.specs.Views.{table_of}
 use Rattle.symbols65.proofs.Entries.{unmet}
-use Rattle.symbols65.proofs.Pursuits.{IsPursuit}
-use Rattle.symbols65.proofs.Turns.{expression_course}
+use Rattle.symbols65.proofs.FormSearch.{IsPursuit}
+use Rattle.symbols65.proofs.ExpansionDepths.{expression_course}
 use Rattle.symbols65.proofs.resolving.search.run_search.Given as goal
 
 abbrev pub invariant-find : goal.invariant-find

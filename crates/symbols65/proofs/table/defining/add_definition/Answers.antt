@@ -8,8 +8,8 @@ use Rattle.symbols65.specs.declared.table.symbols.Definition.{Definition}
 use Rattle.symbols65.specs.declared.table.symbols.InternedKey.{InternedKey}
 use Rattle.symbols65.specs.Tables.{AreCounted, AreFinal, AreInnerKnown, AreNumbered, KeepsSearches, definition_in, table_in, table_without_imports, key_name_id}
 use Rattle.symbols65.specs.Views.{table_of, with_definition, interned_names_of}
-use Rattle.symbols65.proofs.Growing.{after, counted_pushed, final_pushed, inner_kept, inner_pushed, numbered_pushed}
-use Rattle.symbols65.proofs.Keeping.{searches_kept, searches_pushed}
+use Rattle.symbols65.proofs.TableGrowth.{after, counted_pushed, final_pushed, inner_kept, inner_pushed, numbered_pushed}
+use Rattle.symbols65.proofs.PreservedBindings.{searches_kept, searches_pushed}
 use Rattle.symbols65.proofs.table.defining.add_definition.Goals as goal
 
 pub invariant_of-symbols : goal.invariant_of-symbols

@@ -4,8 +4,8 @@ use Rattle.ast65.proofs.Lists.{map_length, on_ok}
 use Rattle.symbols65.specs.Resolving.{KeepsBindings}
 use Rattle.symbols65.specs.Tables.{StoresFinalForm, definition_in, definition_view, key_of}
 use Rattle.symbols65.specs.Views.{table_of, with_definition, interned_names_of}
-use Rattle.symbols65.proofs.Growing.{entry_is}
-use Rattle.symbols65.proofs.Words.{finds, place_of_entry}
+use Rattle.symbols65.proofs.TableGrowth.{entry_is}
+use Rattle.symbols65.proofs.InternedNames.{finds, place_of_entry}
 use Rattle.symbols65.proofs.table.defining.define.Goals as goal
 
 pub add_definition-requires-clause-number : goal.add_definition-requires-clause-number

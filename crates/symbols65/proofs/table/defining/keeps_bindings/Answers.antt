@@ -5,7 +5,7 @@ use Rattle.symbols65.specs.declared.table.symbols.Key.{Key}
 use Rattle.symbols65.specs.declared.table.symbols.Key.TheVariants as key
 use Rattle.symbols65.specs.Tables.{key_of}
 use Rattle.symbols65.specs.Views.{table_of}
-use Rattle.symbols65.proofs.Keeping.{keeps_label, keeps_unknown}
+use Rattle.symbols65.proofs.PreservedBindings.{keeps_label, keeps_unknown}
 use Rattle.symbols65.proofs.table.defining.keeps_bindings.Goals as goal
 
 pub returns-in-Named : goal.returns-in-Named

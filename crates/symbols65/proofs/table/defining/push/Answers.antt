@@ -3,7 +3,7 @@ use Rattle.symbols65.specs.contracts.table.symbols.InternedKeyPartialEq.TheImpl.
 use Rattle.symbols65.specs.declared.table.symbols.InternedKey.{InternedKey}
 use Rattle.symbols65.specs.declared.table.symbols.InternedKey.TheVariants as entry
 use Rattle.symbols65.specs.Tables.{same_interned_key}
-use Rattle.symbols65.proofs.Growing.{inserted_by}
+use Rattle.symbols65.proofs.TableGrowth.{inserted_by}
 use Rattle.symbols65.proofs.table.defining.push.Goals as goal
 
 agree : (x y : InternedKey) → eq-value.it x y ≡ same_interned_key x y

@@ -20,7 +20,7 @@ read_operand-returns-in_default-start t c =
     record {
       phrase = bad_operand (lexemes c.args.tokens.now) c.args.depth_left c.args.at c.operand_start_at-start.result c.operand_start_at-start.ensures.value none c.in_default-start.not-Name c.in_default-start.not-Scope c.in_default-start.not-Prefix c.in_default-start.not-Parenthesis;
       further = tt;
-      inside = tt;
+      in_bounds = tt;
     }
 
 pub read_prefixed-returns-then-depth_left-eq0-clause-phrase : goal.read_prefixed-returns-then-depth_left-eq0-clause-phrase
@@ -79,7 +79,7 @@ pub read_level-operators-init : goal.read_level-operators-init
 read_level-operators-init t c = record {
   part = operand_part (lexemes c.args.tokens.now) c.args.depth_left c.args.level c.args.at _ _ c.in_ok-left.ensures.phrase;
   further = c.in_ok-left.ensures.further;
-  within = c.in_ok-left.ensures.inside;
+  within = c.in_ok-left.ensures.in_bounds;
 }
 
 pub read_level-returns-in_err-right-clause-phrase : goal.read_level-returns-in_err-right-clause-phrase
@@ -93,7 +93,7 @@ read_level-operators-preserved t c = record {
       rw c.new-left.ensures (joined_part (lexemes c.args.tokens.now) c.args.depth_left c.args.level c.in-Some.own c.args.at c.operators.end _ c.in-Some.op c.operators.left c.in_ok-right.right _ _ c.operators.invariant.part c.in-Some.ensures.value.0 c.in-Some.ensures.value.1.0 c.in-Some.ensures.value.1.1 c.in_ok-right.ensures.phrase
       (ap (λ o. o.left) c.in_ok-new.ensures.ok) (ap (λ o. o.right) c.in_ok-new.ensures.ok));
   further = omega (arith, c.operators.invariant.further, c.in_ok-right.ensures.further);
-  within = c.in_ok-right.ensures.inside;
+  within = c.in_ok-right.ensures.in_bounds;
 }
 
 pub read_level-returns-clause-phrase : goal.read_level-returns-clause-phrase

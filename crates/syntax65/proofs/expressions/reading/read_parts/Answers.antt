@@ -17,7 +17,7 @@ returns-then-not-is_scope-clause-parts c =
 pub parts-preserved : goal.parts-preserved
 parts-preserved c = record {
   later = omega (arith, c.parts.invariant.later);
-  within = omega (arith, c.if-not-is_scope.ensures.inside refl);
+  within = omega (arith, c.if-not-is_scope.ensures.in_bounds refl);
   so_far =
       next_name (lexemes c.args.tokens.now) c.args.at c.parts.end c.parts.parts c.push.new.self c.from_vec.result c.parts.invariant.so_far
       (c.if-not-is_name.ensures.value.0 refl) (c.if-not-is_scope.ensures.value.0 refl)

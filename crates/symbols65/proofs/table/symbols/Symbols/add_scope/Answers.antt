@@ -4,7 +4,7 @@ use Rattle.indexmap.specs.IndexMap.{get}
 use Rattle.symbols65.specs.declared.table.symbols.ScopeKey.{ScopeKey}
 use Rattle.symbols65.specs.Tables.{AreDistinct, AreFinal, AreNumbered, table_in, scope_name_id}
 use Rattle.symbols65.specs.Views.{interned_names_of}
-use Rattle.symbols65.proofs.Growing.{after, distinct_pushed, final_scoped, none_searched, numbered_pushed}
+use Rattle.symbols65.proofs.TableGrowth.{after, distinct_pushed, final_scoped, none_searched, numbered_pushed}
 use Rattle.symbols65.proofs.table.symbols.Symbols.add_scope.Goals as goal
 
 pub invariant_of-self : goal.invariant_of-self

@@ -1,7 +1,7 @@
 use Rattle.std.proofs.Common.{sym, ap, ◌∙◌}
 use Rattle.symbols65.specs.Tables.{key_of}
 use Rattle.symbols65.specs.Views.{interned_names_of}
-use Rattle.symbols65.proofs.Words.{finds, place_of_entry}
+use Rattle.symbols65.proofs.InternedNames.{finds, place_of_entry}
 use Rattle.symbols65.proofs.table.symbols.Symbols.defined.Goals as goal
 
 pub returns-in-Some : goal.returns-in-Some

@@ -2,7 +2,7 @@ use Rattle.std.proofs.Common.{◌∙◌, option_map, sym, ap}
 use Rattle.semantics65.specs.Symbols.{named}
 use Rattle.symbols65.specs.declared.table.symbols.InternedKey.TheVariants as entry
 use Rattle.symbols65.specs.Views.{interned_names_of}
-use Rattle.symbols65.proofs.Words.{finds, place_of_entry}
+use Rattle.symbols65.proofs.InternedNames.{finds, place_of_entry}
 use Rattle.symbols65.proofs.table.symbols.Symbols.defined_in.Goals as goal
 
 pub returns : goal.returns

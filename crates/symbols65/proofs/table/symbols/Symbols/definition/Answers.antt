@@ -1,7 +1,7 @@
 use Rattle.std.proofs.Common.{sym}
 use Rattle.symbols65.specs.Tables.{definition_in}
 use Rattle.symbols65.specs.Views.{interned_names_of}
-use Rattle.symbols65.proofs.Words.{get_mapped_none, without_imports}
+use Rattle.symbols65.proofs.InternedNames.{get_mapped_none, without_imports}
 use Rattle.symbols65.proofs.table.symbols.Symbols.definition.Goals as goal
 
 pub returns-in-Some-clause-forms : goal.returns-in-Some-clause-forms

@@ -2,7 +2,7 @@ use Rattle.std.proofs.Common.{◌≡◌, ◌∙◌, map, nat_eq, ap}
 use Rattle.symbols65.specs.Tables.{AreFinal, AreNumbered, KeepsSearches, definition_in, scope_opened, table_in, key_name_id, scope_name_id}
 use Rattle.symbols65.specs.Views.{interned_names_of}
 use Rattle.indexmap.specs.IndexMap.{get, keys}
-use Rattle.symbols65.proofs.Growing.{begun, definitions_stay, final_more, numbered_more, scopes_stay, searched_more}
+use Rattle.symbols65.proofs.TableGrowth.{begun, definitions_stay, final_more, numbered_more, scopes_stay, searched_more}
 use Rattle.symbols65.proofs.table.symbols.Symbols.intern_name.Goals as goal
 
 pub invariant_of-self : goal.invariant_of-self

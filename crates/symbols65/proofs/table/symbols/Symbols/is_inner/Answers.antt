@@ -1,7 +1,7 @@
 use Rattle.std.proofs.Common.{◌≡◌, ◌∙◌, Some, None, length, slice_get, refl, sym, ap, false}
 use Rattle.std.proofs.lemmas.Option.{slice_get_past, slice_get_read}
 use Rattle.symbols65.specs.Views.{interned_names_of}
-use Rattle.symbols65.proofs.Words.{never_inner}
+use Rattle.symbols65.proofs.InternedNames.{never_inner}
 use Rattle.symbols65.proofs.table.symbols.Symbols.is_inner.Goals as goal
 
 pub returns-in-Some : goal.returns-in-Some

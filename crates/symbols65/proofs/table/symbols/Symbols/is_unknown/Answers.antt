@@ -4,7 +4,7 @@ use Rattle.std.specs.Str.{bytes_eq}
 use Rattle.semantics65.specs.Symbols.{definition_index, import_index, named}
 use Rattle.symbols65.specs.declared.table.symbols.InternedKey.TheVariants as entry
 use Rattle.symbols65.specs.Views.{table_of, interned_names_of}
-use Rattle.symbols65.proofs.Words.{finds, place_of_entry}
+use Rattle.symbols65.proofs.InternedNames.{finds, place_of_entry}
 use Rattle.symbols65.proofs.table.symbols.Symbols.is_unknown.Goals as goal
 
 none_is : (o : Option ℕ) (b : Bool) → is_some o ≡ not b → b ≡ true → o ≡ None

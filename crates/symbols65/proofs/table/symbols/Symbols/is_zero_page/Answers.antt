@@ -1,5 +1,5 @@
 use Rattle.std.proofs.Common.{◌∙◌}
-use Rattle.symbols65.proofs.Words.{any_swapped}
+use Rattle.symbols65.proofs.InternedNames.{any_swapped}
 use Rattle.symbols65.proofs.table.symbols.Symbols.is_zero_page.Goals as goal
 
 pub returns : goal.returns

@@ -2,7 +2,7 @@ use Rattle.std.proofs.Common.{◌∙◌, length, option_map, ap}
 use Rattle.semantics65.specs.Layout.{opened_twice}
 use Rattle.ast65.proofs.Lists.{on_ok}
 use Rattle.symbols65.specs.Views.{table_of, with_scope, interned_names_of}
-use Rattle.symbols65.proofs.Growing.{opened_once, opening_distinct, opening_numbered, opening_scope}
+use Rattle.symbols65.proofs.TableGrowth.{opened_once, opening_distinct, opening_numbered, opening_scope}
 use Rattle.symbols65.proofs.table.symbols.Symbols.open_scope.Goals as goal
 
 pub add_scope-requires-clause-number : goal.add_scope-requires-clause-number

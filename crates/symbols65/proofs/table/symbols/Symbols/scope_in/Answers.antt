@@ -2,7 +2,7 @@ use Rattle.std.proofs.Common.{◌≡◌, suc, ◌+◌, Some, option_map, sym, ap
 use Rattle.semantics65.specs.Symbols.{one_based}
 use Rattle.symbols65.specs.declared.table.symbols.ScopeKey.TheVariants as opening
 use Rattle.symbols65.specs.Views.{interned_names_of}
-use Rattle.symbols65.proofs.Words.{finds_opened, place_of_opening}
+use Rattle.symbols65.proofs.InternedNames.{finds_opened, place_of_opening}
 use Rattle.symbols65.proofs.table.symbols.Symbols.scope_in.Goals as goal
 
 pub returns-in-Some-scope_index : goal.returns-in-Some-scope_index

@@ -77,7 +77,7 @@ def lists_of(tokens, names):
             while opened and CLOSED_BY.get(opened[-1][0], ">") != word:
                 opened.pop()
             opened = opened[:-1]
-        elif word in ("{", ";"):
+        elif word in ("{", "}", ";"):
             opened = []
         elif word in names and tokens[at + 1 : at + 2] != ["::"] and opened:
             is_generic = any(around == "<" and front not in ONE | {"impl", "for"} for around, front in opened)

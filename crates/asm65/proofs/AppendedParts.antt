@@ -2,7 +2,7 @@
 use Rattle.std.proofs.Common.{◌≡◌, ℕ, List, refl, sym, ap, subst}
 use Rattle.std.specs.Prelude.{ℤ, Bool, true, Some, None, Result, Ok, Err, if◌then◌else◌}
 use Rattle.semantics65.specs.Norms.{literal_in}
-use Rattle.object65.specs.Form.{Form, lit, sec, imp, prefix, binary}
+use Rattle.object65.specs.Form.{Form, lit}
 use Rattle.object65.specs.Objects.{fits_width, is_file_name, value_bytes}
 use Rattle.base65.specs.declared.width.Width.{Width}
 use Rattle.syntax65.specs.declared.source_location.SourceLocation.{SourceLocation}
@@ -32,18 +32,12 @@ literal_put old new g width location v bytes fits same feeds =
 
 pub literal_is : (f : Form) (v : ℤ) → literal_in (Ok f) ≡ Some v → f ≡ lit v
 literal_is (lit w) v e = let same : w ≡ v = cc in ap lit same
-literal_is (sec k a) v e = absurd cc
-literal_is (imp k) v e = absurd cc
-literal_is (prefix op f) v e = absurd cc
-literal_is (binary op f g) v e = absurd cc
+literal_is _ v e = absurd cc
 
 -- the part of any other form is a deferred value with its location, or the error of its file name
 pub other_stored : (width : Width) (location : SourceLocation) (f : Form) → literal_in (Ok f) ≡ None → value_part width location f ≡ with_file_name_check location (LinkTimeValue width location f)
 other_stored width location (lit w) e = absurd cc
-other_stored width location (sec k a) e = refl
-other_stored width location (imp k) e = refl
-other_stored width location (prefix op f) e = refl
-other_stored width location (binary op f g) e = refl
+other_stored width location _ e = refl
 
 -- this part is appended if an object can contain the name of the file
 pub other_put : (old new : Sections) (g : ℕ) (width : Width) (location : SourceLocation) (f : Form) → literal_in (Ok f) ≡ None → is_file_name location.file ≡ true → AppendsSlot old new (resolved (section_part g (LinkTimeValue width location f))) → AppendsPart old new g (value_part width location f) true

@@ -1,5 +1,6 @@
 -- Properties of a result that follow from its error.
-use Rattle.std.proofs.Common.{◌≡◌, ◌∙◌, ℕ, Bool, true, false, refl, sym, ap}
+use Rattle.std.proofs.lemmas.Grind.{common_steps}
+use Rattle.std.proofs.Common.{◌≡◌, ◌∙◌, ℕ, Bool, true, false, refl, sym, ap, arith}
 use Rattle.std.specs.Prelude.{Ok, Err, IfOk, IfErr, IsErrAnd, ◌||◌}
 use Rattle.base65.specs.Store.{FailsAtLastCount, PropagatesIoError, PropagatesIoErrors}
 use Rattle.syntax65.specs.Faults.{is_system_error as is_expand_system_error}
@@ -30,8 +31,7 @@ first_as e (Err x) h k = (h, k)
 -- ---- The error is no system error.
 
 no_failure : (b c : Bool) → (b || c) ≡ false → c ≡ false
-no_failure true c h = absurd cc
-no_failure false c h = h
+no_failure b c h = grind (arith, common_steps)
 
 pub inside_as : (e : AsmFault) (r : Found) → is_system_error e ≡ false → IfErr r (λ x. is_store_failure x ≡ false) → IfErr r (λ x. is_store_failure x ≡ is_failure e)
 inside_as e (Ok o) inside h = tt

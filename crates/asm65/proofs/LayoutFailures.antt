@@ -20,7 +20,8 @@ use Rattle.asm65.specs.declared.texts.Diagnostic.{Diagnostic}
 use Rattle.asm65.specs.Assembly.{is_store_failure, located_fault}
 use Rattle.asm65.specs.Failing.{ReachesState, first_state, next_state, IsFailureLocation, FailsAfterLayout, FailsAtSource, IsStoreFailureOutcome, ReportsStoreFailure}
 use Rattle.asm65.specs.Internal.StoreFailures.{RunFailsAfterStatements, RunReportsStoreFailure}
-use Rattle.asm65.proofs.Sources.{some_then}
+use Rattle.asm65.proofs.Runs.{some_then}
+use Rattle.asm65.proofs.Sources.{}
 
 record LaidTo (m : Files) (job : Job) (s : expand.State) (t : State) : Type 0 where
   layout : Layout

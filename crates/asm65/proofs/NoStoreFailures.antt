@@ -44,8 +44,7 @@ inside_then (Err e) f h k = h
 inside_folded : (r : Result Form FormFault) → IsInside (fold_result r)
 inside_folded (Ok f) = tt
 inside_folded (Err form.OutOfMemory) = refl
-inside_folded (Err form.NoValue) = refl
-inside_folded (Err form.TooLarge) = refl
+inside_folded _ = refl
 
 inside_form : (operand : Tree → Result Form AsmFault) (s : Context) → ((t : Tree) → IsInside (operand t)) → (e : Tree) → IsInside (form_by operand s e)
 inside_form operand s h (number v) = tt
@@ -132,10 +131,7 @@ inside_stored w location (binary_form op f g) = inside_written location (LinkTim
 
 inside_branch : (w : Width) (s : Context) (f : Form) → IsInside (operand_form w s f)
 inside_branch width.Branch s f = inside_folded _
-inside_branch width.Byte s f = tt
-inside_branch width.Word s f = tt
-inside_branch width.BigEndianWord s f = tt
-inside_branch width.Dword s f = tt
+inside_branch _ s f = tt
 
 inside_part : (g : ℕ) (r : Result Part AsmFault) → IsInside r → IsInside (r >>= part_result g)
 inside_part g (Ok p) h = tt
@@ -261,11 +257,7 @@ inside_lost cs scope (name false (n ∷ m ∷ parts)) = inside_unless (scope_fro
 inside_lost cs scope (name true parts) = inside_unless (scope_from cs scope true (scope_path parts)) _ refl
 inside_lost cs scope (unary op e) = inside_lost cs scope e
 inside_lost cs scope (binary op e f) = inside_either (faults.missing_scope_fault cs scope e) (faults.missing_scope_fault cs scope f) (inside_lost cs scope e) (inside_lost cs scope f)
-inside_lost cs scope (number v) = no_fault
-inside_lost cs scope here = no_fault
-inside_lost cs scope (cheap n) = no_fault
-inside_lost cs scope (forward n) = no_fault
-inside_lost cs scope (backward n) = no_fault
+inside_lost cs scope _ = no_fault
 
 inside_lost_all : (cs : List Scope) (scope : ℕ) (es : List Tree) → AreInsideFaults (faults.missing_scopes_fault cs scope es)
 inside_lost_all cs scope [] = no_fault
@@ -327,13 +319,13 @@ inside_pop : (kept : List ℕ) (x : Statement) → AreInsideFaults (faults.pop_f
 inside_pop kept statement.PopSegment = inside_when _ _ refl
 inside_pop kept _ = no_fault
 
-abbrev AllInside : List (Option AsmFault) → Type 0
-AllInside [] = Unit {0}
-AllInside (o ∷ os) = AreInsideFaults o × AllInside os
+data AllInside : List (Option AsmFault) → Type 0 where
+  none : AllInside []
+  also : (o : Option AsmFault) (os : List (Option AsmFault)) → AreInsideFaults o → AllInside os → AllInside (o ∷ os)
 
 first_inside : (os : List (Option AsmFault)) → AllInside os → AreInsideFaults (faults.first_fault os)
-first_inside [] h = no_fault
-first_inside (o ∷ os) h = inside_first o os h.0 (first_inside os h.1)
+first_inside _ none = no_fault
+first_inside _ (also o os h all) = inside_first o os h (first_inside os all)
 
 -- the error of a statement at its line is no failure of the store
 pub line_inside : (y : Symbols) (w : Cursor) (x : Statement) → AreInsideFaults (faults.line_fault y w x)
@@ -355,46 +347,20 @@ line_inside y w x =
     ∷ faults.block_fault y.scopes s.scope x
     ∷ faults.pop_fault w.pushed_segments x
     ∷ faults.fault_if full SectionTooLarge
-    ∷ []) (
-      inside_when outside NotUnderstood refl,
-      (
-        inside_lost_all y.scopes s.scope (faults.trees_of x),
-        (
-          inside_opened y.scopes s.scope (faults.scope_name x),
-          (
-            inside_twice y (key_defined s x),
-            (
-              inside_form_fault y s (own_size w) x,
-              (
-                inside_operand_fault y s x,
-                (
-                  inside_alignment y s x,
-                  (
-                    inside_missing x,
-                    (
-                      inside_part_fault y s x,
-                      (
-                        inside_size w.segments x,
-                        (
-                          inside_block y.scopes s.scope x,
-                          (
-                            inside_pop w.pushed_segments x,
-                            (
-                              inside_when full SectionTooLarge refl,
-                              tt,
-                            ),
-                          ),
-                        ),
-                      ),
-                    ),
-                  ),
-                ),
-              ),
-            ),
-          ),
-        ),
-      ),
-    )
+    ∷ [])
+    (also _ _ (inside_when outside NotUnderstood refl)
+    (also _ _ (inside_lost_all y.scopes s.scope (faults.trees_of x))
+    (also _ _ (inside_opened y.scopes s.scope (faults.scope_name x))
+    (also _ _ (inside_twice y (key_defined s x))
+    (also _ _ (inside_form_fault y s (own_size w) x)
+    (also _ _ (inside_operand_fault y s x)
+    (also _ _ (inside_alignment y s x)
+    (also _ _ (inside_missing x)
+    (also _ _ (inside_part_fault y s x)
+    (also _ _ (inside_size w.segments x)
+    (also _ _ (inside_block y.scopes s.scope x)
+    (also _ _ (inside_pop w.pushed_segments x)
+    (also _ _ (inside_when full SectionTooLarge refl) none)))))))))))))
 
 inside_unless_fault : {A : Type 0} (o : Option AsmFault) (x : A) → AreInsideFaults o → IsInside (unless_fault o x)
 inside_unless_fault None x h = tt
@@ -404,13 +370,9 @@ inside_unless_fault (Some e) x h = h e refl
 pub measured_inside : {X : Type 0} (r : Result X AsmFault) (view : X → StatementLayout) (y : Symbols) (w : Cursor) (x : Statement) → Refines is_out_of_memory view r (layout_result y w x) → IsInside r
 measured_inside r view y w x h = inside_from r view (layout_result y w x) (inside_unless_fault (faults.line_fault y w x) (layout_of_statement y w x) (line_inside y w x)) h
 
-either_inside : (a b : Option AsmFault) → AreInsideFaults a → AreInsideFaults b → AreInsideFaults (faults.or_then a b)
-either_inside (Some e) b h k = h
-either_inside None b h k = k
-
 -- the same for errors that don't depend on the file
 pub unread_inside : (r : Result (Unit {0}) AsmFault) (y : Symbols) (w : Cursor) (start len : Option Tree) → Refines is_out_of_memory (λ u. u) r (unless_fault (unread_fault y w start len) tt) → IsInside r
 unread_inside r y w start len h =
     let part = statement.Incbin None start len in
-    let fault = either_inside (faults.missing_scopes_fault y.scopes w.scope (faults.trees_of part)) (faults.operand_fault y (context_of w) part) (inside_lost_all y.scopes w.scope (faults.trees_of part)) (inside_operand_fault y (context_of w) part) in
+    let fault = inside_either (faults.missing_scopes_fault y.scopes w.scope (faults.trees_of part)) (faults.operand_fault y (context_of w) part) (inside_lost_all y.scopes w.scope (faults.trees_of part)) (inside_operand_fault y (context_of w) part) in
     inside_from r (λ u. u) (unless_fault (unread_fault y w start len) tt) (inside_unless_fault (unread_fault y w start len) tt fault) h

@@ -37,7 +37,8 @@ use Rattle.asm65.specs.Failing.{no_location, FailsAtSource}
 use Rattle.asm65.specs.Internal.StoreFailures.{StartsRun, RunFailsAfterStatements, RunReportsStoreFailure, RunReportsFailure}
 use Rattle.asm65.specs.Internal.AssemblerState.{Represents}
 use Rattle.asm65.specs.Internal.RunState.{RepresentsWithin, RunRepresents, IsReached, at_first, following, RepresentsSome, IsRunning, RefinesTransition, RefinesRun, HasSameOutput, running_limit}
-use Rattle.asm65.proofs.Sources.{RanAll, some_all, some_both, some_then}
+use Rattle.asm65.proofs.Runs.{some_all, some_then}
+use Rattle.asm65.proofs.Sources.{RanAll, some_both}
 
 -- ---- The objects of reached states are well-formed.
 
@@ -218,7 +219,7 @@ failure_outside e h = ap (λ b. is_out_of_memory e || b) h ∙ or_true (is_out_o
 memory_outside : (e : AsmFault) → is_out_of_memory e ≡ true → is_system_error e ≡ true
 memory_outside e h = ap (λ b. b || is_failure e) h
 
-failure_inside : (e : AsmFault) → is_failure e ≡ true → is_out_of_memory e ≡ false
+pub failure_inside : (e : AsmFault) → is_failure e ≡ true → is_out_of_memory e ≡ false
 failure_inside PartError h = refl
 failure_inside (Expansion FileError) h = refl
 failure_inside _ h = absurd cc
@@ -288,10 +289,6 @@ stops_here o last_failure first now e a failed placed out err all =
     by m job (Ok x) p h = tt
     by m job (Err x) p h = λ yes.
         inr (subst (λ (q : LocatedFault). RunFailsAfterStatements m last_failure job q a.out a.err) (sym p) (subst (λ (t : List ℕ). RunFailsAfterStatements m last_failure job at t a.err) (sym out) (subst (λ (t : List ℕ). RunFailsAfterStatements m last_failure job at now.assembler.texts.out t) (sym err) h)))
-
-pub stopped_silent : (r : Found) (location : SourceLocation) (e : AsmFault) (P : Type 0) → is_failure e ≡ true → StoppedAt location e r → is_memory_error_result r ≡ true → P
-stopped_silent (Ok o) location e P failed p h = absurd cc
-stopped_silent (Err x) location e P failed p h = absurd (let both : true ≡ false = sym h ∙ ap (λ (q : LocatedFault). is_out_of_memory q.fault) p ∙ failure_inside e failed in cc)
 
 -- the case of an error after some statements, which may be a failure of the store
 pub stops_after : (o : Option Files) (last_failure : LastFailure) (first now : Run) (e : AsmFault) (a : Assembly) → IfErr a.result (λ x. is_store_failure x ≡ is_failure e) → (is_failure e ≡ true → StoppedAt (location_of now.expander) e a.result) → (is_failure e ≡ true → (a.out ≡ now.assembler.texts.out) × (a.err ≡ now.assembler.texts.err)) → IfSome o (λ m. RunReportsFailure m last_failure first now (Err e)) → IfSome o (λ m. StopsFrom m last_failure first a)

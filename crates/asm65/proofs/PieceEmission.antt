@@ -134,10 +134,7 @@ says_nothing x xs h = held_stand xs [] (declaration_content [] ∷ []) x (alike_
 so_used : (location : SourceLocation) (s : Context) (act : Action) (text : List ℕ) (v : ℤ) → (v ≡ pos 0 → ⊥) → value_result location s (asserted act text) (lit v) ≡ Ok (without_warning (declaration_content []))
 so_used location s action.Error text (pos zero) h = absurd (h refl)
 so_used location s action.Warning text (pos zero) h = absurd (h refl)
-so_used location s action.Error text (pos (suc n)) h = refl
-so_used location s action.Warning text (pos (suc n)) h = refl
-so_used location s action.Error text (negsuc n) h = refl
-so_used location s action.Warning text (negsuc n) h = refl
+so_used location s _ text _ h = refl
 
 -- an assertion that is true whatever statements follow
 pub so_enters : (old : Assembler) (location : SourceLocation) (s : Context) (act : Action) (text : List ℕ) (e : Tree) (v : ℤ) → (v ≡ pos 0 → ⊥) → IsFinal (table_of old.symbols) s e (lit v) → EmitsPieces location s (expression_value (asserted act text) e ∷ []) old old

@@ -61,11 +61,6 @@ fault_then IsValid AreTo Is Then most more t u new e f g s h = by (is_system_err
 
 opened_few : (x : Statement) → opening_count x ≤ 1
 opened_few (statement.Label n) = omega arith
-opened_few (statement.CheapLabel n) = omega arith
-opened_few statement.UnnamedLabel = omega arith
-opened_few (statement.OpenScope n) = omega arith
-opened_few (statement.OpenProc n) = omega arith
-opened_few (statement.Segment n size) = omega arith
 opened_few _ = omega arith
 
 pub says_same : (count : ℕ) (t : State) (old new : Assembler) → Represents count t old → new.texts ≡ old.texts → HasSameOutput t new
@@ -84,13 +79,13 @@ sound_leaves location x old new (Err e) sound taken same = λ count t room h.
 
 -- ---- Files that are known.
 
-pub told_then : (o : Option Files) (P Q : Files → Type 0) → ((m : Files) → P m → Q m) → IfSome o P → IfSome o Q
-told_then None P Q f h = tt
-told_then (Some m) P Q f h = f m h
+pub some_then : (P Q : Files → Type 0) (o : Option Files) → ((m : Files) → P m → Q m) → IfSome o P → IfSome o Q
+some_then P Q None f h = tt
+some_then P Q (Some m) f h = f m h
 
-pub told_all : (o : Option Files) (P : Files → Type 0) → ((m : Files) → P m) → IfSome o P
-told_all None P f = tt
-told_all (Some m) P f = f m
+pub some_all : (P : Files → Type 0) (o : Option Files) → ((m : Files) → P m) → IfSome o P
+some_all P None f = tt
+some_all P (Some m) f = f m
 
 -- ---- The rest after a label.
 
@@ -104,7 +99,7 @@ rest_wrong o location (k ∷ ts) a e some is = λ count t room h.
   where
     by : (t : State) (b : Bool) → Unless b (IsStatement (k ∷ ts) (Err e)) → Unless b (RestBy o location (k ∷ ts) t (Err e))
     by t true g = tt
-    by t false g = told_all o (λ m. AssemblesTokens m StepsTo t location (k ∷ ts) (Err e)) (λ m. (Err e, g, refl))
+    by t false g = some_all (λ m. AssemblesTokens m StepsTo t location (k ∷ ts) (Err e)) o (λ m. (Err e, g, refl))
 
 -- a parsed statement, and the same statement with the bytes that were read of its file
 module _ (location : SourceLocation) (k : Lexeme) (ts : List Lexeme) (x y : Statement) (is : IsStatement (k ∷ ts) (Ok x)) where
@@ -126,7 +121,7 @@ pub rest_leaves : (o : Option Files) (location : SourceLocation) (ts : List Lexe
 rest_leaves o location [] x y old new r some is read taken = absurd (some refl)
 rest_leaves o location (k ∷ ts) x y old new (Ok v) some is read taken = λ count t room h.
     (let a = taken count t room h in
-    (a.0, told_then o (λ m. y ≡ read_bytes m location x) (λ m. AssemblesTokens m StepsTo t location (k ∷ ts) (Ok a.0)) (λ m e. taken_rest location k ts x y is m t (Ok a.0) e a.1) read, a.2, a.3))
+    (a.0, some_then (λ m. y ≡ read_bytes m location x) (λ m. AssemblesTokens m StepsTo t location (k ∷ ts) (Ok a.0)) o (λ m e. taken_rest location k ts x y is m t (Ok a.0) e a.1) read, a.2, a.3))
 rest_leaves o location (k ∷ ts) x y old new (Err e) some is read taken = λ count t room h.
     wrong_rest location k ts x y is o (count + 1) t new e read (taken count t room h)
 
@@ -136,7 +131,7 @@ module _ (f : Option Files) (last_failure : LastFailure) (location : SourceLocat
   rest_unread [] some is = absurd (some refl)
   rest_unread (k ∷ ts) some is = λ count t room h.
       fault_first (AreSymbolNames (k ∷ ts)) (RestBy f location (k ∷ ts) t) (count + 1) t new e
-      (unless_then (is_system_error e) (λ (all : (m : Files) → StepsTo t location (with_bytes m location x) (Err e)). told_all f (λ m. AssemblesTokens m StepsTo t location (k ∷ ts) (Err e)) (λ m. (Ok x, is, all m))) (refused count t h).inside)
+      (unless_then (is_system_error e) (λ (all : (m : Files) → StepsTo t location (with_bytes m location x) (Err e)). some_all (λ m. AssemblesTokens m StepsTo t location (k ∷ ts) (Err e)) f (λ m. (Ok x, is, all m))) (refused count t h).inside)
       (λ inside. says_same count t old new h same)
 
   pub rest_stops : (ts : List Lexeme) (r : Answer) → (ts ≡ [] → ⊥) → IsStatement ts (Ok x) → (is_failure e ≡ true → e ≡ FileError) → r ≡ Err e → KeepsOutputAtFailure (AnswersWithoutFile f last_failure (λ m t. AssemblesTokens m StepsTo t location ts)) 1 old new r
@@ -169,6 +164,9 @@ FrontBy location o old new r = RefinesAllTransitions (IfSome o IsWellFormedState
 
 pub front_leaves : (location : SourceLocation) (o : Option Statement) (x : Statement) (old new : Assembler) (r : Answer) → o ≡ Some x → RefinesAllTransitions (IsWellFormedStatement x) (λ t. StepsTo t location x) 1 old new r → FrontBy location o old new r
 front_leaves location o x old new r e h = subst (λ p. FrontBy location p old new r) (sym e) h
+
+pub front_absent : (location : SourceLocation) (o : Option Statement) (old : Assembler) → o ≡ None → FrontBy location o old old (Ok tt)
+front_absent location o old e = subst (λ p. FrontBy location p old old (Ok tt)) (sym e) (λ count t room h. (t, refl, (λ reached. reached), (count, omega arith, h)))
 
 -- emitting pieces prints nothing
 puts_quiet : (location : SourceLocation) (s : Context) (t u : State) (p : Piece) → PieceStep location s t p u → (u.out ≡ t.out) × (u.err ≡ t.err)
@@ -268,7 +266,7 @@ label_refused f location ts rest o old new e r says front fails =
     refused count t room h =
         fault_then (IfSome o IsWellFormedStatement) (AreSymbolNames ts) (AssemblesLabel StepsTo t location o) (LabelBy f location ts t) (count + 1) (count + 2) t t new e
         (λ named. sound_if o (subst (λ (p : Option Statement × List Lexeme). (x : Statement) → p.0 ≡ Some x → IsWellFormedStatement x) (parted ts rest o says) (label_sound ts named).label))
-        (λ p. told_all f (λ m. AssemblesLabelTokens m StepsTo t location ts (Err e)) (λ m. subst (λ q. LabelAt m t location q (Err e)) (sym (parted ts rest o says)) (Err e, p, refl)))
+        (λ p. some_all (λ m. AssemblesLabelTokens m StepsTo t location ts (Err e)) f (λ m. subst (λ q. LabelAt m t location q (Err e)) (sym (parted ts rest o says)) (Err e, p, refl)))
         (λ s. s) (front count t (omega (arith, room)) h)
 
 pub label_leaves : (f : Option Files) (location : SourceLocation) (ts rest : List Lexeme) (o : Option Statement) (old mid new : Assembler) (v : Unit {0}) (r : Answer) → Says ts rest o → FrontBy location o old mid (Ok v) → RefinesAllTransitions (AreSymbolNames rest) (RestBy f location rest) 1 mid new r → RefinesAllTransitions (AreSymbolNames ts) (LabelBy f location ts) 2 old new r
@@ -277,7 +275,7 @@ label_leaves f location ts rest o old mid new v (Ok w) says front taken = λ cou
     let few = a.3.1 in
     let b = taken a.3.0 a.0 (omega (arith, room, few)) a.3.2 in
     let least = b.3.1 in
-    let given : LabelBy f location ts t (Ok b.0) = told_then f (λ m. AssemblesTokens m StepsTo a.0 location rest (Ok b.0)) (λ m. AssemblesLabelTokens m StepsTo t location ts (Ok b.0)) (λ m g. subst (λ q. LabelAt m t location q (Ok b.0)) (sym (parted ts rest o says)) (Ok a.0, a.1, g)) b.1 in
+    let given : LabelBy f location ts t (Ok b.0) = some_then (λ m. AssemblesTokens m StepsTo a.0 location rest (Ok b.0)) (λ m. AssemblesLabelTokens m StepsTo t location ts (Ok b.0)) f (λ m g. subst (λ q. LabelAt m t location q (Ok b.0)) (sym (parted ts rest o says)) (Ok a.0, a.1, g)) b.1 in
     (b.0, given, λ reached. b.2 (a.2 reached), (b.3.0, omega (arith, few, least), b.3.2)))
 label_leaves f location ts rest o old mid new v (Err e) says front taken = λ count t room h.
     (let a = front count t (omega (arith, room)) h in
@@ -288,7 +286,7 @@ label_leaves f location ts rest o old mid new v (Err e) says front taken = λ co
     let same = quiet_labelled t a.0 location o quiet a.1 in
     fault_then (AreSymbolNames rest) (AreSymbolNames ts) (RestBy f location rest a.0) (LabelBy f location ts t) (a.3.0 + 1) (count + 2) t a.0 new e
     (λ named. subst (λ (p : Option Statement × List Lexeme). AreSymbolNames p.1) is (label_sound ts named).rest)
-    (told_then f (λ m. AssemblesTokens m StepsTo a.0 location rest (Err e)) (λ m. AssemblesLabelTokens m StepsTo t location ts (Err e)) (λ m g. subst (λ q. LabelAt m t location q (Err e)) (sym is) (Ok a.0, a.1, g)))
+    (some_then (λ m. AssemblesTokens m StepsTo a.0 location rest (Err e)) (λ m. AssemblesLabelTokens m StepsTo t location ts (Err e)) f (λ m g. subst (λ q. LabelAt m t location q (Err e)) (sym is) (Ok a.0, a.1, g)))
     (λ s. (s.0 ∙ same.0, s.1 ∙ same.1)) b)
 
 -- ---- An expanded statement.

@@ -1,5 +1,6 @@
 -- The resolution of slots, and the result of an assembler after the last line.
-use Rattle.std.proofs.Common.{◌≡◌, ◌∙◌, ◌||◌, ℕ, Bool, true, false, List, refl, sym, ap, [], ◌∷◌, ◌++◌, subst, append_assoc, length, map}
+use Rattle.std.proofs.lemmas.Grind.{common_steps}
+use Rattle.std.proofs.Common.{◌≡◌, ◌∙◌, ◌||◌, ℕ, Bool, true, false, List, refl, sym, ap, [], ◌∷◌, ◌++◌, subst, append_assoc, arith, length, map}
 use Rattle.base65.specs.Outcome.{◌>>=◌, Unless}
 use Rattle.ast65.specs.declared.fault.AsmFault.{AsmFault}
 use Rattle.ast65.specs.Faults.{is_failure, is_out_of_memory, is_system_error}
@@ -25,7 +26,7 @@ use Rattle.emit65.specs.declared.fixups.Fixup.{Fixup}
 use Rattle.std.specs.Global.{Box}
 use Rattle.emit65.specs.declared.sections.ClosedSections.{ClosedSections}
 use Rattle.emit65.proofs.GrownSlots.{standing_more}
-use Rattle.emit65.proofs.Renumbering.{and, left, right}
+use Rattle.object65.proofs.SmallParts.{and, left, right}
 use Rattle.emit65.proofs.Slots.{comes_alike, faulty_alike, held_alike, held_contents, keys_found, slots_back, slots_front, slots_same, slots_trans}
 use Rattle.symbols65.proofs.StatementLayouts.{unless_then}
 use Rattle.symbols65.specs.Views.{table_of}
@@ -43,8 +44,7 @@ unless true P h = tt
 unless false P h = h refl
 
 either_false : (b c : Bool) → (b || c) ≡ false → b ≡ false
-either_false true c h = absurd cc
-either_false false c h = refl
+either_false b c h = grind (arith, common_steps)
 
 pub certain : (b : Bool) (P : Type 0) → Unless b P → b ≡ false → P
 certain true P u e = absurd cc
@@ -71,11 +71,8 @@ none_last (x ∷ xs) ys h = absurd cc
 
 -- an entry that isn't deferred represents a resolved slot
 known_slot : (files : List (List ℕ)) (e : SectionEntry) → ((w : Box Fixup) → e ≡ FixupEntry w → ⊥) → slot_of files e ≡ resolved (content_of files e)
-known_slot files (Bytes g bytes) h = refl
-known_slot files (Reserve g n) h = refl
-known_slot files (Value width g o f) h = refl
-known_slot files (DeclarationEntry t) h = refl
 known_slot files (FixupEntry w) h = absurd (h w refl)
+known_slot files _ h = refl
 
 -- the resolution of such an entry is the entry itself, without a warning
 pub known_settled : (y : Symbols) (files : List (List ℕ)) (e : SectionEntry) (now : ResolveState) → ((w : Box Fixup) → e ≡ FixupEntry w → ⊥) → AreInitialEntries files (e ∷ []) → IsResolvedSlot y files (slot_of files e) e now now

@@ -37,10 +37,6 @@ use Rattle.asm65.specs.Internal.AssemblerState.{Represents}
 use Rattle.asm65.specs.Internal.RunState.{RepresentsWithin, RunRepresents, HasHeadroom, IsRunning, RefinesRun, HasSameOutput, KeepsOutputAtFailure, AssemblesStatements, RefinesAllTransitions, AssemblesLine, AssemblesStatement, none, one_more, rejected, running_limit, tokens_of}
 use Rattle.asm65.proofs.Runs.{Answer, GivenBy}
 
-pub some_then : (P Q : Files → Type 0) (o : Option Files) → ((m : Files) → P m → Q m) → IfSome o P → IfSome o Q
-some_then P Q None f h = tt
-some_then P Q (Some m) f h = f m h
-
 pub some_both : (P Q R : Files → Type 0) (o : Option Files) → ((m : Files) → P m → Q m → R m) → IfSome o P → IfSome o Q → IfSome o R
 some_both P Q R None f h k = tt
 some_both P Q R (Some m) f h k = f m h k
@@ -146,23 +142,7 @@ same_tokens m (Plain line) h = are_named m _ h
 -- if the error of expansion is a failure of the store, it is one for the expander, too
 of_store : (e : ExpandFault) → is_failure (Expansion e) ≡ true → expansion.is_failure e ≡ true
 of_store fault_of.FileError h = refl
-of_store fault_of.FailedBefore h = absurd cc
-of_store fault_of.OutOfMemory h = absurd cc
-of_store (fault_of.Syntax f) h = absurd cc
-of_store fault_of.FileNotFound h = absurd cc
-of_store fault_of.NotConstant h = absurd cc
-of_store fault_of.Nested h = absurd cc
-of_store fault_of.TooManyLines h = absurd cc
-of_store fault_of.NotClosed h = absurd cc
-of_store fault_of.NotOpened h = absurd cc
-of_store fault_of.TooManyArguments h = absurd cc
-of_store fault_of.MacroTwice h = absurd cc
-of_store fault_of.MacroInside h = absurd cc
-of_store fault_of.CountOutOfRange h = absurd cc
-of_store fault_of.FileTooLong h = absurd cc
-of_store (fault_of.Error t) h = absurd cc
-of_store fault_of.NotUnderstood h = absurd cc
-of_store fault_of.LineTooLong h = absurd cc
+of_store _ h = absurd cc
 
 -- steps without a statement don't change which statement is next
 answered_from : (m : Files) (k : expand.EnvironmentView) (s here : expand.State) (r : Result (Option Statement) ExpandFault) (new : Expander) → Walks m k s here → RefinesAnswer m k here r new → RefinesAnswer m k s r new
@@ -289,10 +269,6 @@ module _ (m : Files) (first old mid : Run) (same : mid.assembler ≡ old.assembl
           }
 
 -- ---- Files that may be unknown.
-
-pub some_all : (P : Files → Type 0) (o : Option Files) → ((m : Files) → P m) → IfSome o P
-some_all P None f = tt
-some_all P (Some m) f = f m
 
 module _ (o p : Option Files) (told : p ≡ o) (first old mid : Run) (same : mid.assembler ≡ old.assembler) (so_far : IfSome o (λ m. Goes m first old)) where
   pub all_out : (e : ExpandFault) (r : Answer) → r ≡ Err (Expansion e) → IfSome p (λ m. NextBy m old (Err e) mid) → IfSome o (λ m. RanAll m first mid r)

@@ -103,10 +103,6 @@ there_none (Some i) e h = absurd cc
 
 unnamed_is : (x : Statement) (s : Context) (j : ℕ) → key_defined s x ≡ Some (unnamed_at j) → s.unnamed ≡ j
 unnamed_is statement.UnnamedLabel s j e = cc
-unnamed_is (statement.Label n) s j e = absurd cc
-unnamed_is (statement.Constant n v) s j e = absurd cc
-unnamed_is (statement.OpenProc n) s j e = absurd cc
-unnamed_is (statement.CheapLabel n) s j e = absurd cc
 unnamed_is _ s j e = absurd cc
 
 key_free : (y : Symbols) (x : Statement) (s : Context) (k : Key) → defined_twice y (Some k) ≡ None → key_defined s x ≡ Some k → AreNumberedBelow s.unnamed y.definitions → definition_index y k ≡ None

@@ -10,7 +10,7 @@ use Rattle.asm65.specs.declared.assembler.Assembler.{Assembler}
 use Rattle.asm65.specs.Internal.AssemblerState.{Represents, has_content, AreNumberedBelow, EmitsPieces, environment_in, ChangesOnlySections, ChangesOnlySymbols, DefersMentions, EmitsThenDefines, with_fixups, is_for_zero_page, label_definition, statement_with_layout}
 use Rattle.std.specs.Prelude.{Some, OnOk, Result, Ok, Err, true, false, Option}
 use Rattle.std.proofs.lemmas.List.{take_all}
-use Rattle.ast65.proofs.Lists.{map_length}
+use Rattle.ast65.proofs.Lists.{map_length, on_ok}
 use Rattle.syntax65.specs.declared.source_location.SourceLocation.{SourceLocation}
 use Rattle.semantics65.specs.Layout as layout
 use Rattle.semantics65.specs.Symbols.{Definition, Scope, Symbols, cheap_in, named, unnamed_at, with_new_names}
@@ -24,7 +24,6 @@ use Rattle.ast65.specs.declared.language.Statement.TheVariants.{Align, Assert, C
 use Rattle.semantics65.specs.Types.{Action, Item, Mnemonic, Operand, Width}
 use Rattle.asm65.proofs.PieceEmission.{enters_none}
 use Rattle.symbols65.specs.declared.measuring.StatementLayout.{StatementLayout}
-use Rattle.symbols65.proofs.StatementLayouts.{ok_then}
 use Rattle.semantics65.specs.Module.{forced_import, constant_definition, exported, imported, pieces_of, expression_value}
 
 -- ---- The environment at a statement.
@@ -129,10 +128,6 @@ turns_as location s ps f g old new same turns count t h inside unnamed =
     let x = turns count t h (subst (λ (y : Symbols). HaveBoundedParents count y.scopes) (sym e) inside) (subst (λ (y : Symbols). AreNumberedBelow t.cursor.unnamed y.definitions) (sym e) unnamed) in
     (x.0, x.1, subst (λ (y : Symbols). Represents count (record x.0 { symbols = y }) new) e x.2)
 
-pub where_ok : {A E P Q : Type 0} (r : Result A E) → (P → Q) → OnOk r P → OnOk r Q
-where_ok (Ok x) f p = f p
-where_ok (Err e) f p = tt
-
 -- ---- The names of a statement.
 
 abbrev pub same_as : List Definition → List Scope → List (List ℕ) → List (List ℕ) → Symbols
@@ -198,7 +193,7 @@ module _ (location : SourceLocation) (s : Context) (m : StatementLayout) (old ne
 
   -- the effect of a successful call, for the statement itself
   pub taken_as : {P : Type 0} (r : Result (Unit {0}) AllocError) (x z : Statement) → x ≡ z → (P → Adds x) → OnOk r P → OnOk r (Adds z)
-  taken_as r x z e f h = subst (λ (w : Statement). OnOk r (Adds w)) e (ok_then r f h)
+  taken_as r x z e f h = subst (λ (w : Statement). OnOk r (Adds w)) e (on_ok r f h)
 
 -- ---- Statements of other kinds.
 

@@ -120,29 +120,6 @@ fn fail_before_lines(alloc: Global, fault: AsmFault) -> Assembly
     }
 }
 
-/// Ends an assembly whose store failed after some statements, with their output and the location
-/// that was reached.
-fn fail_after_statements(expander: Expander, assembler: Assembler, fault: AsmFault) -> Assembly
-    ensures none { IfOk result.result (λ _. ⊥) }
-    ensures stopped { IfErr result.result (λ e. located_fault e ≡
-        record { place = location_of expander; fault = fault }) }
-    ensures out { result.out ≡ assembler.texts.out }
-    ensures err { result.err ≡ assembler.texts.err }
-{
-    // The name is handed on as it is, since no memory may be left for a copy.
-    let SourceLocation { file, line } = expander.into_place();
-    let ConsoleOutput { out, err } = assembler.texts;
-    Assembly {
-        result: Err(Diagnostic {
-            file: Some(file),
-            line,
-            fault,
-        }),
-        out,
-        err,
-    }
-}
-
 /// Ends an assembly with an error at a location, after the output so far.
 fn fail_at_location(
     alloc: Global,
@@ -191,11 +168,22 @@ fn fail_with_output(
     ensures silent { is_memory_error_result result.result ≡ true → (result.out ≡ []) ×
         (result.err ≡ []) }
 {
-    if is_failure(&fault) {
-        return fail_after_statements(expander, assembler, fault);
+    if !is_failure(&fault) {
+        let (file, line) = expander.place();
+        return fail_at_location(alloc, assembler, LocationRef { file, line }, fault);
     }
-    let (file, line) = expander.place();
-    fail_at_location(alloc, assembler, LocationRef { file, line }, fault)
+    // The name is handed on as it is, since no memory may be left for a copy.
+    let SourceLocation { file, line } = expander.into_place();
+    let ConsoleOutput { out, err } = assembler.texts;
+    Assembly {
+        result: Err(Diagnostic {
+            file: Some(file),
+            line,
+            fault,
+        }),
+        out,
+        err,
+    }
 }
 
 /// Opens the source of a job.

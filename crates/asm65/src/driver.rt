@@ -10,7 +10,7 @@ ghost use Rattle.ast65.specs.Faults.{is_failure};
 ghost use Rattle.semantics65.specs.Numbering.{AreSymbolNames, IsWellFormedStatement};
 ghost use Rattle.semantics65.specs.Views.{location_of_ref};
 ghost use Rattle.sources65.specs.Machine.{StepsTo, State, initial_state};
-ghost use Rattle.sources65.specs.Reading.{AssemblesLabelTokens, AssemblesLabel, AssemblesTokens, environment_at, DefinesConstants, Job, no_line};
+ghost use Rattle.sources65.specs.Reading.{AssemblesLabelTokens, AssemblesTokens, environment_at, DefinesConstants, Job, no_line};
 ghost use Rattle.expand65.specs.Replay.{tokens_in};
 ghost use Rattle.asm65.specs.Internal.RunState.{HasHeadroom, RefinesRead, AssemblesStatements, RefinesAllTransitions, AssemblesStatement, RepresentsSome, RunRepresents, IsReached, IsRunning, AsmStoreFrame, RefinesRun, AssemblesOptionalLine};
 ghost use Rattle.expand65.specs.Expansion.{first_state_in};
@@ -88,26 +88,6 @@ pub fn assemble_rest<S: Store>(
     assemble_well_formed(alloc, assembler, at, statement)
 }
 
-/// Assembles a label, if there is one.
-fn assemble_optional_label(
-    alloc: Global,
-    assembler: &mut Assembler,
-    at: LocationRef<'_>,
-    label: Option<Statement>,
-) -> Result<(), AsmFault>
-    requires { HasHeadroom 1 assembler.old }
-    ensures transitions { RefinesAllTransitions (IfSome label IsWellFormedStatement) (λ t.
-        AssemblesLabel StepsTo t
-        (location_of_ref at.entry) label)
-        1 assembler.old assembler.new result }
-    ensures no_failure { IfErr result (λ e. is_failure e ≡ false) }
-{
-    match label {
-        Some(label) => assemble_well_formed(alloc, assembler, at, label),
-        None => Ok(()),
-    }
-}
-
 /// Assembles the tokens of a label.
 #[inline(never)]
 fn assemble_label<S: Store>(
@@ -125,7 +105,10 @@ fn assemble_label<S: Store>(
     ensures frame { AsmStoreFrame S.files S.failures store.old store.new result }
 {
     let (label, rest) = label(alloc, tokens)?;
-    assemble_optional_label(alloc, assembler, at, label)?;
+    let Some(label) = label else {
+        return assemble_rest(alloc, store, assembler, at, rest);
+    };
+    assemble_well_formed(alloc, assembler, at, label)?;
     assemble_rest(alloc, store, assembler, at, rest)
 }
 

@@ -2,11 +2,11 @@
 
 ghost use Rattle.std.specs.Prelude.{◌≡◌, None, OnOk, length, IfOk, IfSome, map, ◌∷◌, [], Some, ◌++◌, false, true};
 ghost use Rattle.semantics65.specs.Symbols.{definition_index, Key as DefinedKey, named};
-ghost use Rattle.symbols65.specs.Tables.{StoresFinalForm, definition_view, key_of};
+ghost use Rattle.symbols65.specs.Tables.{definition_view, key_of};
 ghost use Rattle.symbols65.specs.Views.{table_of, with_definition, with_names, with_scope};
 ghost use Rattle.std.specs.Option.{option_map};
 ghost use Rattle.semantics65.specs.Layout.{opened_twice};
-ghost use Rattle.asm65.specs.Internal.AssemblerState.{EmitsPieces, ChangesOnlySymbols, IsNew, has_content, statement_with_layout, ChangesOnlySections, name_use_piece, is_for_zero_page, label_definition, DefersMentions, EmitsThenDefines};
+ghost use Rattle.asm65.specs.Internal.AssemblerState.{EmitsPieces, IsNew, has_content, statement_with_layout, ChangesOnlySections, name_use_piece, is_for_zero_page, label_definition, DefersMentions, EmitsThenDefines};
 ghost use Rattle.symbols65.specs.Evaluations.{HasFinal, first_tree};
 ghost use Rattle.symbols65.specs.Resolving.{IsBlocked};
 ghost use Rattle.emit65.specs.SectionContents.{piece_of};
@@ -61,61 +61,6 @@ fn blocker(symbols: &Symbols, context: Context, value: &Expr, form: &Option<Norm
 }
 
 impl Assembler {
-    /// Defines a new key.
-    pub fn define(
-        &mut self,
-        alloc: Global,
-        key: Key<'_>,
-        definition: Definition,
-    ) -> Result<(), AllocError>
-        requires new { definition_index (table_of self.old.symbols) (key_of key) ≡ None }
-        requires form { StoresFinalForm (table_of self.old.symbols)
-            (length (table_of self.old.symbols).definitions)
-            (definition_view (key_of key) definition) definition }
-        ensures table { OnOk result (table_of self.new.symbols ≡
-            with_definition (table_of self.old.symbols)
-            (definition_view (key_of key.entry) definition)) }
-        ensures keeps { ChangesOnlySymbols self.old self.new }
-    {
-        define(alloc, &mut self.symbols, key, definition)
-    }
-
-    /// Opens a scope within another one that has no scope of this name.
-    pub fn open_scope(
-        &mut self,
-        alloc: Global,
-        within: u32,
-        name: Option<&[u8]>,
-        is_proc: bool,
-    ) -> Result<(), AllocError>
-        requires new { opened_twice (table_of self.old.symbols).scopes within
-            (option_map (λ n. n.now) name) ≡ None }
-        ensures table { OnOk result (table_of self.new.symbols ≡
-            with_scope (table_of self.old.symbols) (record {
-              within = within;
-              name = option_map (λ n. n.now) name.entry;
-              is_proc = is_proc;
-            })) }
-        ensures keeps { ChangesOnlySymbols self.old self.new }
-    {
-        self.symbols
-            .open_scope(alloc, within as usize, name, is_proc)
-    }
-
-    /// Imports names, for the zero page if `is_zero_page`.
-    pub fn import(
-        &mut self,
-        alloc: Global,
-        names: &[ListVec<u8>],
-        is_zero_page: bool,
-    ) -> Result<(), AllocError>
-        ensures table { OnOk result (table_of self.new.symbols ≡
-            with_names (table_of self.old.symbols) is_zero_page names.now) }
-        ensures keeps { ChangesOnlySymbols self.old self.new }
-    {
-        self.symbols.import(alloc, names, is_zero_page)
-    }
-
     /// Defers the names of a directive, in order.
     #[inline(never)]
     pub fn defer_names(
@@ -193,7 +138,8 @@ impl Assembler {
             form,
             blocker,
         };
-        self.define(alloc, Key::Named { scope, name }, definition)
+        let key = Key::Named { scope, name };
+        define(alloc, &mut self.symbols, key, definition)
     }
 }
 
@@ -233,7 +179,7 @@ impl Assembler {
             (λ y. with_definition y (label_definition (key_of key.entry) context size))
             self.old self.new) }
     {
-        self.define(alloc, key, label(context, size))
+        define(alloc, &mut self.symbols, key, label(context, size))
     }
 
     /// Opens a scope, which may have a name.
@@ -254,7 +200,8 @@ impl Assembler {
             }))
             self.old self.new) }
     {
-        self.open_scope(alloc, context.scope, name, false)
+        self.symbols
+            .open_scope(alloc, context.scope as usize, name, false)
     }
 
     /// Defines a label and opens a scope of the same name.
@@ -277,8 +224,9 @@ impl Assembler {
             self.old self.new) }
     {
         let scope = context.scope as usize;
-        self.define(alloc, Key::Named { scope, name }, label(context, size))?;
-        self.open_scope(alloc, context.scope, Some(name), true)
+        let key = Key::Named { scope, name };
+        define(alloc, &mut self.symbols, key, label(context, size))?;
+        self.symbols.open_scope(alloc, scope, Some(name), true)
     }
 
     /// Imports names with an address size.
@@ -297,7 +245,7 @@ impl Assembler {
             (λ y. with_names y (is_for_zero_page size) names.now) self.old self.new) }
     {
         self.defer_names(alloc, site, mention, names)?;
-        self.import(alloc, names, is_for_zero_page(size))
+        self.symbols.import(alloc, names, is_for_zero_page(size))
     }
 
     /// Imports names even if nothing uses them.
@@ -315,7 +263,7 @@ impl Assembler {
     {
         self.defer_names(alloc, site, NameUse::Imported, names)?;
         self.defer_names(alloc, site, NameUse::ForcedImport, names)?;
-        self.import(alloc, names, false)
+        self.symbols.import(alloc, names, false)
     }
 
     /// Defines the names of a statement that emits nothing, and defers the names that it mentions.

@@ -62,7 +62,7 @@ pub fn is_well_formed(statement: &Statement) -> bool
     }
 }
 
-/// The context and the analysis of a statement.
+/// The context and the analysis of an instruction.
 #[derive(Drop)]
 struct LaidOut {
     context: Context,
@@ -100,27 +100,6 @@ impl Assembler {
         Ok(())
     }
 
-    /// Emits an instruction in an addressing mode.
-    #[inline(always)]
-    fn emit_instruction(
-        &mut self,
-        alloc: Global,
-        site: PieceContext<'_>,
-        mnemonic: Mnemonic,
-        mode: Mode,
-        operand: Operand,
-        form: Option<Norm>,
-    ) -> Result<(), AllocError>
-        requires { HasFinal (table_of self.old.symbols) site.context (operand_tree operand) form }
-        ensures { OnOk result (EmitsPieces
-            (location_of_ref site.entry.at) site.entry.context
-            (instruction_pieces mnemonic operand (InMode mode))
-            self.old self.new) }
-    {
-        emit_opcode(self, site.context, opcode(mnemonic, mode))?;
-        emit_operand(alloc, self, site, width_of(mode), operand, form)
-    }
-
     /// Emits an instruction in the addressing mode of its encoding.
     #[inline(always)]
     fn emit_encoded(
@@ -138,14 +117,11 @@ impl Assembler {
             (instruction_pieces mnemonic operand encoding)
             self.old self.new) }
     {
-        match encoding {
-            EncodingChoice::InMode(mode) => {
-                self.emit_instruction(alloc, site, mnemonic, mode, operand, form)
-            }
-            EncodingChoice::Undecided
-            | EncodingChoice::FillByte(_)
-            | EncodingChoice::FileOffset(_) => Ok(()),
-        }
+        let EncodingChoice::InMode(mode) = encoding else {
+            return Ok(());
+        };
+        emit_opcode(self, site.context, opcode(mnemonic, mode))?;
+        emit_operand(alloc, self, site, width_of(mode), operand, form)
     }
 
     /// Emits the pieces of a statement, then defines its names.
@@ -206,46 +182,6 @@ impl Assembler {
             }
             other => self.define_names(alloc, site, measured, other, form),
         }
-    }
-
-    /// Computes the length and the context of a statement, or its first error; requests its
-    /// section, prints its output, and advances the cursor.
-    #[inline(always)]
-    fn lay_out(
-        &mut self,
-        alloc: Global,
-        at: LocationRef<'_>,
-        statement: &Statement,
-    ) -> Result<LaidOut, AsmFault>
-        requires { IsRepresentable self.old }
-        ensures placed { (count : ℕ) (t : State) → Represents count t self.old → IfOk result (λ p.
-            HasLayout t statement.now p.context p.analysis.measured) }
-        ensures holds { (count : ℕ) (t : State) → Represents count t self.old → OnOk result
-            (Represents (count + opening_count statement.now)
-            (state_after_layout t (location_of_ref at.entry) statement.now)
-            self.new) }
-        ensures refused { (count : ℕ) (t : State) → Represents count t self.old → IfErr result
-            (IsRejected t statement.now) }
-        ensures new { IfOk result (λ p. IsNew (table_of self.new.symbols) p.context statement.now) }
-        ensures form { IfOk result (λ p. HasFinal (table_of self.new.symbols) p.context
-            (first_tree statement.now) p.analysis.form) }
-        ensures forms { IfOk result (λ p. HaveFinals (table_of self.new.symbols) p.context
-            (items_in statement.now) p.analysis.forms.items) }
-        ensures texts { IfErr result (λ e. is_system_error e ≡ false →
-            self.new.texts ≡ self.old.texts) }
-        ensures no_failure { IfErr result (λ e. is_failure e ≡ false) }
-    {
-        let before = LineState {
-            symbols: &self.symbols,
-            cursor: &self.cursor,
-        };
-        let analysis = lay_out_statement(alloc, before, statement)?;
-        let context = self.cursor.context();
-        self.request_section(context.segment, statement)?;
-        self.texts.record_output(at, statement)?;
-        self.cursor
-            .advance(alloc, &self.symbols, statement, analysis.measured)?;
-        Ok(LaidOut { context, analysis })
     }
 
     /// Computes the length and the context of an instruction, or its first error; requests its
@@ -330,13 +266,21 @@ impl Assembler {
             self.new.texts ≡ self.old.texts) }
         ensures no_failure { IfErr result (λ e. is_failure e ≡ false) }
     {
-        search_statement(alloc, &mut self.symbols, self.cursor.context(), &statement)?;
-        match self.lay_out(alloc, at, &statement) {
-            Ok(LaidOut { context, analysis }) => {
-                self.emit_statement(alloc, PieceContext { at, context }, analysis, statement)?;
-                Ok(())
-            }
-            Err(fault) => reject_statement(statement, fault),
-        }
+        let context = self.cursor.context();
+        search_statement(alloc, &mut self.symbols, context, &statement)?;
+        let before = LineState {
+            symbols: &self.symbols,
+            cursor: &self.cursor,
+        };
+        let analysis = match lay_out_statement(alloc, before, &statement) {
+            Ok(analysis) => analysis,
+            Err(fault) => return reject_statement(statement, fault),
+        };
+        self.request_section(context.segment, &statement)?;
+        self.texts.record_output(at, &statement)?;
+        self.cursor
+            .advance(alloc, &self.symbols, &statement, analysis.measured)?;
+        self.emit_statement(alloc, PieceContext { at, context }, analysis, statement)?;
+        Ok(())
     }
 }

@@ -19,7 +19,7 @@ use Rattle.semantics65.specs.Numbering.{merged_neighbours, all_declarations, ass
 use Rattle.emit65.proofs.ConcatenatedItems.{all_more}
 use Rattle.emit65.proofs.GoodNames.{names_push}
 use Rattle.emit65.proofs.Naming.{any_below, itself, position_at}
-use Rattle.emit65.proofs.Renumbering.{and, left, right}
+use Rattle.object65.proofs.SmallParts.{and, left, right}
 
 all_first : {A : Type 0} (P : A → Type 0) (xs ys : List A) → AllByRecursion P (xs ++ ys) → AllByRecursion P xs
 all_first P [] ys h = tt

@@ -11,7 +11,8 @@ use Rattle.std.proofs.lemmas.Map.Keys.{IsDistinct-head, IsDistinct-tail}
 use Rattle.object65.specs.Objects.{are_distinct, are_names, is_among, is_name}
 use Rattle.semantics65.specs.declared.contents.Segment.{Segment}
 use Rattle.semantics65.specs.Numbering.{name_of, segment_name}
-use Rattle.emit65.proofs.Renumbering.{left, right, and, turned}
+use Rattle.object65.proofs.SmallParts.{left, right, and}
+use Rattle.emit65.proofs.Renumbering.{turned}
 
 abbrev same_name : List ℕ → List ℕ → Bool
 same_name n m = pointwise nat_eq n m

@@ -16,12 +16,14 @@ use Rattle.object65.specs.Objects.{are_names, has_well_formed_parts, is_well_for
 use Rattle.semantics65.specs.Contents.{Content, Part, Declaration, ExportedSymbol, ForcedImport, LinkAssertion}
 use Rattle.semantics65.specs.declared.contents.Segment.{Segment}
 use Rattle.semantics65.specs.Numbering.{all_declarations, assert_of, content_imports, export_of, files_of, import_keys, origin_in_files, imports_in, key_of, name_of, renumbered_form, object_with, optional_key, part_imports, declaration_imports, section_keys, section_of, segment_requests, AreWellFormedContents, IsWellFormedContent, IsWellFormedPart, IsWellFormedDeclaration}
+use Rattle.emit65.proofs.ConcatenatedItems.{all_more}
 use Rattle.emit65.proofs.GoodFiles.{files_good, origins_good}
 use Rattle.emit65.proofs.GoodNames.{names_at, segment_named}
 use Rattle.semantics65.proofs.SlotResolution.{exports_named}
 use Rattle.emit65.proofs.GoodSections.{parts_in_good, section_good}
 use Rattle.ast65.proofs.Lists.{map_length}
-use Rattle.emit65.proofs.Renumbering.{HasAll, has, left, right, and, first_has, second_has, good_form, once_all, once_distinct, once_has, same_literal}
+use Rattle.object65.proofs.SmallParts.{left, right, and}
+use Rattle.emit65.proofs.Renumbering.{HasAll, has, first_has, second_has, good_form, once_all, once_distinct, once_has, same_literal}
 
 -- ---- Keys of imports and sections.
 
@@ -59,14 +61,10 @@ asked_below n (c ∷ cs) h = grind (arith, common_steps, (asked_below n cs h.1))
 
 -- ---- Declarations.
 
-all_both : {A : Type 0} (P : A → Type 0) (xs ys : List A) → AllByRecursion P xs → AllByRecursion P ys → AllByRecursion P (xs ++ ys)
-all_both P [] ys h g = g
-all_both P (x ∷ xs) ys h g = (h.0, all_both P xs ys h.1 g)
-
 module _ (at : SourceLocation → Origin) (s i : List ℕ) (names : List (List ℕ)) where
   said_sound : (count : ℕ) (cs : List Content) → AllByRecursion (IsWellFormedContent s count) cs → AllByRecursion (IsWellFormedDeclaration s count) (all_declarations cs)
   said_sound count [] sound = tt
-  said_sound count (c ∷ cs) sound = all_both (IsWellFormedDeclaration s count) c.said (all_declarations cs) sound.0.said (said_sound count cs sound.1)
+  said_sound count (c ∷ cs) sound = all_more (IsWellFormedDeclaration s count) c.said (all_declarations cs) sound.0.said (said_sound count cs sound.1)
 
   has_both : (a b : List ℕ) → HasAll i a → HasAll i b → HasAll i (a ++ b)
   has_both a b h g = list_all-append (has i) a b ∙ and (list_all (has i) a) (list_all (has i) b) h g

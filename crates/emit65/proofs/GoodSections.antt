@@ -14,7 +14,8 @@ use Rattle.object65.specs.Objects.{are_all_merged, fragment_len, is_well_formed_
 use Rattle.semantics65.specs.Contents.{Content, Part}
 use Rattle.semantics65.specs.declared.contents.Segment.{Segment}
 use Rattle.semantics65.specs.Numbering.{merged_neighbours, content_imports, fragment_of, fragments_of, is_empty, merged_fragments, part_imports, parts_in, declaration_imports, section_of, segment_power, IsWellFormedContent, IsWellFormedPart, part_len}
-use Rattle.emit65.proofs.Renumbering.{HasAll, first_has, good_form, left, right, and, same_literal, second_has}
+use Rattle.object65.proofs.SmallParts.{left, right, and}
+use Rattle.emit65.proofs.Renumbering.{HasAll, first_has, good_form, same_literal, second_has}
 
 -- ---- Merged neighbours.
 

@@ -10,7 +10,7 @@ use Rattle.semantics65.specs.Numbering.{name_of}
 use Rattle.emit65.specs.declared.entries.SectionEntry.{SectionEntry}
 use Rattle.emit65.specs.declared.entries.SourcePos.{SourcePos}
 use Rattle.emit65.specs.SectionContents.{IsPrefix, HaveFilesBelow, content_of, location_of_pos, slot_of, content_so_far, has_file_below}
-use Rattle.emit65.proofs.Renumbering.{and, left, right}
+use Rattle.object65.proofs.SmallParts.{and, left, right}
 
 -- the contents so far of the slots of entries are the contents of the entries
 pub contents_of_slots : (files : List (List ℕ)) (es : List SectionEntry) → map content_so_far (map (slot_of files) es) ≡ map (content_of files) es

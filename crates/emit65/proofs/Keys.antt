@@ -1,4 +1,5 @@
 -- Distinct keys, in the order of their first occurrence.
+use Rattle.ast65.proofs.Lists.{drop_item as at_first}
 use Rattle.std.proofs.lemmas.Grind.{common_steps}
 use Rattle.std.proofs.Common.{◌≡◌, ◌∙◌, ℕ, ◌+◌, ◌<◌, zero, suc, List, [], ◌∷◌, ◌++◌, drop, length, get_or, map, position, nat_eq, refl, sym, ap, arith, add-one}
 use Rattle.std.specs.List.{list_any, flat_map}
@@ -19,13 +20,8 @@ pub once_append : (ks found ls : List ℕ) → distinct_keys (distinct_keys foun
 once_append [] found ls = refl
 once_append (k ∷ ks) found ls = once_append ks (if list_any (nat_eq k) found then found else found ++ k ∷ []) ls
 
-drop_at : {A : Type 0} (xs : List A) (i : ℕ) (x : A) → i < length xs → x ≡ get_or xs i x → drop i xs ≡ x ∷ drop (suc i) xs
-drop_at [] i x lt e = absurd (omega arith)
-drop_at (y ∷ ys) zero x lt e = ap (λ z. z ∷ ys) (sym e)
-drop_at (y ∷ ys) (suc i) x lt e = drop_at ys i x (omega arith) e
-
 pub drop_item : {A : Type 0} (xs : List A) (i : ℕ) (x : A) → i < length xs → x ≡ get_or xs i x → drop i xs ≡ x ∷ drop (i + 1) xs
-drop_item xs i x lt e = rw add-one (drop_at xs i x lt e)
+drop_item xs i x lt e = rw add-one (at_first xs i x lt e)
 
 -- a step of the loop: after the keys of an item are appended, those of the rest remain
 pub once_step : {A : Type 0} (f : A → List ℕ) (xs : List A) (i : ℕ) (x : A) (old all : List ℕ) → i < length xs → x ≡ get_or xs i x → distinct_keys old (flat_map f (drop i xs)) ≡ all → distinct_keys (distinct_keys old (f x)) (flat_map f (drop (i + 1) xs)) ≡ all

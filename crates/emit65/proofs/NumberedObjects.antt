@@ -32,7 +32,8 @@ use Rattle.emit65.proofs.EquivalentContents.{files_by, files_named_by, object_ov
 use Rattle.emit65.proofs.GrownSlots.{contents_of_slots}
 use Rattle.emit65.proofs.Keys.{imports_anyhow}
 use Rattle.emit65.proofs.Naming.{AreBelow, IsNaming, found_by, naming_more, naming_none, naming_one, once_named}
-use Rattle.emit65.proofs.Renumbering.{left, once_all, right}
+use Rattle.object65.proofs.SmallParts.{left, right}
+use Rattle.emit65.proofs.Renumbering.{once_all}
 use Rattle.emit65.proofs.Slots.{held_contents}
 
 module _ (files : List (List ℕ)) (apart : IsDistinct bytes_eq files) where

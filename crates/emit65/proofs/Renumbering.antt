@@ -12,23 +12,11 @@ use Rattle.base65.specs.declared.values.Op1.{Op1}
 use Rattle.base65.specs.declared.values.Op2.{Op2}
 use Rattle.object65.specs.Folding.{is_literal, is_normal, has_valid_indices, folds1, folds2, folds_sum, folds_difference}
 use Rattle.object65.specs.Form.{Form, lit, sec, imp, prefix, binary, nodes}
+use Rattle.object65.proofs.SmallParts.{left, right, and}
 use Rattle.object65.specs.Objects.{is_well_formed_form}
 use Rattle.semantics65.specs.Numbering.{imports_in, number_of, renumbered_form, distinct_keys, sections_in, IsWellFormedForm}
 
 -- ---- Booleans.
-
--- each operand of a true conjunction is true
-pub left : (a b : Bool) → (a && b) ≡ true → a ≡ true
-left true b e = refl
-left false b e = cc
-
-pub right : (a b : Bool) → (a && b) ≡ true → b ≡ true
-right true b e = e
-right false b e = cc
-
-pub and : (a b : Bool) → a ≡ true → b ≡ true → (a && b) ≡ true
-and true b p q = q
-and false b p q = cc
 
 pub turned : (b : Bool) → not b ≡ true → b ≡ false
 turned true e = cc
@@ -84,11 +72,9 @@ second_has keys a b h = right (list_all (has keys) a) (list_all (has keys) b) (s
 
 module _ (s i : List ℕ) where
   pub same_nodes : (f : Form) → nodes (renumbered_form s i f) ≡ nodes f
-  same_nodes (lit v) = refl
-  same_nodes (sec k a) = refl
-  same_nodes (imp k) = refl
   same_nodes (prefix op f) = ap (λ n. n + 1) (same_nodes f)
   same_nodes (binary op f g) = λ j. same_nodes f j + same_nodes g j + 1
+  same_nodes _ = refl
 
   pub same_literal : (f : Form) → is_literal (renumbered_form s i f) ≡ is_literal f
   same_literal x = grind (arith, common_steps)
@@ -106,14 +92,12 @@ module _ (s i : List ℕ) where
   same_binary x f g p q = grind (arith, common_steps, same_literal, same_sum, same_difference)
 
   pub same_normal : (f : Form) → HasAll s (sections_in f) → is_normal (renumbered_form s i f) ≡ is_normal f
-  same_normal (lit v) h = refl
-  same_normal (sec k a) h = refl
-  same_normal (imp k) h = refl
   same_normal (prefix op f) h = λ j. same_normal f h j && not (same_prefix op f j)
   same_normal (binary op f g) h =
       let p = first_has s (sections_in f) (sections_in g) h in
       let q = second_has s (sections_in f) (sections_in g) h in
       λ j. same_normal f p j && same_normal g q j && not (same_binary op f g p q j)
+  same_normal _ h = refl
 
   number_within : (keys : List ℕ) (k : ℕ) → has keys k ≡ true → nat_le (number_of keys k + 1) (length keys) ≡ true
   number_within keys k h = let below = number_below keys k h in grind (arith, nat_tests)

@@ -121,15 +121,19 @@ room_closed files t held u e none is same done segment no_room h =
         (alike_trans (growth g [] t.reserve) (reserve ∷ []) (reserve ∷ growth g [] 0) front
         (alike_sym (reserve ∷ growth g [] 0) (reserve ∷ []) (alike_nothing (reserve ∷ []) (growth g [] 0) (nothing_grows g g))))
 
--- appending bytes to the open part
-takes_bytes : (files : List (List ℕ)) (t u : Entries) (bytes : List ℕ) → t.reserve ≡ 0 → u.done.items ≡ t.done.items → u.segment ≡ t.segment → u.bytes ≡ t.bytes ++ bytes → u.reserve ≡ t.reserve → AppendsSlotsWithFiles files t u (resolved (section_part t.segment (Known bytes)) ∷ [])
-takes_bytes files t u bytes no_room done segment more reserve = record {
+-- a part of the open contents is appended if nothing else changes
+appends_part : (files : List (List ℕ)) (t u : Entries) (added : Content) → u.done.items ≡ t.done.items → AreEquivalentContents (open_contents t ++ added ∷ []) (open_contents u) → AppendsSlotsWithFiles files t u (resolved added ∷ [])
+appends_part files t u added done grown = record {
   equivalent =
       subst (λ (xs : List Slot). AreEquivalentSlots xs (slots_in files u)) (sym (append_assoc (map (slot_of files) t.done.items) (map resolved (open_contents t)) (resolved added ∷ [])))
       (subst (λ (es : List SectionEntry). AreEquivalentSlots (map (slot_of files) t.done.items ++ (map resolved (open_contents t ++ added ∷ []))) (map (slot_of files) es ++ map resolved (open_contents u))) (sym done)
       (slots_back (map (slot_of files) t.done.items) (map resolved (open_contents t ++ added ∷ [])) (map resolved (open_contents u)) (held_alike (open_contents t ++ added ∷ []) (open_contents u) grown)));
   standing = λ s. subst (HaveFilesBelow (length files)) (sym done) s;
 }
+
+-- appending bytes to the open part
+takes_bytes : (files : List (List ℕ)) (t u : Entries) (bytes : List ℕ) → t.reserve ≡ 0 → u.done.items ≡ t.done.items → u.segment ≡ t.segment → u.bytes ≡ t.bytes ++ bytes → u.reserve ≡ t.reserve → AppendsSlotsWithFiles files t u (resolved (section_part t.segment (Known bytes)) ∷ [])
+takes_bytes files t u bytes no_room done segment more reserve = appends_part files t u added done grown
   where
     g : ℕ
     g = t.segment
@@ -156,13 +160,7 @@ takes_bytes files t u bytes no_room done segment more reserve = record {
 
 -- appending reserved bytes to the open part
 takes_room : (files : List (List ℕ)) (t u : Entries) (count : ℕ) → u.done.items ≡ t.done.items → u.segment ≡ t.segment → u.bytes ≡ t.bytes → u.reserve ≡ t.reserve + count → AppendsSlotsWithFiles files t u (resolved (section_part t.segment (ReservedBytes count)) ∷ [])
-takes_room files t u count done segment bytes more = record {
-  equivalent =
-      subst (λ (xs : List Slot). AreEquivalentSlots xs (slots_in files u)) (sym (append_assoc (map (slot_of files) t.done.items) (map resolved (open_contents t)) (resolved added ∷ [])))
-      (subst (λ (es : List SectionEntry). AreEquivalentSlots (map (slot_of files) t.done.items ++ (map resolved (open_contents t ++ added ∷ []))) (map (slot_of files) es ++ map resolved (open_contents u))) (sym done)
-      (slots_back (map (slot_of files) t.done.items) (map resolved (open_contents t ++ added ∷ [])) (map resolved (open_contents u)) (held_alike (open_contents t ++ added ∷ []) (open_contents u) grown)));
-  standing = λ s. subst (HaveFilesBelow (length files)) (sym done) s;
-}
+takes_room files t u count done segment bytes more = appends_part files t u added done grown
   where
     g : ℕ
     g = t.segment

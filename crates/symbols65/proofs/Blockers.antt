@@ -3,15 +3,14 @@ use Rattle.std.proofs.Common.{◌≡◌, ◌∙◌, ℕ, suc, ◌+◌, refl, sym
 use Rattle.std.specs.Prelude.{IfSome}
 use Rattle.std.specs.Option.{option_and_then, unwrap_or}
 use Rattle.std.proofs.lemmas.Option.{slice_get_within}
-use Rattle.base65.specs.declared.values.Op1.{Op1}
 use Rattle.base65.specs.declared.values.Op2.{Op2}
-use Rattle.syntax65.specs.Trees.{Tree, unary, binary}
+use Rattle.syntax65.specs.Trees.{Tree, binary}
 use Rattle.semantics65.specs.declared.contexts.Context.{Context}
 use Rattle.semantics65.specs.Norms.{defined_form, form_of_definition, norm, norm_of}
 use Rattle.semantics65.specs.Symbols.{Definition, Symbols, binding_of, defined_at}
-use Rattle.symbols65.specs.Resolving.{IsBlocked, IsBlockedAt, HasFinalBinding, binary_form, plain_form, plain_result, prefix_form}
+use Rattle.symbols65.specs.Resolving.{IsBlocked, IsBlockedAt, HasFinalBinding, binary_form, plain_form, plain_result}
 use Rattle.symbols65.specs.Tables.{HasBlocker}
-use Rattle.symbols65.proofs.PlainForms.{binary_plain, left_alone, operand_norm, prefix_plain}
+use Rattle.symbols65.proofs.PlainForms.{binary_plain, left_alone, operand_norm}
 use Rattle.symbols65.proofs.ExpansionDepths.{norm_is_last}
 use Rattle.symbols65.proofs.InternedNames.{get_stays}
 
@@ -28,12 +27,6 @@ operand_defined z s e j h =
 module _ (y : Symbols) where
   pub operand_blocked : (s : Context) (e : Tree) (j r : ℕ) → HasFinalBinding y s e j → IsBlockedAt y j r → IsBlocked y s e r
   operand_blocked s e j r (lt, means) h = λ z more none. ap plain_result (operand_defined z s e j (means z more)) ∙ h z more none
-
-  pub prefix_blocked : (s : Context) (op : Op1) (e : Tree) (r : ℕ) → IsBlocked y s e r → IsBlocked y s (unary op e) r
-  prefix_blocked s op e r h = λ z more none. sym (prefix_plain op (norm_of z s e)) ∙ ap (λ o. option_and_then plain_form (prefix_form op o)) (h z more none)
-
-  pub left_blocked : (s : Context) (op : Op2) (e g : Tree) (r : ℕ) → IsBlocked y s e r → IsBlocked y s (binary op e g) r
-  left_blocked s op e g r h = λ z more none. sym (binary_plain op (norm_of z s e) (norm_of z s g)) ∙ ap (λ o. option_and_then plain_form (binary_form op o (plain_result (norm_of z s g)))) (h z more none)
 
   pub right_blocked : (s : Context) (op : Op2) (e g : Tree) (r : ℕ) → IsBlocked y s g r → IsBlocked y s (binary op e g) r
   right_blocked s op e g r h = λ z more none.

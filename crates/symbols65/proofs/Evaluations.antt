@@ -1,24 +1,25 @@
 -- The evaluation of an expression from those of its operands, and of a statement from those of its expressions.
 use Rattle.std.proofs.lemmas.Grind.{common_steps}
 use Rattle.std.proofs.Common.{◌≡◌, ◌∙◌, ◌⊎◌, inl, inr, ◌<◌, ◌++◌, ℕ, zero, suc, get_or, List, [], ◌∷◌, length, Bool, true, false, Option, Some, None, Result, Ok, Err, refl, sym, ap, subst, arith, append-nil}
-use Rattle.std.specs.Prelude.{ℤ, IfOk, is_some, pos, slice_get, if◌then◌else◌}
+use Rattle.std.specs.Prelude.{ℤ, IfOk, is_some, slice_get, if◌then◌else◌}
 use Rattle.std.specs.Option.{option_and_then}
 use Rattle.base65.specs.Outcome.{◌>>=◌, Unless}
 use Rattle.base65.specs.declared.values.Op1.{Op1}
 use Rattle.base65.specs.declared.values.Op2.{Op2}
-use Rattle.syntax65.specs.Trees.{Tree, number, here, name, cheap, forward, backward, unary, binary}
+use Rattle.syntax65.specs.Trees.{Tree, number, here, unary, binary}
 use Rattle.syntax65.specs.declared.lexing.tokens.AddressSize.{AddressSize}
 use Rattle.syntax65.specs.declared.lexing.tokens.AddressSize.TheVariants as size
-use Rattle.object65.specs.Form.{Form, lit}
+use Rattle.object65.specs.Form.{Form}
 use Rattle.object65.specs.Folding.{fold1, fold2}
 use Rattle.ast65.specs.declared.fault.AsmFault.{AsmFault}
 use Rattle.ast65.specs.Faults.{is_out_of_memory}
 use Rattle.semantics65.specs.declared.contexts.Context.{Context}
 use Rattle.semantics65.specs.declared.contexts.EncodingChoice.TheVariants.{FillByte}
-use Rattle.semantics65.specs.Layout.{missing_scope_fault, missing_scopes_fault, operand_trees, optional_tree, or_then, trees_of, unless_fault}
-use Rattle.semantics65.specs.Norms.{address_of, constant_in, nat_or_zero, fill_encoding, optional_value, fold_result, form_of_binding, larger, literal_in, norm, norm_of, size_by, size_of, size_of_binding, size_of_value, is_byte_selector}
+use Rattle.semantics65.specs.Layout.{missing_scope_fault, item_trees, missing_scopes_fault, operand_trees, optional_tree, or_then, trees_of, unless_fault}
+use Rattle.semantics65.specs.Norms.{constant_in, nat_or_zero, fill_encoding, optional_value, fold_result, larger, literal_in, norm_of, size_by, size_of, size_of_binding, is_byte_selector}
 use Rattle.semantics65.specs.Symbols.{Binding, Scope, Symbols, binding_of}
 use Rattle.ast65.specs.declared.language.Item.{Item}
+use Rattle.ast65.specs.declared.language.Item.TheVariants as items
 use Rattle.ast65.specs.declared.language.Operand.{Operand}
 use Rattle.ast65.specs.declared.language.Operand.TheVariants as operands
 use Rattle.ast65.specs.declared.language.Statement.{Statement}
@@ -109,22 +110,6 @@ module _ (y : Symbols) (s : Context) (own : AddressSize) where
       (λ yes f is. binary_stays (length y.definitions) y s op e g v.form u.form (h.stays (left yes)) (k.stays (right yes)) f (sym folds ∙ is))
       (ap (λ a. size_by a (constant_in y s (binary op e g))) (sized ∙ ap (λ a. larger a u.size) h.size ∙ ap (larger (size_of y s own e)) k.size))
 
-  -- ---- Numbers and `*`.
-
-  pub number_found : (n : ℕ) (r : Evaluation) → r.form ≡ Some (lit (pos n)) → r.size ≡ size_of_value (pos n) → IsEvaluation y s own (number n) r
-  number_found n r form sized = record {
-    form = ap (option_and_then plain_form) form;
-    stays = λ yes f is. (let same : lit (pos n) ≡ f = cc in λ z more. ap Ok same);
-    size = sized;
-  }
-
-  pub here_found : (r : Evaluation) → r.form ≡ Some (address_of s) → r.size ≡ own → IsEvaluation y s own here r
-  here_found r form sized = record {
-    form = ap (option_and_then plain_form) form;
-    stays = λ yes f is. (let same : address_of s ≡ f = cc in λ z more. ap Ok same);
-    size = sized;
-  }
-
   -- ---- References.
 
   reference_size : (e : Tree) → IsReference e → size_of y s own e ≡ size_by (size_of_binding y (binding_of y s e)) (constant_in y s e)
@@ -132,29 +117,7 @@ module _ (y : Symbols) (s : Context) (own : AddressSize) where
   reference_size here h = absurd h
   reference_size (unary op e) h = absurd h
   reference_size (binary op e g) h = absurd h
-  reference_size (name global parts) h = refl
-  reference_size (cheap n) h = refl
-  reference_size (forward n) h = refl
-  reference_size (backward n) h = refl
-
-  -- the normal form of a reference without a binding is the error of the lookup
-  absent_norm : (e : Tree) (z : AsmFault) → IsReference e → binding_of y s e ≡ Err z → norm_of y s e ≡ Err z
-  absent_norm (number n) z h is = absurd h
-  absent_norm here z h is = absurd h
-  absent_norm (unary op e) z h is = absurd h
-  absent_norm (binary op e g) z h is = absurd h
-  absent_norm (name global parts) z h is = ap (λ r. r >>= form_of_binding (norm (length y.definitions) y) y) is
-  absent_norm (cheap n) z h is = ap (λ r. r >>= form_of_binding (norm (length y.definitions) y) y) is
-  absent_norm (forward n) z h is = ap (λ r. r >>= form_of_binding (norm (length y.definitions) y) y) is
-  absent_norm (backward n) z h is = ap (λ r. r >>= form_of_binding (norm (length y.definitions) y) y) is
-
-  pub absent_found : (e : Tree) (z : AsmFault) (r : Evaluation) → IsReference e → binding_of y s e ≡ Err z → IsMadeOf r None false size.Absolute → IsEvaluation y s own e r
-  absent_found e z r h is m =
-      let none = absent_norm e z h is in
-      made y s own e r None false size.Absolute m
-      (sym (ap plain_result none))
-      (λ no. absurd cc)
-      (ap (λ n. size_by size.Absolute (literal_in n)) none ∙ sym (ap (λ n. size_by (size_of_binding y n) (constant_in y s e)) is ∙ ap (λ n. size_by size.Absolute (literal_in n)) none) ∙ sym (reference_size e h))
+  reference_size _ h = refl
 
   -- a reference with a binding, whose form isn't known to be final
   pub meant_found : (e : Tree) (means : Binding) (r : Evaluation) (o : Option Form) (other : AddressSize) → IsReference e → binding_of y s e ≡ Ok means → o ≡ plain_result (norm_of y s e) → other ≡ size_of_binding y (Ok means) →
@@ -181,12 +144,6 @@ module _ (y : Symbols) (s : Context) (own : AddressSize) where
   abbrev lost : Tree → Option AsmFault
   lost e = missing_scope_fault y.scopes s.scope e
 
-  pub left_lost : (op : Op2) (e g : Tree) (z : AsmFault) → EvaluatesTree y s own e (Err z) → EvaluatesTree y s own (binary op e g) (Err z)
-  left_lost op e g z h = unless_then (is_out_of_memory z) (λ p. ap (λ f. or_then f (lost g)) p) h
-
-  pub right_lost : (op : Op2) (e g : Tree) (z : AsmFault) → lost e ≡ None → EvaluatesTree y s own g (Err z) → EvaluatesTree y s own (binary op e g) (Err z)
-  right_lost op e g z none h = unless_then (is_out_of_memory z) (λ p. ap (λ f. or_then f (lost g)) none ∙ p) h
-
   pub none_lost : (op : Op2) (e g : Tree) → lost e ≡ None → lost g ≡ None → lost (binary op e g) ≡ None
   none_lost op e g none also = ap (λ f. or_then f (lost g)) none ∙ also
 
@@ -209,12 +166,6 @@ module _ (y : Symbols) (s : Context) (own : AddressSize) where
   pub number_is : (e : Tree) (v : Evaluation) → IsEvaluation y s own e v → option_and_then (λ f. literal_in (Ok f)) v.form ≡ constant_in y s e
   number_is e v h = value_held y s e v.form h.form
 
-  pub first_lost : (e : Tree) (es : List Tree) (z : AsmFault) → EvaluatesTree y s own e (Err z) → Unless (is_out_of_memory z) (unless_fault {A = Unit {0}} (missing_scopes_fault y.scopes s.scope (e ∷ es)) tt ≡ Err z)
-  first_lost e es z h = unless_then (is_out_of_memory z) (λ p. ap (λ f. unless_fault {A = Unit {0}} (or_then f (missing_scopes_fault y.scopes s.scope es)) tt) p) h
-
-  pub first_there : (e : Tree) (es : List Tree) → lost e ≡ None → missing_scopes_fault y.scopes s.scope (e ∷ es) ≡ missing_scopes_fault y.scopes s.scope es
-  first_there e es none = ap (λ f. or_then f (missing_scopes_fault y.scopes s.scope es)) none
-
 -- ---- The values of optional expressions.
 
 module _ (y : Symbols) (s : Context) (own : AddressSize) where
@@ -234,12 +185,7 @@ module _ (y : Symbols) (s : Context) (own : AddressSize) where
 
 pub operand_trees_are : (operand : Operand) → operand_trees operand ≡ optional_tree (operand_tree operand)
 operand_trees_are operands.Absent = refl
-operand_trees_are operands.Accumulator = refl
-operand_trees_are (operands.Immediate e) = refl
-operand_trees_are (operands.Address forced e r) = refl
-operand_trees_are (operands.Indirect e) = refl
-operand_trees_are (operands.IndirectX e) = refl
-operand_trees_are (operands.IndirectY e) = refl
+operand_trees_are _ = refl
 
 -- the expressions of a statement other than a list are its first and its second one, if it has them
 pub trees_are : (x : Statement) → ((width : Width) (items : List Item) → x ≡ statement.Values width items → ⊥) → trees_of x ≡ optional_tree (first_tree x) ++ optional_tree (second_tree x)
@@ -247,9 +193,6 @@ trees_are (statement.Values width items) h = absurd (h width items refl)
 trees_are (statement.Constant n e) h = refl
 trees_are (statement.Assert e action text) h = refl
 trees_are (statement.Instruction m operand) h = operand_trees_are operand ∙ sym (append-nil (optional_tree (operand_tree operand)))
-trees_are (statement.Reserve n v) h = refl
-trees_are (statement.Align n v) h = refl
-trees_are (statement.Incbin bytes start len) h = refl
 trees_are _ h = refl
 
 -- the first missing scope of two lists of expressions is that of the first list, or else that of the second
@@ -283,6 +226,11 @@ pub item_at : (items : List Item) (i : ℕ) (x : Item) → i < length items → 
 item_at [] i x lt e = absurd (omega arith)
 item_at (z ∷ items) zero x lt e = ap Some (sym e)
 item_at (z ∷ items) (suc i) x lt e = item_at items i x (omega arith) e
+
+-- the expressions of a list of one element
+pub item_alone : (x : Item) → optional_tree (item_tree x) ≡ item_trees (x ∷ [])
+item_alone (items.Value e) = refl
+item_alone (items.StringLiteral bytes) = refl
 
 -- appending the form of the next element preserves `HaveFinals`, if that form is final
 pub finals_more : (y : Symbols) (s : Context) (items : List Item) (forms : List (Option Form)) (k : ℕ) (item : Item) (form : Option Form) → length forms ≡ k → slice_get items k ≡ Some item →

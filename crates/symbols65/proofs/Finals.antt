@@ -1,6 +1,6 @@
 -- Final bindings and final forms, which are preserved whatever statements follow.
 use Rattle.std.proofs.lemmas.Grind.{common_steps}
-use Rattle.std.proofs.Common.{◌≡◌, ℕ, zero, suc, ◌+◌, ◌-◌, ◌≤◌, Bool, true, false, List, [], ◌∷◌, length, take, position, Option, Some, None, IfSome, IfOk, slice_get, Result, Ok, Err, refl, sym, ap, ◌∙◌, arith}
+use Rattle.std.proofs.Common.{◌≡◌, ℕ, zero, suc, ◌+◌, ◌-◌, ◌≤◌, Bool, true, false, List, [], ◌∷◌, length, take, position, Option, Some, None, IfOk, slice_get, Result, Ok, Err, refl, sym, ap, ◌∙◌, arith}
 use Rattle.std.specs.Prelude.{nat_le, if◌then◌else◌}
 use Rattle.std.proofs.lemmas.Bool.Decides.{nat_tests}
 use Rattle.std.proofs.lemmas.List.{length-append, take-append-le}
@@ -8,7 +8,7 @@ use Rattle.std.specs.Result.{result_ok}
 use Rattle.base65.specs.Outcome.{◌>>=◌}
 use Rattle.base65.specs.declared.values.Op1.{Op1}
 use Rattle.base65.specs.declared.values.Op2.{Op2}
-use Rattle.syntax65.specs.Trees.{Tree, number, here, name, cheap, forward, backward, unary, binary}
+use Rattle.syntax65.specs.Trees.{Tree, name, cheap, forward, backward, unary, binary}
 use Rattle.object65.specs.Form.{Form}
 use Rattle.object65.specs.Folding.{fold1, fold2}
 use Rattle.object65.specs.declared.folding.FormFault.{FormFault}
@@ -165,14 +165,11 @@ module _ (t : code.Symbols) (s : Context) where
 
   -- an operand with a final binding has a final form, if its definition is a label or has a final form
   pub operand_stays : (e : Tree) (j : ℕ) (f : Form) → HasFinalBinding y s e j → attempt_definition (λ q v. known_form j (final_form t j)) (slice_get y.definitions j) ≡ Ok f → IsFinalWithin (length y.definitions) y s e f
-  operand_stays (number v) j f m h = absurd (let no = m.1 y (extends_itself y) in cc)
-  operand_stays here j f m h = absurd (let no = m.1 y (extends_itself y) in cc)
-  operand_stays (unary op e) j f m h = absurd (let no = m.1 y (extends_itself y) in cc)
-  operand_stays (binary op e g) j f m h = absurd (let no = m.1 y (extends_itself y) in cc)
   operand_stays (name global parts) j f m h = λ z more. meant_ok z more (name global parts) j m f h
   operand_stays (cheap x) j f m h = λ z more. meant_ok z more (cheap x) j m f h
   operand_stays (forward x) j f m h = λ z more. meant_ok z more (forward x) j m f h
   operand_stays (backward x) j f m h = λ z more. meant_ok z more (backward x) j m f h
+  operand_stays _ j f m h = absurd (let no = m.1 y (extends_itself y) in cc)
 
 -- a final form is the normal form in each extension of the table
 pub within_final : (y : Symbols) (s : Context) (e : Tree) (f : Form) → IsFinalWithin (length y.definitions) y s e f → (z : Symbols) → Extends y z → norm_of z s e ≡ Ok f
@@ -181,9 +178,3 @@ within_final y s e f h z more =
     ok_later (expression_course z s e) (expression_is z s e) (suc (length y.definitions)) (suc (length z.definitions)) f (omega (arith, long)) (h z more)
 
 -- ---- Optional indices and results.
-
-pub by_place : (P : ℕ → Type 0) (o : Option ℕ) → ((j : ℕ) → o ≡ Some j → P j) → IfSome o P
-by_place x y h = grind (arith, common_steps)
-
-pub more_ok : {A E : Type 0} (P Q : A → Type 0) (r : Result A E) → ((x : A) → P x → Q x) → IfOk r P → IfOk r Q
-more_ok x y z h p = grind (arith, common_steps)

@@ -270,10 +270,6 @@ pub plain_known : (r : Result Form AsmFault) (o : Option Form) → result_ok r �
 plain_known (Ok f) o h = ap (option_and_then plain_form) (sym h)
 plain_known (Err z) o h = ap (option_and_then plain_form) (sym h)
 
-pub unless_more : {P Q : Type 0} (b : Bool) → (P → Q) → Unless b P → Unless b Q
-unless_more true f h = tt
-unless_more false f h = f h
-
 -- ---- The entry of a further constant.
 
 pub entry_kept : {K : Type 0} (n : ℕ) (r : Result Form AsmFault) (e : SearchEntry) → IsEntryOf n r e → RefinesProp is_out_of_memory (λ q. K) r → K

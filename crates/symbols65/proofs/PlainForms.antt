@@ -84,9 +84,7 @@ both_mixed x f g h = grind (arith, common_steps, sum_mixed, difference_mixed, an
 plain_is : (f p : Form) → plain_form f ≡ Some p → f ≡ p
 plain_is (lit v) p e = cc
 plain_is (sec k a) p e = cc
-plain_is (imp k) p e = absurd cc
-plain_is (prefix o f) p e = absurd cc
-plain_is (form.binary o f g) p e = absurd cc
+plain_is _ p e = absurd cc
 
 pub prefix_plain : (op : Op1) (r : Result Form AsmFault) → option_and_then plain_form (prefix_form op (plain_result r)) ≡ plain_result (r >>= (λ f. fold_result (fold1 op f)))
 prefix_plain op (Err e) = refl
@@ -117,10 +115,7 @@ binary_plain op (Ok f) (Ok g) = by (plain_form f) (plain_form g) refl refl
 
 literal_plain : (f : Form) → option_and_then (λ g. literal_in (Ok g)) (plain_form f) ≡ literal_in (Ok f)
 literal_plain (lit v) = refl
-literal_plain (sec k a) = refl
-literal_plain (imp k) = refl
-literal_plain (prefix o f) = refl
-literal_plain (form.binary o f g) = refl
+literal_plain _ = refl
 
 pub plain_known : (r : Result Form AsmFault) → option_and_then (λ f. literal_in (Ok f)) (plain_result r) ≡ literal_in r
 plain_known (Ok f) = literal_plain f
@@ -133,10 +128,7 @@ plain_value (Some f) = sym (literal_plain f)
 
 pub plain_twice : (f : Form) → option_and_then plain_form (plain_form f) ≡ plain_form f
 plain_twice (lit v) = refl
-plain_twice (sec k a) = refl
-plain_twice (imp k) = refl
-plain_twice (prefix o f) = refl
-plain_twice (form.binary o f g) = refl
+plain_twice _ = refl
 
 pub plain_again : (r : Result Form AsmFault) → option_and_then plain_form (plain_result r) ≡ plain_result r
 plain_again (Ok f) = plain_twice f
@@ -150,7 +142,4 @@ operand_norm n y s (number v) m h = absurd cc
 operand_norm n y s here m h = absurd cc
 operand_norm n y s (unary op e) m h = absurd cc
 operand_norm n y s (binary op e g) m h = absurd cc
-operand_norm n y s (name global parts) m h = ap (λ r. r >>= form_of_binding (norm n y) y) h
-operand_norm n y s (cheap q) m h = ap (λ r. r >>= form_of_binding (norm n y) y) h
-operand_norm n y s (forward q) m h = ap (λ r. r >>= form_of_binding (norm n y) y) h
-operand_norm n y s (backward q) m h = ap (λ r. r >>= form_of_binding (norm n y) y) h
+operand_norm n y s _ m h = ap (λ r. r >>= form_of_binding (norm n y) y) h

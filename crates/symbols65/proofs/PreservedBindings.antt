@@ -108,10 +108,7 @@ module _ (y z : Symbols) where
         by : (b : Bool) → (if b then unnamed_binding y (s.unnamed - n) else Err NoSuchLabel) ≡ Ok m → (if b then unnamed_binding z (s.unnamed - n) else Err NoSuchLabel) ≡ Ok m
         by true q = label_stays (unnamed_at (s.unnamed - n)) NoSuchLabel m q
         by false q = absurd cc
-    operand_keeps s parent_scope (number v) agree m e = absurd cc
-    operand_keeps s parent_scope here agree m e = absurd cc
-    operand_keeps s parent_scope (unary op t) agree m e = absurd cc
-    operand_keeps s parent_scope (binary op t u) agree m e = absurd cc
+    operand_keeps s parent_scope _ agree m e = absurd cc
 
 same_scopes : (y z : Symbols) (s : Context) → z.scopes ≡ y.scopes → IsSameWithin y z s
 same_scopes y z s is = record { outward = ap (λ cs. scopes_from cs s.scope) is; opened = ap (take s.opened) is }

@@ -1,11 +1,11 @@
 -- Segments whose sections grow.
 use Rattle.std.proofs.lemmas.Grind.{common_steps}
-use Rattle.std.proofs.Common.{◌≡◌, ◌∙◌, ℕ, zero, suc, ◌+◌, ◌<◌, ◌≤◌, List, [], ◌∷◌, ◌++◌, length, map, position, get_or, set, take, drop, refl, sym, ap, arith}
+use Rattle.std.proofs.Common.{◌≡◌, ◌∙◌, ℕ, zero, suc, ◌+◌, ◌<◌, ◌≤◌, List, [], ◌∷◌, ◌++◌, length, map, position, get_or, set, refl, sym, ap, arith}
 use Rattle.std.proofs.Math.Path.{fun_ext}
 use Rattle.std.specs.Prelude.{Bool, true, false, cond, ◌||◌, Some, None}
 use Rattle.std.specs.List.{list_any, position_from, AllByRecursion}
 use Rattle.std.proofs.lemmas.Iterator.Adapters.{position_from-zero}
-use Rattle.std.proofs.lemmas.List.{append-nil, drop_all, length-append, map-append, take_all}
+use Rattle.std.proofs.lemmas.List.{length-append, map-append}
 use Rattle.semantics65.specs.declared.contents.Segment.{Segment}
 use Rattle.std.specs.Str.{bytes_eq}
 use Rattle.object65.specs.Objects.{section_limit}
@@ -14,10 +14,6 @@ use Rattle.semantics65.specs.Layout.{segment_after, with_grown_segment, segment_
 use Rattle.symbols65.specs.Internal.Cursors.{HaveBoundedSizes, IsWellFormedCursor}
 use Rattle.ast65.proofs.Lists.{bytes_swap, position_mapped}
 use Rattle.semantics65.proofs.Segments.{all_more, all_same, grown_length, grown_names}
-
--- overwriting a whole list with one of the same length gives the latter
-written_over : {A : Type 0} (n : ℕ) (xs ys : List A) → length xs ≡ length ys → n ≡ length ys → take n (xs ++ drop (length xs) ys) ≡ xs
-written_over n xs ys same long = ap (λ zs. take n (xs ++ zs)) (drop_all (length xs) ys (omega (arith, same))) ∙ ap (take n) (append-nil xs) ∙ take_all n xs (omega (arith, same, long))
 
 pub segment_is : (gs : List Segment) (i : ℕ) (g : Segment) → i < length gs → g ≡ get_or gs i g → g ≡ segment_at gs i
 segment_is [] i g lt e = absurd (omega arith)
@@ -53,11 +49,6 @@ pub grown_within : (gs : List Segment) (i count alignment : ℕ) → (segment_at
 grown_within [] i count alignment le h = tt
 grown_within (g ∷ gs) zero count alignment le h = (le, h.1)
 grown_within (g ∷ gs) (suc i) count alignment le h = (h.0, grown_within gs i count alignment le h.1)
-
--- the segments after they are overwritten with the same segments, of which one has grown
-pub written_grown : (n : ℕ) (new held gs : List Segment) (i count alignment : ℕ) → held ≡ gs → length held ≡ n → length new ≡ length held → new ≡ with_grown_segment held i count alignment → take n (new ++ drop (length new) gs) ≡ with_grown_segment gs i count alignment
-written_grown n new held gs i count alignment value long same e =
-    written_over n new gs (same ∙ ap length value) (sym long ∙ ap length value) ∙ e ∙ ap (λ hs. with_grown_segment hs i count alignment) value
 
 pub within_at : (gs : List Segment) (i : ℕ) → HaveBoundedSizes gs → i < length gs → (segment_at gs i).end ≤ section_limit
 within_at [] i h lt = absurd (omega arith)

@@ -34,9 +34,6 @@ pub unless_then : {P Q : Type 0} (b : Bool) → (P → Q) → Unless b P → Unl
 unless_then true f h = tt
 unless_then false f h = f h
 
-pub ok_then : {A E P Q : Type 0} (r : Result A E) → (P → Q) → OnOk r P → OnOk r Q
-ok_then x f h = grind (arith, common_steps)
-
 pub ok_with : {A E : Type 0} (P Q : A → Type 0) (r : Result A E) → ((x : A) → P x → Q x) → IfOk r P → IfOk r Q
 ok_with x y z f h = grind (arith, common_steps)
 
@@ -212,10 +209,8 @@ abbrev pub as_ok : ℕ → AddressSize → ℕ → EncodingChoice → Result Sta
 as_ok len own alignment st = Ok (record { length = len; size = own; alignment = alignment; encoding = st })
 
 pub aligned_well : (w : Cursor) (b : Bool) (st : EncodingChoice) (k : Option ℤ) (m g len : ℕ) → unless_fault {A = Unit {0}} (fault_if (not b) BadOperand) tt ≡ Ok tt → unless_fault (alignment_value_fault k) (nat_or_zero k) ≡ Ok m → g ≡ gap (context_of w).offset (Some (pos m)) → count_if_it_fits w g ≡ Ok len → aligned w b st k ≡ as_ok len (own_size w) m st
-aligned_well w false st k m g len h hm hg hf = absurd cc
-aligned_well w true st None m g len h hm hg hf = absurd cc
-aligned_well w true st (Some (negsuc j)) m g len h hm hg hf = absurd cc
 aligned_well w true st (Some (pos j)) m g len h hm hg hf = grind (arith, common_steps, no_fault, all_well)
+aligned_well w _ st _ m g len h hm hg hf = absurd cc
 
 no_room : {A : Type 0} (f r : Option AsmFault) (x : A) (e : AsmFault) → f ≡ None → r ≡ Some e → unless_fault (first_fault (None ∷ None ∷ f ∷ None ∷ None ∷ None ∷ None ∷ None ∷ r ∷ [])) x ≡ Err e
 no_room f r x e p q = grind (arith, common_steps)

@@ -139,26 +139,21 @@ module _ (ws : List (List ℕ)) (es : List (InternedKey × Definition)) (ss : Li
 
 -- ---- The interned key of a key.
 
+-- a key of an interned name has the first number of the name, and represents the key of the name
+named_entry : (ws : List (List ℕ)) (n : List ℕ) (k : InternedKey) (make : ℕ → InternedKey) (key : List ℕ → Key) → ((w : ℕ) → key_name_id (make w) ≡ Some w) → ((w : ℕ) → key_in ws (make w) ≡ key (interned_name ws w)) → (o : Option ℕ) → position (bytes_eq n) ws ≡ o → option_map make o ≡ Some k →
+    (first_number ws (key_name_id k) ≡ key_name_id k) × (key_in ws k ≡ key n)
+named_entry ws n k make key numbered names None is e = absurd cc
+named_entry ws n k make key numbered names (Some w) is e =
+    let same : make w ≡ k = cc in
+    let (m, at, passes) = first_passes (bytes_eq n) ws w is in
+    let name_id : interned_name ws w ≡ n = get_word ws w m at ∙ sym (same_bytes n m passes) in
+    subst (λ x. (first_number ws (key_name_id x) ≡ key_name_id x) × (key_in ws x ≡ key n)) same
+    (ap (first_number ws) (numbered w) ∙ ap (λ m. position (bytes_eq m) ws) name_id ∙ is ∙ sym (numbered w), names w ∙ ap key name_id)
+
 -- the interned key has the first number of its name, and represents the key
 pub entry_is : (ws : List (List ℕ)) (q : Key) (k : InternedKey) → interned_key_of ws q ≡ Some k → (first_number ws (key_name_id k) ≡ key_name_id k) × (key_in ws k ≡ q)
-entry_is ws (named s n) k e = by (position (bytes_eq n) ws) refl e
-  where
-    by : (o : Option ℕ) → position (bytes_eq n) ws ≡ o → option_map (entry.Named s) o ≡ Some k → (first_number ws (key_name_id k) ≡ key_name_id k) × (key_in ws k ≡ named s n)
-    by None is e = absurd cc
-    by (Some w) is e =
-        let same : entry.Named s w ≡ k = cc in
-        let (m, at, passes) = first_passes (bytes_eq n) ws w is in
-        let name_id : interned_name ws w ≡ n = get_word ws w m at ∙ sym (same_bytes n m passes) in
-        subst (λ x. (first_number ws (key_name_id x) ≡ key_name_id x) × (key_in ws x ≡ named s n)) same (ap (λ m. position (bytes_eq m) ws) name_id ∙ is, ap (named s) name_id)
-entry_is ws (cheap_in s n) k e = by (position (bytes_eq n) ws) refl e
-  where
-    by : (o : Option ℕ) → position (bytes_eq n) ws ≡ o → option_map (entry.Cheap s) o ≡ Some k → (first_number ws (key_name_id k) ≡ key_name_id k) × (key_in ws k ≡ cheap_in s n)
-    by None is e = absurd cc
-    by (Some w) is e =
-        let same : entry.Cheap s w ≡ k = cc in
-        let (m, at, passes) = first_passes (bytes_eq n) ws w is in
-        let name_id : interned_name ws w ≡ n = get_word ws w m at ∙ sym (same_bytes n m passes) in
-        subst (λ x. (first_number ws (key_name_id x) ≡ key_name_id x) × (key_in ws x ≡ cheap_in s n)) same (ap (λ m. position (bytes_eq m) ws) name_id ∙ is, ap (cheap_in s) name_id)
+entry_is ws (named s n) k e = named_entry ws n k (entry.Named s) (named s) (λ w. refl) (λ w. refl) (position (bytes_eq n) ws) refl e
+entry_is ws (cheap_in s n) k e = named_entry ws n k (entry.Cheap s) (cheap_in s) (λ w. refl) (λ w. refl) (position (bytes_eq n) ws) refl e
 entry_is ws (unnamed_at c) k e = (let same : entry.Unnamed c ≡ k = cc in subst (λ x. (first_number ws (key_name_id x) ≡ key_name_id x) × (key_in ws x ≡ unnamed_at c)) same (refl, refl))
 
 -- The key of a scope with a name has the first number of the name, and represents the scope. `HasNumber` is trivial, since

@@ -1,11 +1,11 @@
 //! Evaluates expressions at a line: forms, address sizes, constant values, and the addressing
 //! modes of instructions.
 
-ghost use Rattle.std.specs.Prelude.{◌≡◌, Ok, IfOk, IfSome, Option, Some, if◌then◌else◌};
+ghost use Rattle.std.specs.Prelude.{◌≡◌, Ok, IfOk, Option, Some, if◌then◌else◌};
 ghost use Rattle.syntax65.specs.Trees.{Tree, binary, name, unary};
 ghost use Rattle.semantics65.specs.Contents.{operand_tree};
 ghost use Rattle.semantics65.specs.Layout.{context_of, missing_scope_fault, own_size};
-ghost use Rattle.semantics65.specs.Norms.{literal_in, constant_in, larger, size_by, size_of, size_of_binding, size_of_value, is_byte_selector, address_mode, first_of, is_branch, mode_for, mode_of};
+ghost use Rattle.semantics65.specs.Norms.{literal_in, constant_in, size_by, size_of, size_of_binding, size_of_value, address_mode, first_of, mode_for, mode_of};
 ghost use Rattle.symbols65.specs.Evaluations.{EvaluatesTree, HasFinal, IsEvaluated, IsEvaluation};
 ghost use Rattle.symbols65.specs.Measuring.{ChecksStatement};
 ghost use Rattle.symbols65.specs.Resolving.{IsReference, binding_in, plain_form};
@@ -18,8 +18,8 @@ ghost use Rattle.semantics65.specs.declared.contexts.Context.{Context};
 
 use crate::measuring::LineState;
 use crate::resolving::{
-    Binding, address, binary_form, binding_at, final_binding_form, find_plain_form, name_text,
-    plain_form, plain_form_of_binding, plain_part, prefix_form, scope_of, scopes_in,
+    Binding, address, binding_at, final_binding_form, find_plain_form, folded_form_if_any,
+    name_text, plain_form, plain_form_of_binding, plain_part, scope_of, scopes_in,
 };
 use crate::table::Symbols;
 use ast65::{AsmFault, Index, Operand};
@@ -61,26 +61,6 @@ fn size_of_value(value: i64) -> AddressSize
         AddressSize::ZeroPage
     } else {
         AddressSize::Absolute
-    }
-}
-
-/// Returns the address size of a prefix operation without a constant value, given the size of its operand.
-fn prefix_size(op: Op1, part: AddressSize) -> AddressSize
-    ensures { result ≡ (if is_byte_selector op then ZeroPage else part) }
-{
-    match op {
-        Op1::LowByte | Op1::HighByte | Op1::BankByte => AddressSize::ZeroPage,
-        _ => part,
-    }
-}
-
-/// Returns the larger of two address sizes.
-fn larger(first: AddressSize, second: AddressSize) -> AddressSize
-    ensures { result ≡ larger first second }
-{
-    match first {
-        AddressSize::ZeroPage => second,
-        AddressSize::Absolute => AddressSize::Absolute,
     }
 }
 
@@ -167,9 +147,16 @@ fn evaluate_prefix(alloc: Global, op: Op1, part: Evaluation) -> Result<Evaluatio
     ensures { (y : Table) (s : Context) (own : AddressSize) (e : Tree) →
         IsEvaluation y s own e part → IfOk result (IsEvaluation y s own (unary op e)) }
 {
-    let other = prefix_size(op, part.size);
+    // Without a constant value, the result of a byte selector has one byte.
+    let other = match op {
+        Op1::LowByte | Op1::HighByte | Op1::BankByte => AddressSize::ZeroPage,
+        _ => part.size,
+    };
     let is_final = part.is_final;
-    let form = prefix_form(alloc, op, part.form)?;
+    let Some(part) = part.form else {
+        return Ok(evaluation_of(None, is_final, other));
+    };
+    let form = folded_form_if_any(Norm::prefix(alloc, op, part))?;
     Ok(evaluation_of(form, is_final, other))
 }
 
@@ -184,9 +171,16 @@ fn evaluate_binary(
         IsEvaluation y s own e left → IsEvaluation y s own g right →
         IfOk result (IsEvaluation y s own (binary op e g)) }
 {
-    let other = larger(left.size, right.size);
+    // Without a constant value, the result has the larger of both sizes.
+    let other = match left.size {
+        AddressSize::ZeroPage => right.size,
+        AddressSize::Absolute => AddressSize::Absolute,
+    };
     let is_final = left.is_final && right.is_final;
-    let form = binary_form(alloc, op, left.form, right.form)?;
+    let (Some(left), Some(right)) = (left.form, right.form) else {
+        return Ok(evaluation_of(None, is_final, other));
+    };
+    let form = folded_form_if_any(Norm::binary(alloc, op, left, right))?;
     Ok(evaluation_of(form, is_final, other))
 }
 
@@ -281,12 +275,6 @@ fn first_of(mnemonic: Mnemonic, first: Mode, second: Mode) -> Option<Mode>
     }
 }
 
-fn is_branch(mnemonic: Mnemonic) -> bool
-    ensures { result ≡ is_branch mnemonic }
-{
-    opcode(mnemonic, Mode::Relative).is_some()
-}
-
 /// Returns the addressing mode of an address operand, if the instruction has one. A prefix forces the size. Without a
 /// prefix, the expression's size comes first, then the other size.
 fn address_mode(
@@ -355,7 +343,7 @@ pub fn mode(mnemonic: Mnemonic, operand: &Operand, found: &Option<Evaluation>) -
         Operand::Accumulator => first_of(mnemonic, Mode::Accumulator, Mode::Accumulator),
         Operand::Immediate(_) => first_of(mnemonic, Mode::Immediate, Mode::Immediate),
         Operand::Address { prefix, index, .. } => {
-            if is_branch(mnemonic) {
+            if opcode(mnemonic, Mode::Relative).is_some() {
                 // A branch accepts neither a prefix nor an index.
                 return match (prefix, index) {
                     (None, None) => Some(Mode::Relative),

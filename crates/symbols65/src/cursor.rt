@@ -3,7 +3,7 @@
 ghost use Rattle.std.specs.Prelude.{◌≡◌, ◌+◌, ◌<◌, ◌≤◌, length, OnOk, IfOk, None, ◌++◌, ◌∷◌, [], if◌then◌else◌};
 ghost use Rattle.object65.specs.Objects.{section_limit};
 ghost use Rattle.semantics65.specs.Symbols.{is_unnamed, opens_region, Symbols as Table};
-ghost use Rattle.semantics65.specs.Layout.{current_after, first_size, with_grown_segment, has_pushed_segments, pushed_segments_after, last_pushed_segment, named_segments, new_segment, opens_scope, existing_or_new_index, segment_index, earlier_pushed_segments, scope_after, segment_at, segments_after, context_of, start};
+ghost use Rattle.semantics65.specs.Layout.{current_after, first_size, with_grown_segment, has_pushed_segments, pushed_segments_after, named_segments, new_segment, opens_scope, existing_or_new_index, segment_index, scope_after, segment_at, segments_after, context_of, start};
 ghost use Rattle.syntax65.specs.declared.instructions.names.Mnemonic.{Mnemonic};
 ghost use Rattle.ast65.specs.declared.language.Operand.{Operand};
 ghost use Rattle.ast65.specs.declared.language.Statement.TheVariants.{Instruction};
@@ -140,31 +140,9 @@ impl Cursor {
           segments = with_grown_segment self.old.segments self.old.current count alignment;
         } }
     {
-        grow(&mut self.segments, self.current as usize, count, alignment);
-    }
-
-    /// Adds a segment and makes it the current one.
-    fn add_segment(
-        &mut self,
-        alloc: Global,
-        name: &[u8],
-        size: Option<AddressSize>,
-    ) -> Result<(), AllocError>
-        requires few { length self.old.segments < 4294967295 }
-        requires new { segment_index self.old.segments name.now ≡ None }
-        ensures { OnOk result (self.new ≡ record self.old {
-          segments = self.old.segments ++ new_segment name.now (first_size name.now size) ∷ [];
-          current = length self.old.segments;
-        }) }
-    {
-        let index = self.segments.len();
-        let segment = segment_of(alloc, name, size)?;
-        // If memory runs out, neither table gets the segment.
-        self.segments.reserve(1)?;
-        self.names.insert(Vec::from_slice(alloc, name)?)?;
-        self.segments.push_reserved(segment);
-        self.current = index as u32;
-        Ok(())
+        let segment = &mut self.segments[self.current as usize];
+        segment.end += count;
+        segment.align = segment.align.max(alignment);
     }
 
     /// Makes the segment with this name the current one. Adds it if there is none.
@@ -183,37 +161,18 @@ impl Cursor {
               (segment_index self.old.segments name.now);
         }) }
     {
-        match self.segment_index(name) {
-            None => self.add_segment(alloc, name, size),
-            Some(index) => {
-                self.current = index as u32;
-                Ok(())
-            }
+        if let Some(index) = self.segment_index(name) {
+            self.current = index as u32;
+            return Ok(());
         }
-    }
-
-    /// Saves the index of the current segment.
-    #[inline(never)]
-    fn push_segment(&mut self) -> Result<(), AllocError>
-        ensures { OnOk result (self.new ≡ record self.old {
-          pushed_segments = self.old.current ∷ self.old.pushed_segments;
-        }) }
-    {
-        self.pushed_segments.push(self.current)?;
+        let index = self.segments.len();
+        let segment = segment_of(alloc, name, size)?;
+        // If memory runs out, neither table gets the segment.
+        self.segments.reserve(1)?;
+        self.names.insert(Vec::from_slice(alloc, name)?)?;
+        self.segments.push_reserved(segment);
+        self.current = index as u32;
         Ok(())
-    }
-
-    /// Makes the segment that was saved last the current one, if there is one, and
-    /// removes it from the saved ones.
-    fn pop_segment(&mut self)
-        ensures { self.new ≡ record self.old {
-          current = last_pushed_segment self.old.current self.old.pushed_segments;
-          pushed_segments = earlier_pushed_segments self.old.pushed_segments;
-        } }
-    {
-        if let Some(index) = self.pushed_segments.pop() {
-            self.current = index;
-        }
     }
 
     /// Updates the segments after a statement of `count` bytes.
@@ -237,11 +196,14 @@ impl Cursor {
             Statement::Segment { name, size } => self.select(alloc, name.as_slice(), *size),
             Statement::PushSegment => {
                 self.grow(count, alignment);
-                self.push_segment()
+                self.pushed_segments.push(self.current)?;
+                Ok(())
             }
             Statement::PopSegment => {
                 self.grow(count, alignment);
-                self.pop_segment();
+                if let Some(index) = self.pushed_segments.pop() {
+                    self.current = index;
+                }
                 Ok(())
             }
             _ => {
@@ -310,18 +272,6 @@ impl Cursor {
             _ => {}
         }
     }
-}
-
-/// Extends a segment's section by `count` bytes, and raises its alignment to
-/// `alignment` if it is lower.
-fn grow(segments: &mut [Segment], index: usize, count: u32, alignment: u32)
-    requires index { index < length segments.old }
-    requires end { (segment_at segments.old index).end + count ≤ section_limit }
-    ensures { segments.new ≡ with_grown_segment segments.old index count alignment }
-{
-    let segment = &mut segments[index];
-    segment.end += count;
-    segment.align = segment.align.max(alignment);
 }
 
 /// Creates a segment. The default size is zero page for ZEROPAGE, and absolute for all

@@ -10,8 +10,7 @@ ghost use Rattle.std.specs.Str.{bytes_eq};
 ghost use Rattle.indexmap.specs.IndexMap.{keys, index_map_len};
 ghost use Rattle.semantics65.specs.Layout.{opened_twice};
 ghost use Rattle.semantics65.specs.Symbols.{with_new_names, enclosing, scope_in, parent_scope, definition_index, import_index, named};
-ghost use Rattle.symbols65.specs.Tables.{IsPrefixOf, HasNumber, IsScopeKey, first_number, same_scope_key, scope_by, scope_name_id, StoresFinalForm, definition_view, interned_key_of, key_of, same_interned_key};
-ghost use Rattle.symbols65.specs.Resolving.{IsUnknownName};
+ghost use Rattle.symbols65.specs.Tables.{IsPrefixOf, IsScopeKey, same_scope_key, StoresFinalForm, definition_view, interned_key_of, key_of, same_interned_key};
 ghost use Rattle.symbols65.specs.Views.{table_of, with_names, with_scope, interned_names_of, key_at};
 ghost use Rattle.semantics65.specs.Norms.{is_zero_page_name};
 
@@ -128,13 +127,6 @@ impl Symbols {
             Some(entry) => self.index_of_key(entry),
             None => None,
         }
-    }
-
-    /// Returns whether a name is neither defined nor imported.
-    pub fn is_unknown(&self, name: &[u8]) -> bool
-        ensures { result ≡ true → IsUnknownName (table_of self.now) name.now }
-    {
-        self.name_id(name).is_none() && self.imported(name).is_none()
     }
 
     /// Returns the number of definitions.
@@ -269,24 +261,6 @@ impl Symbols {
         }
     }
 
-    /// Adds a scope, unless its key is in the table.
-    fn add_scope(&mut self, scope_key: ScopeKey, is_proc: bool) -> Result<(), AllocError>
-        requires number { first_number (interned_names_of self.old) (scope_name_id scope_key) ≡
-            scope_name_id scope_key }
-        requires distinct { HasNumber (length self.old.scopes.entries) scope_key }
-        ensures { OnOk result (position (same_scope_key scope_key) (keys self.old.scopes) ≡ None →
-            table_of self.new ≡ with_scope (table_of self.old)
-            (scope_by (interned_names_of self.old) scope_key is_proc)) }
-    {
-        match self.scope_index(scope_key) {
-            Some(_) => Ok(()),
-            None => {
-                self.searched.clear();
-                push_scope(&mut self.scopes, scope_key, is_proc)
-            }
-        }
-    }
-
     /// Opens a scope within another. The result is unspecified if the outer scope already has a scope of this name.
     pub fn open_scope(
         &mut self,
@@ -306,7 +280,11 @@ impl Symbols {
             })) }
     {
         let scope_key = self.new_scope_key(alloc, within, name)?;
-        self.add_scope(scope_key, is_proc)
+        if self.scope_index(scope_key).is_some() {
+            return Ok(());
+        }
+        self.searched.clear();
+        push_scope(&mut self.scopes, scope_key, is_proc)
     }
 
     /// Imports names, for the zero page if `is_zero_page`.

@@ -1,7 +1,7 @@
 -- What the assembler holds between two statements, and what taking one leaves.
 use Rattle.std.specs.Prelude.{◌≡◌, ℕ, ◌<◌, ⊤, false, List, [], ◌∷◌, Option, Some, Bool, true, pos, None, Result, Ok, Err, ◌++◌, if◌then◌else◌}
 use Rattle.std.specs.List.{AllByRecursion, flat_map, list_all}
-use Rattle.syntax65.specs.Trees.{Tree, name}
+use Rattle.syntax65.specs.Trees.{name}
 use Rattle.syntax65.specs.declared.source_location.SourceLocation.{SourceLocation}
 use Rattle.semantics65.specs.Contents.{Part, operand_form, section_part, value_part, section_request}
 use Rattle.semantics65.specs.declared.contexts.Context.{Context}

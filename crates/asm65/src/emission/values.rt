@@ -1,14 +1,12 @@
 //! Emits values at once if their forms are final and have no error, or defers them.
 
-ghost use Rattle.std.specs.Prelude.{◌≡◌, drop, IfOk, IfSome, List, map, Ok, OnOk, Some, take, ℕ};
-ghost use Rattle.semantics65.specs.Contents.{file_bytes, section_part, value_part, Known};
+ghost use Rattle.std.specs.Prelude.{◌≡◌, IfOk, IfSome, List, map, Ok, OnOk, Some, ℕ};
+ghost use Rattle.semantics65.specs.Contents.{file_bytes, value_part};
 ghost use Rattle.ast65.specs.Items.{literal_item};
 ghost use Rattle.semantics65.specs.Views.{location_of_ref};
 ghost use Rattle.symbols65.specs.Evaluations.{HasFinal};
 ghost use Rattle.symbols65.specs.Views.{table_of};
 ghost use Rattle.asm65.specs.Internal.AssemblerState.{AreEncodedNumbers, AppendsPart, operand_part, ChangesOnlySections, DefersPiece, EmitsIfResolved, purpose_of};
-ghost use Rattle.base65.specs.Outcome.{Refines};
-ghost use Rattle.ast65.specs.Faults.{is_out_of_memory};
 ghost use Rattle.object65.specs.Objects.{is_file_name};
 ghost use Rattle.emit65.specs.SectionContents.{piece_of};
 ghost use Rattle.semantics65.specs.Module.{expression_value};

@@ -166,15 +166,6 @@ fn width_len(width: Width) -> usize
     }
 }
 
-fn item_len(width: Width, item: &Item) -> usize
-    ensures { result ≡ item_len width item.now }
-{
-    match item {
-        Item::Value(_) => width_len(width),
-        Item::StringLiteral(bytes) => bytes.len(),
-    }
-}
-
 /// Returns the bytes left after a list of any elements, if there are enough.
 fn remaining_after_mixed(width: Width, items: &[Item], remaining: usize) -> Option<usize>
     ensures { MatchOption result (remaining < sum_by (item_len width) items.now)
@@ -182,7 +173,11 @@ fn remaining_after_mixed(width: Width, items: &[Item], remaining: usize) -> Opti
 {
     let mut left = remaining;
     for item in items {
-        left = left.checked_sub(item_len(width, item))?;
+        let length = match item {
+            Item::Value(_) => width_len(width),
+            Item::StringLiteral(bytes) => bytes.len(),
+        };
+        left = left.checked_sub(length)?;
     }
     Some(left)
 }

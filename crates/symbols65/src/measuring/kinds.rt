@@ -2,9 +2,8 @@
 
 ghost use Rattle.std.specs.Prelude.{◌≡◌, ◌&&◌, true};
 ghost use Rattle.ast65.specs.declared.fault.AsmFault.TheVariants.{DefinedTwice, NotUnderstood, ScopeTwice};
-ghost use Rattle.semantics65.specs.Layout.{context_of, defined_twice, is_not_global, opened_twice, own_size, scope_name, is_global_only, fault_if, fault_if_some};
-ghost use Rattle.semantics65.specs.Symbols.{scope_in, definition_index, key_defined, needs_section, has_here};
-ghost use Rattle.symbols65.specs.Tables.{key_of};
+ghost use Rattle.semantics65.specs.Layout.{context_of, defined_twice, is_not_global, opened_twice, own_size, scope_name, is_global_only, fault_if};
+ghost use Rattle.semantics65.specs.Symbols.{scope_in, key_defined, needs_section, has_here};
 ghost use Rattle.symbols65.specs.Views.{table_of};
 ghost use Rattle.symbols65.specs.Evaluations.{AreEvaluations};
 ghost use Rattle.symbols65.specs.Measuring.{ChecksStatement, LaysOutStatement};
@@ -36,27 +35,6 @@ pub fn check_global_only(scope: usize, statement: &Statement) -> Result<(), AsmF
     }
 }
 
-/// Rejects a new scope if the enclosing scope already has one with this name.
-#[inline(never)]
-fn check_new_scope(
-    alloc: Global,
-    symbols: &Symbols,
-    scope: usize,
-    name: &[u8],
-) -> Result<(), AsmFault>
-    ensures { ChecksStatement result
-        (fault_if_some (scope_in (table_of symbols.now).scopes scope name.now)
-        (ScopeTwice name.now)) }
-{
-    match symbols.scope_in(scope, name) {
-        None => Ok(()),
-        Some(_) => {
-            let name = Vec::from_slice(alloc, name)?;
-            Err(AsmFault::ScopeTwice(ListVec::from_vec(name)))
-        }
-    }
-}
-
 /// Rejects a statement that opens a scope if the enclosing scope already has one with its name.
 pub fn check_opened(
     alloc: Global,
@@ -67,26 +45,14 @@ pub fn check_opened(
     ensures { ChecksStatement result (opened_twice (table_of symbols.now).scopes scope
         (scope_name statement.now)) }
 {
-    match statement {
-        Statement::OpenScope(Some(name)) | Statement::OpenProc(name) => {
-            check_new_scope(alloc, symbols, scope, name.as_slice())
-        }
-        _ => Ok(()),
-    }
-}
-
-/// Rejects a name whose key is already defined.
-#[inline(never)]
-fn check_key(alloc: Global, symbols: &Symbols, key: Key<'_>, name: &[u8]) -> Result<(), AsmFault>
-    ensures { ChecksStatement result
-        (fault_if_some (definition_index (table_of symbols.now) (key_of key.entry))
-        (DefinedTwice name.now)) }
-{
-    match symbols.defined(key) {
+    let (Statement::OpenScope(Some(name)) | Statement::OpenProc(name)) = statement else {
+        return Ok(());
+    };
+    match symbols.scope_in(scope, name.as_slice()) {
         None => Ok(()),
         Some(_) => {
-            let name = Vec::from_slice(alloc, name)?;
-            Err(AsmFault::DefinedTwice(ListVec::from_vec(name)))
+            let name = Vec::from_slice(alloc, name.as_slice())?;
+            Err(AsmFault::ScopeTwice(ListVec::from_vec(name)))
         }
     }
 }
@@ -103,18 +69,25 @@ pub fn check_defined(
 {
     let scope = context.scope as usize;
     let region = context.region as usize;
-    match statement {
+    let (key, name) = match statement {
         Statement::Label(name)
         | Statement::OpenProc(name)
         | Statement::Constant { name, value: _ } => {
             let name = name.as_slice();
-            check_key(alloc, symbols, Key::Named { scope, name }, name)
+            (Key::Named { scope, name }, name)
         }
         Statement::CheapLabel(name) => {
             let name = name.as_slice();
-            check_key(alloc, symbols, Key::Cheap { region, name }, name)
+            (Key::Cheap { region, name }, name)
         }
-        _ => Ok(()),
+        _ => return Ok(()),
+    };
+    match symbols.defined(key) {
+        None => Ok(()),
+        Some(_) => {
+            let name = Vec::from_slice(alloc, name)?;
+            Err(AsmFault::DefinedTwice(ListVec::from_vec(name)))
+        }
     }
 }
 

@@ -1,7 +1,7 @@
 //! Checks of segments and scopes, and the layout of `.res` and `.align`.
 
-ghost use Rattle.std.specs.Prelude.{◌≡◌, not, slice_get, ◌<◌, ◌≤◌, IfOk, Option, pos, Some};
-ghost use Rattle.semantics65.specs.Layout.{segment_index, segment_at, context_of as cursor_context, changed_size, is_opened_by_scope, scope_record, own_size, same_size, fault_if, unless_fault, is_count, alignment_value_fault};
+ghost use Rattle.std.specs.Prelude.{◌≡◌, not, slice_get, ◌<◌, ◌≤◌, IfOk, Option, Some};
+ghost use Rattle.semantics65.specs.Layout.{segment_index, context_of as cursor_context, changed_size, is_opened_by_scope, scope_record, own_size, same_size, fault_if, unless_fault, is_count, alignment_value_fault};
 ghost use Rattle.ast65.specs.declared.fault.AsmFault.TheVariants.{BadOperand};
 ghost use Rattle.symbols65.specs.Views.{table_of};
 ghost use Rattle.symbols65.specs.Evaluations.{AreEvaluations, IsEvaluated};
@@ -54,15 +54,6 @@ fn same_size(one: AddressSize, other: AddressSize) -> bool
     }
 }
 
-fn size_at(segments: &[Segment], index: usize) -> AddressSize
-    ensures { result ≡ (segment_at segments.now index).size }
-{
-    match segments.get(index) {
-        Some(segment) => segment.size,
-        None => AddressSize::Absolute,
-    }
-}
-
 /// Rejects an address size that differs from that of an existing segment.
 pub fn check_segment(
     cursor: &Cursor,
@@ -78,7 +69,11 @@ pub fn check_segment(
     let Some(index) = cursor.segment_index(name) else {
         return Ok(());
     };
-    if same_size(size, size_at(cursor.segments(), index)) {
+    let own = match cursor.segments().get(index) {
+        Some(segment) => segment.size,
+        None => AddressSize::Absolute,
+    };
+    if same_size(size, own) {
         Ok(())
     } else {
         Err(AsmFault::SizeChanged)
@@ -160,17 +155,6 @@ fn checked_alignment(value: Option<i64>) -> Result<u32, AsmFault>
     }
 }
 
-/// Returns the number of bytes that align the end of the current section to
-/// `alignment`.
-fn gap(cursor: &Cursor, alignment: u32) -> u32
-    requires bounds { alignment ≤ 32768 }
-    requires positive { 0 < alignment }
-    ensures { result ≡ gap (cursor_context cursor.now).offset (Some (pos alignment)) }
-{
-    let offset = cursor.segment().end;
-    offset.next_multiple_of(alignment) - offset
-}
-
 /// Lays out `.align`, from the evaluations of its alignment and its fill value.
 #[inline(never)]
 pub fn align(cursor: &Cursor, found: &Evaluations) -> Result<StatementLayout, AsmFault>
@@ -184,7 +168,9 @@ pub fn align(cursor: &Cursor, found: &Evaluations) -> Result<StatementLayout, As
     }
     let encoding = fill_byte(&found.second)?;
     let alignment = checked_alignment(alignment)?;
-    let length = fit(cursor, gap(cursor, alignment) as usize)?;
+    let offset = cursor.segment().end;
+    let gap = offset.next_multiple_of(alignment) - offset;
+    let length = fit(cursor, gap as usize)?;
     Ok(StatementLayout {
         length,
         alignment,

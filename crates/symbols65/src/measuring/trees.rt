@@ -6,7 +6,7 @@ ghost use Rattle.base65.specs.Outcome.{Refines};
 ghost use Rattle.ast65.specs.Faults.{is_out_of_memory};
 ghost use Rattle.semantics65.specs.Contents.{operand_tree};
 ghost use Rattle.semantics65.specs.Layout.{context_of, missing_scopes_fault, item_trees, optional_tree, own_size, trees_of, unless_fault};
-ghost use Rattle.symbols65.specs.Evaluations.{AreEvaluations, HasFinal, HaveFinals, IsEvaluated, first_tree, item_tree, second_tree};
+ghost use Rattle.symbols65.specs.Evaluations.{AreEvaluations, HaveFinals, IsEvaluated, first_tree, second_tree};
 ghost use Rattle.symbols65.specs.Views.{table_of};
 
 use crate::constants::{Evaluation, evaluate, final_form};
@@ -92,27 +92,6 @@ fn second_value(statement: &Statement) -> Option<&Expr>
     }
 }
 
-/// Evaluates an element of a list, and returns its final form, if that is evident already.
-fn evaluate_item(
-    alloc: Global,
-    before: LineState<'_>,
-    item: &Item,
-) -> Result<Option<Norm>, AsmFault>
-    ensures scopes { Refines is_out_of_memory (λ _. tt {0}) result (unless_fault
-        (missing_scopes_fault (table_of before.entry.symbols.now).scopes
-        (context_of before.entry.cursor.now).scope (item_trees (item.now ∷ []))) tt) }
-    ensures form { IfOk result (HasFinal (table_of before.entry.symbols.now)
-        (context_of before.entry.cursor.now) (item_tree item.now)) }
-{
-    match item {
-        Item::Value(value) => {
-            let found = evaluate_optional(alloc, before, Some(value))?;
-            Ok(final_form(found))
-        }
-        Item::StringLiteral(_) => Ok(None),
-    }
-}
-
 /// Evaluates the elements of a list, and returns the final form of each, if it is evident already.
 #[inline(never)]
 fn evaluate_items(
@@ -128,29 +107,14 @@ fn evaluate_items(
 {
     let mut forms = Vec::with_capacity(alloc, items.len())?;
     for item in items {
-        let form = evaluate_item(alloc, before, item)?;
-        forms.push(form)?;
+        let value = match item {
+            Item::Value(value) => Some(value),
+            Item::StringLiteral(_) => None,
+        };
+        let found = evaluate_optional(alloc, before, value)?;
+        forms.push(final_form(found))?;
     }
     Ok(forms)
-}
-
-/// Evaluates a list, and returns the final forms of its elements; an empty vector if all elements are
-/// numbers.
-fn evaluate_list(
-    alloc: Global,
-    before: LineState<'_>,
-    items: &Items,
-) -> Result<Vec<Option<Norm>>, AsmFault>
-    ensures scopes { Refines is_out_of_memory (λ _. tt {0}) result (unless_fault
-        (missing_scopes_fault (table_of before.entry.symbols.now).scopes
-        (context_of before.entry.cursor.now).scope (item_trees items.now)) tt) }
-    ensures forms { IfOk result (λ forms. HaveFinals (table_of before.entry.symbols.now)
-        (context_of before.entry.cursor.now) items.now forms.items) }
-{
-    match items.kind() {
-        ItemsKind::Numbers(_) => Ok(Vec::new(alloc)),
-        ItemsKind::Mixed(items) => evaluate_items(alloc, before, items.as_slice()),
-    }
 }
 
 /// Evaluates two optional expressions, in order.
@@ -195,38 +159,21 @@ pub fn evaluate_trees(
         (context_of before.entry.cursor.now) (own_size before.entry.cursor.now)
         statement.now) }
 {
-    match statement {
-        Statement::Values { items, .. } => {
-            let forms = evaluate_list(alloc, before, items)?;
-            Ok(Evaluations {
-                first: None,
-                second: None,
-                forms,
-            })
-        }
-        _ => {
-            let first = first_value(statement);
-            let second = second_value(statement);
-            evaluate_two(alloc, before, first, second)
-        }
-    }
-}
-
-/// Searches for the forms of the constants in the elements of a list.
-fn search_items(
-    alloc: Global,
-    symbols: &mut Symbols,
-    context: Context,
-    items: &[Item],
-) -> Result<(), AllocError>
-    ensures { table_of symbols.new ≡ table_of symbols.old }
-{
-    for item in items {
-        if let Item::Value(value) = item {
-            search_constants(alloc, symbols, context, value)?;
-        }
-    }
-    Ok(())
+    let Statement::Values { items, .. } = statement else {
+        let first = first_value(statement);
+        let second = second_value(statement);
+        return evaluate_two(alloc, before, first, second);
+    };
+    let forms = match items.kind() {
+        // Numbers need no evaluation.
+        ItemsKind::Numbers(_) => Vec::new(alloc),
+        ItemsKind::Mixed(items) => evaluate_items(alloc, before, items.as_slice())?,
+    };
+    Ok(Evaluations {
+        first: None,
+        second: None,
+        forms,
+    })
 }
 
 /// Searches for the forms of the constants in an optional expression.
@@ -271,14 +218,17 @@ pub fn search_statement(
     if !symbols.has_unresolved {
         return Ok(());
     }
-    match statement {
-        Statement::Values { items, .. } => match items.kind() {
-            ItemsKind::Numbers(_) => Ok(()),
-            ItemsKind::Mixed(items) => search_items(alloc, symbols, context, items.as_slice()),
-        },
-        _ => {
-            search_optional(alloc, symbols, context, first_value(statement))?;
-            search_optional(alloc, symbols, context, second_value(statement))
+    let Statement::Values { items, .. } = statement else {
+        search_optional(alloc, symbols, context, first_value(statement))?;
+        return search_optional(alloc, symbols, context, second_value(statement));
+    };
+    let ItemsKind::Mixed(items) = items.kind() else {
+        return Ok(());
+    };
+    for item in items.as_slice() {
+        if let Item::Value(value) = item {
+            search_constants(alloc, symbols, context, value)?;
         }
     }
+    Ok(())
 }

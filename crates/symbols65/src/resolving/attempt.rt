@@ -1,13 +1,13 @@
 //! Attempts at the form of an expression, by the forms that are known so far.
 
-ghost use Rattle.std.specs.Prelude.{◌≡◌, nat_eq, slice_get};
+ghost use Rattle.std.specs.Prelude.{◌≡◌, slice_get};
 ghost use Rattle.base65.specs.Outcome.{Refines};
 ghost use Rattle.indexmap.specs.IndexMap.{get};
 ghost use Rattle.ast65.specs.declared.fault.AsmFault.TheVariants.{OutOfMemory};
 ghost use Rattle.semantics65.specs.Norms.{address_of};
 ghost use Rattle.symbols65.specs.declared.resolving.attempt.AttemptError.TheVariants.{Fault};
 ghost use Rattle.symbols65.specs.Resolving.{attempt_definition, form_attempt, known_form, lacks_memory, binding_form, binding_in, constant_attempt, last_attempt};
-ghost use Rattle.symbols65.specs.Views.{entry_form, known_among, table_of};
+ghost use Rattle.symbols65.specs.Views.{known_among, table_of};
 
 use super::bindings::{Binding, binding_of, folded_form};
 use crate::table::{FormCache, SearchEntry, Symbols};
@@ -48,17 +48,6 @@ pub fn address(context: Context) -> Norm
     Norm::new(Node::SectionOffset(context.segment, i64::from(context.offset)))
 }
 
-/// Returns the form of the constant at an index if a search has found it.
-fn found_form(alloc: Global, known: &FormCache, index: usize) -> Result<Norm, AttemptError>
-    ensures { Refines lacks_memory (λ f. f) result
-        (known_form index (entry_form (get nat_eq known.now index))) }
-{
-    match known.get(&index) {
-        Some(SearchEntry::KnownForm(form)) => Ok(Norm::copy_of(alloc, form)?),
-        _ => Err(AttemptError::Needs(index)),
-    }
-}
-
 /// Returns the form of the definition at an index: that of a constant is final, or a search has
 /// found it.
 fn attempt_defined(
@@ -77,7 +66,10 @@ fn attempt_defined(
     match (&definition.value, &definition.form) {
         (None, _) => Ok(address(definition.context)),
         (Some(_), Some(form)) => Ok(Norm::copy_of(alloc, form)?),
-        (Some(_), None) => found_form(alloc, known, index),
+        (Some(_), None) => match known.get(&index) {
+            Some(SearchEntry::KnownForm(form)) => Ok(Norm::copy_of(alloc, form)?),
+            _ => Err(AttemptError::Needs(index)),
+        },
     }
 }
 
@@ -137,26 +129,6 @@ fn try_norm(
     }
 }
 
-/// Attempts the form of the definition at an index, by its own expression.
-pub fn try_at(
-    alloc: Global,
-    symbols: &Symbols,
-    known: &FormCache,
-    index: usize,
-) -> Result<Norm, AttemptError>
-    ensures { Refines lacks_memory (λ f. f) result (constant_attempt
-        (known_among symbols.now known.now)
-        (table_of symbols.now) index) }
-{
-    match symbols.definition(index) {
-        None => Err(AttemptError::Fault(AsmFault::NoSuchLabel)),
-        Some(definition) => match &definition.value {
-            None => Ok(address(definition.context)),
-            Some(value) => try_norm(alloc, symbols, known, definition.context, value),
-        },
-    }
-}
-
 /// Attempts the last of the pending constants or, if there is none, the expression itself.
 pub fn try_last(
     alloc: Global,
@@ -173,8 +145,14 @@ pub fn try_last(
         (table_of symbols.now) context value.now)
         pending_constants.now) }
 {
-    match pending_constants.last() {
-        None => try_norm(alloc, symbols, known, context, value),
-        Some(last) => try_at(alloc, symbols, known, *last),
+    let Some(last) = pending_constants.last() else {
+        return try_norm(alloc, symbols, known, context, value);
+    };
+    let Some(definition) = symbols.definition(*last) else {
+        return Err(AttemptError::Fault(AsmFault::NoSuchLabel));
+    };
+    match &definition.value {
+        None => Ok(address(definition.context)),
+        Some(value) => try_norm(alloc, symbols, known, definition.context, value),
     }
 }

@@ -173,15 +173,6 @@ pub fn plain_part(name: &Name) -> Option<&[u8]>
     }
 }
 
-/// Returns the unnamed label after `count` others, if there is one.
-fn unnamed_label(symbols: &Symbols, count: usize) -> Option<Binding>
-    ensures { unnamed_binding (table_of symbols.now) count ≡
-        ok_or (option_map binding_in result) NoSuchLabel }
-{
-    let index = symbols.defined(Key::Unnamed(count))?;
-    Some(Binding::Defined(index))
-}
-
 /// Returns an unnamed label after a use, given the number of labels before the use.
 fn label_after(symbols: &Symbols, before: u32, steps: usize) -> Option<Binding>
     ensures { unnamed_binding (table_of symbols.now) (before + steps - 1) ≡
@@ -192,7 +183,8 @@ fn label_after(symbols: &Symbols, before: u32, steps: usize) -> Option<Binding>
         Some(more) => (before as usize).checked_add(more)?,
         None => (before as usize).saturating_sub(1),
     };
-    unnamed_label(symbols, count)
+    let index = symbols.defined(Key::Unnamed(count))?;
+    Some(Binding::Defined(index))
 }
 
 /// Returns an unnamed label before a use, given the number of labels before the use.
@@ -201,7 +193,8 @@ fn label_before(symbols: &Symbols, before: u32, steps: usize) -> Option<Binding>
         ok_or (option_map binding_in result) NoSuchLabel }
 {
     let count = (before as usize).checked_sub(steps)?;
-    unnamed_label(symbols, count)
+    let index = symbols.defined(Key::Unnamed(count))?;
+    Some(Binding::Defined(index))
 }
 
 /// Returns the meaning of an operand in its context, if it has one.
@@ -238,26 +231,6 @@ fn undefined(alloc: Global, name: &[u8]) -> Result<AsmFault, AllocError>
     Ok(AsmFault::Undefined(ListVec::from_vec(name)))
 }
 
-/// Returns the error for a name with `::` without a meaning.
-fn scoped_name_fault(
-    alloc: Global,
-    symbols: &Symbols,
-    context: Context,
-    name: &Name,
-) -> Result<AsmFault, AllocError>
-    ensures { IfOk result (λ e.
-        e ≡ name_fault (table_of symbols.now) context name.now.is_global name.now.parts None) }
-{
-    let parts = name.parts.as_slice();
-    let opened = context.opened as usize;
-    let scope = context.scope as usize;
-    let text = name_text(alloc, name.is_global, parts)?;
-    match scope_of(symbols, opened, scope, name.is_global, scopes_in(parts)) {
-        None => Ok(AsmFault::NoSuchScope(text)),
-        Some(_) => Ok(AsmFault::Undefined(text)),
-    }
-}
-
 /// Returns the error for an operand without a meaning.
 #[inline(never)]
 fn binding_fault(
@@ -269,12 +242,20 @@ fn binding_fault(
     ensures { IfOk result (λ e. e ≡ binding_fault (table_of symbols.now) context operand.now) }
 {
     match operand.kind() {
-        ExprKind::Plain(name) => undefined(alloc, name.as_slice()),
-        ExprKind::Scoped(name) => match plain_part(name) {
-            Some(part) => undefined(alloc, part),
-            None => scoped_name_fault(alloc, symbols, context, name),
-        },
-        ExprKind::Cheap(name) => undefined(alloc, name.as_slice()),
+        ExprKind::Plain(name) | ExprKind::Cheap(name) => undefined(alloc, name.as_slice()),
+        ExprKind::Scoped(name) => {
+            if let Some(part) = plain_part(name) {
+                return undefined(alloc, part);
+            }
+            let parts = name.parts.as_slice();
+            let opened = context.opened as usize;
+            let scope = context.scope as usize;
+            let text = name_text(alloc, name.is_global, parts)?;
+            match scope_of(symbols, opened, scope, name.is_global, scopes_in(parts)) {
+                None => Ok(AsmFault::NoSuchScope(text)),
+                Some(_) => Ok(AsmFault::Undefined(text)),
+            }
+        }
         _ => Ok(AsmFault::NoSuchLabel),
     }
 }

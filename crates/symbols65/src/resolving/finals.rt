@@ -1,8 +1,8 @@
 //! Operands whose meaning stays whatever statements follow, blockers of constants, and folding of
 //! optional forms.
 
-ghost use Rattle.std.specs.Prelude.{IfSome, ◌≡◌, IfOk, Ok, Result, Some, slice_get, true};
-ghost use Rattle.symbols65.specs.Resolving.{IsBlocked, IsBlockedAt, HasFinalBinding, attempt_definition, binary_form, known_form, binding_in, prefix_form};
+ghost use Rattle.std.specs.Prelude.{IfSome, ◌≡◌, IfOk, Ok, Result, Some, true};
+ghost use Rattle.symbols65.specs.Resolving.{IsBlocked, HasFinalBinding, binding_in};
 ghost use Rattle.std.specs.Result.{result_ok};
 ghost use Rattle.base65.specs.Outcome.{Refines};
 ghost use Rattle.object65.specs.Form.{Form};
@@ -10,7 +10,7 @@ ghost use Rattle.object65.specs.Folding.{is_form_memory_fault};
 ghost use Rattle.object65.specs.declared.folding.FormFault.{FormFault};
 ghost use Rattle.semantics65.specs.Symbols.{binding_of, defined_at};
 ghost use Rattle.symbols65.specs.Evaluations.{HasFinal};
-ghost use Rattle.symbols65.specs.Views.{final_form, table_of};
+ghost use Rattle.symbols65.specs.Views.{table_of};
 
 use super::attempt::address;
 use super::bindings::{Binding, binding_at, plain_part};
@@ -22,7 +22,7 @@ use std::alloc::{AllocError, Global};
 use syntax65::{Expr, ExprKind};
 
 /// Returns a folded form; nothing if it has no value or is too large.
-fn optional_folded_form(form: Result<Norm, FormFault>) -> Result<Option<Norm>, AllocError>
+pub fn folded_form_if_any(form: Result<Norm, FormFault>) -> Result<Option<Norm>, AllocError>
     ensures { (r : Result Form FormFault) → Refines is_form_memory_fault (λ f. f) form r →
         IfOk result (λ f. f ≡ result_ok r) }
 {
@@ -30,31 +30,6 @@ fn optional_folded_form(form: Result<Norm, FormFault>) -> Result<Option<Norm>, A
         Ok(form) => Ok(Some(form)),
         Err(FormFault::OutOfMemory) => Err(AllocError),
         Err(FormFault::NoValue | FormFault::TooLarge) => Ok(None),
-    }
-}
-
-/// Folds a prefix operation; returns nothing if it or its operand has no form.
-pub fn prefix_form(alloc: Global, op: Op1, part: Option<Norm>) -> Result<Option<Norm>, AllocError>
-    ensures { IfOk result (λ f. f ≡ prefix_form op part) }
-{
-    match part {
-        Some(part) => optional_folded_form(Norm::prefix(alloc, op, part)),
-        None => Ok(None),
-    }
-}
-
-/// Folds a binary operation; returns nothing if it or one of its operands has no form.
-pub fn binary_form(
-    alloc: Global,
-    op: Op2,
-    left: Option<Norm>,
-    right: Option<Norm>,
-) -> Result<Option<Norm>, AllocError>
-    ensures { IfOk result (λ f. f ≡ binary_form op left right) }
-{
-    match (left, right) {
-        (Some(left), Some(right)) => optional_folded_form(Norm::binary(alloc, op, left, right)),
-        _ => Ok(None),
     }
 }
 
@@ -75,18 +50,6 @@ fn is_final(symbols: &Symbols, context: Context, operand: &Expr, index: usize) -
         ExprKind::Cheap(_) => true,
         ExprKind::Backward(_) => true,
         _ => false,
-    }
-}
-
-/// Returns the blocker of the definition at an index, or the definition itself, if it is a constant
-/// without a final form.
-fn blocker_at(symbols: &Symbols, index: usize) -> Option<usize>
-    ensures { IfSome result (IsBlockedAt (table_of symbols.now) index) }
-{
-    let definition = symbols.definition(index)?;
-    match (&definition.value, &definition.form) {
-        (Some(_), None) => Some(definition.blocker.unwrap_or(index)),
-        _ => None,
     }
 }
 
@@ -113,24 +76,12 @@ pub fn blocker_of(symbols: &Symbols, context: Context, value: &Expr) -> Option<u
             if !is_final(symbols, context, value, index) {
                 return None;
             }
-            blocker_at(symbols, index)
+            let definition = symbols.definition(index)?;
+            match (&definition.value, &definition.form) {
+                (Some(_), None) => Some(definition.blocker.unwrap_or(index)),
+                _ => None,
+            }
         }
-    }
-}
-
-/// Returns the final form of the definition at an index, if it has one.
-fn defined_final(alloc: Global, symbols: &Symbols, index: usize) -> Result<Option<Norm>, AllocError>
-    ensures { IfOk result (λ o. IfSome o (λ f.
-        attempt_definition (λ s e. known_form index (final_form symbols.now index))
-        (slice_get (table_of symbols.now).definitions index) ≡ Ok f)) }
-{
-    let Some(definition) = symbols.definition(index) else {
-        return Ok(None);
-    };
-    match (&definition.value, &definition.form) {
-        (None, _) => Ok(Some(address(definition.context))),
-        (Some(_), Some(form)) => Ok(Some(Norm::copy_of(alloc, form)?)),
-        (Some(_), None) => Ok(None),
     }
 }
 
@@ -151,5 +102,12 @@ pub fn final_binding_form(
     if !is_final(symbols, context, operand, index) {
         return Ok(None);
     }
-    defined_final(alloc, symbols, index)
+    let Some(definition) = symbols.definition(index) else {
+        return Ok(None);
+    };
+    match (&definition.value, &definition.form) {
+        (None, _) => Ok(Some(address(definition.context))),
+        (Some(_), Some(form)) => Ok(Some(Norm::copy_of(alloc, form)?)),
+        (Some(_), None) => Ok(None),
+    }
 }

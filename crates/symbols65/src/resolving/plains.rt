@@ -35,18 +35,6 @@ pub fn plain_form(form: &Norm) -> Option<Norm>
     }
 }
 
-/// Returns an error if memory ran out. After any other error an expression has no form.
-fn check_memory(fault: &AsmFault) -> Result<(), AllocError>
-    ensures form { IfOk result (λ u. is_out_of_memory fault.now ≡ false) }
-    ensures memory { OnErr result (is_out_of_memory fault.now ≡ true) }
-{
-    if fault.is_memory() {
-        Err(AllocError)
-    } else {
-        Ok(())
-    }
-}
-
 /// Returns the number or address of the constant at an index, or `Some(None)` if it has neither.
 /// Returns `None` if no entry of a search decides this.
 fn cached_plain_form(symbols: &Symbols, index: usize) -> Option<Option<Norm>>
@@ -56,16 +44,6 @@ fn cached_plain_form(symbols: &Symbols, index: usize) -> Option<Option<Norm>>
         Some(SearchEntry::KnownForm(form)) => Some(plain_form(form)),
         Some(SearchEntry::NoForm(count)) if *count == symbols.definition_count() => Some(None),
         _ => None,
-    }
-}
-
-/// Returns whether a search has found that the constant at an index has no number and no address.
-fn has_no_plain_form(symbols: &Symbols, index: usize) -> bool
-    ensures { result ≡ true → plain_result (defined_form (table_of symbols.now) index) ≡ None }
-{
-    match cached_plain_form(symbols, index) {
-        Some(form) => form.is_none(),
-        None => false,
     }
 }
 
@@ -81,8 +59,11 @@ fn blocker_of(symbols: &Symbols, index: usize) -> Option<usize>
 fn is_blocked(symbols: &Symbols, index: usize) -> bool
     ensures { result ≡ true → plain_result (defined_form (table_of symbols.now) index) ≡ None }
 {
-    match blocker_of(symbols, index) {
-        Some(blocker) => has_no_plain_form(symbols, blocker),
+    let Some(blocker) = blocker_of(symbols, index) else {
+        return false;
+    };
+    match cached_plain_form(symbols, blocker) {
+        Some(form) => form.is_none(),
         None => false,
     }
 }
@@ -100,10 +81,8 @@ pub fn find_plain_form(
     let mut known: FormCache = IndexMap::new(alloc);
     match run_search(alloc, symbols, &mut known, context, value) {
         Ok(form) => Ok(plain_form(&form)),
-        Err(fault) => {
-            check_memory(&fault)?;
-            Ok(None)
-        }
+        Err(fault) if fault.is_memory() => Err(AllocError),
+        Err(_) => Ok(None),
     }
 }
 
@@ -115,10 +94,8 @@ fn search_entry_of(found: Result<Norm, AsmFault>, count: usize) -> Result<Search
 {
     match found {
         Ok(form) => Ok(SearchEntry::KnownForm(form)),
-        Err(fault) => {
-            check_memory(&fault)?;
-            Ok(SearchEntry::NoForm(count))
-        }
+        Err(fault) if fault.is_memory() => Err(AllocError),
+        Err(_) => Ok(SearchEntry::NoForm(count)),
     }
 }
 

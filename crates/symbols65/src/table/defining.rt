@@ -4,7 +4,7 @@ ghost use Rattle.std.specs.Prelude.{◌≡◌, ◌++◌, ◌∷◌, [], IfOk, No
 ghost use Rattle.indexmap.specs.IndexMap.{get, keys};
 ghost use Rattle.semantics65.specs.Symbols.{Definition as TableDefinition, definition_index};
 ghost use Rattle.symbols65.specs.Resolving.{KeepsBindings};
-ghost use Rattle.symbols65.specs.Tables.{IsCounted, IsInnerKnown, StoresFinalForm, definition_in, definition_view, interned_key_of, first_number, key_of, same_interned_key, key_name_id};
+ghost use Rattle.symbols65.specs.Tables.{IsCounted, IsInnerKnown, StoresFinalForm, definition_view, interned_key_of, key_of, same_interned_key};
 ghost use Rattle.symbols65.specs.Views.{table_of, with_definition, interned_names_of};
 
 use super::symbols::{Definition, InternedKey, Key, SearchEntry, Symbols};
@@ -54,34 +54,23 @@ fn push(
     }
 }
 
-/// Records that a scope other than the global one defines an interned name.
-fn mark_inner_name(inner: &mut Vec<bool>, name_id: usize) -> Result<(), AllocError>
-    ensures marked { OnOk result (slice_get inner.new.items name_id ≡ Some true) }
-    ensures kept { (w : ℕ) → slice_get inner.old.items w ≡ Some true →
-        slice_get inner.new.items w ≡ Some true }
-{
-    while inner.len() <= name_id {
-        inner.push(false)?;
-    }
-    inner[name_id] = true;
-    Ok(())
-}
-
 /// Records the name of a definition if its scope isn't the global one.
 fn mark_inner(inner: &mut Vec<bool>, entry: InternedKey) -> Result<(), AllocError>
     ensures marked { OnOk result (IsInnerKnown inner.new.items entry) }
     ensures kept { (w : ℕ) → slice_get inner.old.items w ≡ Some true →
         slice_get inner.new.items w ≡ Some true }
 {
-    match entry {
-        InternedKey::Named { scope, name_id } if scope != GLOBAL => mark_inner_name(inner, name_id),
-        _ => Ok(()),
+    let InternedKey::Named { scope, name_id } = entry else {
+        return Ok(());
+    };
+    if scope == GLOBAL {
+        return Ok(());
     }
-}
-
-/// Returns whether a definition is a constant without a final form.
-fn is_unresolved(definition: &Definition) -> bool {
-    definition.value.is_some() && definition.form.is_none()
+    while inner.len() <= name_id {
+        inner.push(false)?;
+    }
+    inner[name_id] = true;
+    Ok(())
 }
 
 /// Removes the entries of searches, unless `keeps`.
@@ -105,38 +94,14 @@ fn keeps_bindings(symbols: &Symbols, key: Key<'_>) -> bool
         return false;
     }
     match key {
-        Key::Named { name, .. } => symbols.is_unknown(name),
+        Key::Named { name, .. } => symbols.name_id(name).is_none()
+            && symbols.imported(name).is_none(),
         _ => true,
     }
 }
 
-/// Adds the definition of a key that has none. Keeps the entries of searches if `keeps`: if operands keep their
-/// meanings.
-fn add_definition(
-    symbols: &mut Symbols,
-    entry: InternedKey,
-    definition: Definition,
-    keeps: bool,
-) -> Result<(), AllocError>
-    requires number { first_number (interned_names_of symbols.old) (key_name_id entry) ≡
-        key_name_id entry }
-    requires counted { IsCounted entry }
-    requires form { StoresFinalForm (table_of symbols.old) (length symbols.old.definitions.entries)
-        (definition_in (interned_names_of symbols.old) (entry, definition)) definition }
-    requires meanings { keeps ≡ true → KeepsBindings (table_of symbols.old) (with_definition
-        (table_of symbols.old) (definition_in (interned_names_of symbols.old)
-        (entry, definition))) }
-    requires new { position (same_interned_key entry) (keys symbols.old.definitions) ≡ None }
-    ensures { OnOk result (table_of symbols.new ≡ with_definition (table_of symbols.old)
-        (definition_in (interned_names_of symbols.old) (entry, definition))) }
-{
-    clear_unless(&mut symbols.searched, keeps);
-    symbols.has_unresolved = symbols.has_unresolved || is_unresolved(&definition);
-    mark_inner(&mut symbols.inner, entry)?;
-    push(&mut symbols.definitions, entry, definition)
-}
-
-/// Adds a definition. Its key must not have one.
+/// Adds a definition. Its key must not have one. Keeps the entries of searches if all operands keep
+/// their meanings.
 pub fn define(
     alloc: Global,
     symbols: &mut Symbols,
@@ -152,5 +117,8 @@ pub fn define(
 {
     let keeps = keeps_bindings(symbols, key);
     let entry = entry(alloc, symbols, key)?;
-    add_definition(symbols, entry, definition, keeps)
+    clear_unless(&mut symbols.searched, keeps);
+    symbols.has_unresolved |= definition.value.is_some() && definition.form.is_none();
+    mark_inner(&mut symbols.inner, entry)?;
+    push(&mut symbols.definitions, entry, definition)
 }

@@ -14,7 +14,7 @@ use Rattle.sources65.specs.Machine.{StepsTo}
 use Rattle.sources65.specs.Reading.{AssemblesTokens}
 use Rattle.sources65.proofs.AssembledStatements.{some_tokens}
 use Rattle.asm65.specs.Assembly.{AnswersWithoutFile}
-use Rattle.asm65.proofs.Runs.{Answer, RestBy, never_stops, rest_leaves, rest_stops, rest_unread, rest_wrong, some_there, sound_leaves, takes_from, told_all}
+use Rattle.asm65.proofs.Runs.{Answer, RestBy, never_stops, rest_leaves, rest_stops, rest_unread, rest_wrong, some_there, sound_leaves, takes_from, some_all}
 use Rattle.asm65.proofs.driver.assemble_rest.Goals as goal
 
 pub returns-in_err-read_incbin-clause-read : goal.returns-in_err-read_incbin-clause-read
@@ -55,7 +55,7 @@ returns-in-Some-clause-read g c = record {
       let x : Statement = Instruction c.in-Some.mnemonic c.in_ok-operand.operand in
       let some : ts ≡ [] → ⊥ = some_tokens c.args.tokens.now (some_there (length c.args.tokens.now) c.if-is_empty.ensures) in
       rest_leaves o location ts x x old new r some (c.in-Some.ensures (Ok x) (Ok c.in_ok-operand.operand, c.in_ok-operand.ensures.value, refl))
-      (told_all o (λ m. x ≡ read_bytes m location x) (λ m. refl))
+      (some_all (λ m. x ≡ read_bytes m location x) o (λ m. refl))
       (sound_leaves location x old new r tt c.assemble_instruction.ensures.transitions c.assemble_instruction.ensures.texts));
   stopped = first_of (search rules, grind (arith, common_steps));
 }

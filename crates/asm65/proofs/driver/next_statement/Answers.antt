@@ -4,7 +4,8 @@ use Rattle.expand65.specs.Failures.{HasFailureBetweenStatements}
 use Rattle.symbols65.specs.Views.{table_of}
 use Rattle.asm65.specs.Internal.AssemblerState.{environment_in}
 use Rattle.asm65.proofs.SymbolUpdates.{known_held}
-use Rattle.asm65.proofs.Sources.{NextBy, StopsBy, some_then}
+use Rattle.asm65.proofs.Runs.{some_then}
+use Rattle.asm65.proofs.Sources.{NextBy, StopsBy}
 use Rattle.asm65.proofs.driver.next_statement.Goals as goal
 
 pub returns-clause-next : goal.returns-clause-next

@@ -6,7 +6,7 @@ use Rattle.base65.specs.Store.{FailedOn, FailedWithin, bytes_in}
 use Rattle.expand65.specs.Expansion.{sibling_path, file_named}
 use Rattle.semantics65.specs.Views.{location_in}
 use Rattle.asm65.proofs.WholeFiles.{part_read}
-use Rattle.asm65.proofs.Runs.{told_then}
+use Rattle.asm65.proofs.Runs.{some_then}
 use Rattle.asm65.proofs.StatementSteps.{failed_unread, refused_unread}
 use Rattle.asm65.proofs.files.with_bytes.Goals as goal
 
@@ -24,5 +24,5 @@ returns-in_err-bytes-in-IncbinPath-clause-refused g c = λ count t h.
 
 pub returns-in_ok-bytes-in-IncbinPath-clause-bytes : goal.returns-in_ok-bytes-in-IncbinPath-clause-bytes
 returns-in_ok-bytes-in-IncbinPath-clause-bytes g c =
-    told_then (g.S.Store.files c.args.store.now) (λ m. c.in_ok-bytes-in-IncbinPath.bytes ≡ option_map (take 16777217) (file_named m (sibling_path c.args.at.file.now c.as_slice.result.now))) _
+    some_then (λ m. c.in_ok-bytes-in-IncbinPath.bytes ≡ option_map (take 16777217) (file_named m (sibling_path c.args.at.file.now c.as_slice.result.now))) _ (g.S.Store.files c.args.store.now)
     (λ m h. part_read m c.args.at.file.now c.in-IncbinPath.name c.as_slice.result.now c.args.at.line c.in_ok-bytes-in-IncbinPath.bytes c.in-IncbinPath.start c.in-IncbinPath.len c.args.statement c.in-IncbinPath.is c.as_slice.ensures h) c.in_ok-bytes-in-IncbinPath.ensures.read

@@ -37,23 +37,13 @@ returns-in_err-measured-clause-measured c =
     let found = subst (λ (o : Option Tree). IsEvaluated y (context_of w) (own_size w) o c.in_ok-found.found) c.operand_value.ensures c.in_ok-found.ensures.found in
     rw (p.1, p.2) (refused_same c.in_err-measured.field-0.0 _ _ (measured_named y w (Instruction c.args.mnemonic c.args.operand.now) named) (c.in_err-measured.ensures y found))
 
-pub returns-clause-measured : goal.returns-clause-measured
-returns-clause-measured c =
+pub returns : goal.returns
+returns c =
     let y = table_of c.args.before.symbols.now in
     let w = c.args.before.cursor.now in
     let found = subst (λ (o : Option Tree). IsEvaluated y (context_of w) (own_size w) o c.in_ok-found.found) c.operand_value.ensures c.in_ok-found.ensures.found in
-    measured_named y w (Instruction c.args.mnemonic c.args.operand.now) (naming_is y w c.args.mnemonic c.args.operand.now _ c.operand_value.ensures ∙ c.in_ok-found.ensures.scopes) ∙ c.in_ok-measured.ensures y found
-
-pub returns-clause-fits : goal.returns-clause-fits
-returns-clause-fits c =
-    let y = table_of c.args.before.symbols.now in
-    let w = c.args.before.cursor.now in
-    let found = subst (λ (o : Option Tree). IsEvaluated y (context_of w) (own_size w) o c.in_ok-found.found) c.operand_value.ensures c.in_ok-found.ensures.found in
-    room_of y w (Instruction c.args.mnemonic c.args.operand.now) (Ok c.in_ok-measured.measured) (c.in_ok-measured.ensures y found)
-
-pub returns-clause-form : goal.returns-clause-form
-returns-clause-form c =
-    let y = table_of c.args.before.symbols.now in
-    let w = c.args.before.cursor.now in
-    let found = subst (λ (o : Option Tree). IsEvaluated y (context_of w) (own_size w) o c.in_ok-found.found) c.operand_value.ensures c.in_ok-found.ensures.found in
-    c.final_form-form.ensures y (context_of w) (own_size w) (operand_tree c.args.operand.now) found
+    let measured = c.in_ok-measured.ensures y found in record {
+      measured = measured_named y w (Instruction c.args.mnemonic c.args.operand.now) (naming_is y w c.args.mnemonic c.args.operand.now _ c.operand_value.ensures ∙ c.in_ok-found.ensures.scopes) ∙ measured;
+      fits = room_of y w (Instruction c.args.mnemonic c.args.operand.now) (Ok c.in_ok-measured.measured) measured;
+      form = c.final_form-form.ensures y (context_of w) (own_size w) (operand_tree c.args.operand.now) found;
+    }

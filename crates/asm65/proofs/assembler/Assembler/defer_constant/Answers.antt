@@ -13,11 +13,11 @@ use Rattle.semantics65.specs.Symbols.{Symbols}
 use Rattle.symbols65.specs.Evaluations.{HasFinal}
 use Rattle.symbols65.proofs.Finals.{within_final}
 use Rattle.symbols65.specs.Views.{table_of}
-use Rattle.symbols65.proofs.StatementLayouts.{ok_then}
 use Rattle.asm65.specs.declared.assembler.Assembler.{Assembler}
 use Rattle.asm65.specs.Internal.AssemblerState.{EmitsPieces}
 use Rattle.asm65.proofs.PieceEmission.{fed_enters, says_nothing}
 use Rattle.asm65.proofs.DeferredPieces.{waits_enters}
+use Rattle.ast65.proofs.Lists.{on_ok}
 use Rattle.asm65.proofs.assembler.Assembler.defer_constant.Goals as goal
 
 -- if a form was found, it is final
@@ -41,4 +41,4 @@ returns-clause-entered c =
     let location : SourceLocation = location_in c.args.site.at.file.now c.args.site.at.line in
     let s : Context = c.args.site.context in
     subst (λ (e : Tree). OnOk c.defer.result (EmitsPieces location s (expression_value constant_definition e ∷ []) old new)) c.in_ok-value.ensures
-    (ok_then c.defer.result (λ kept. waits_enters old new location s (expression_value constant_definition c.in_ok-value.value) kept) c.defer.ensures.deferred)
+    (on_ok c.defer.result (λ kept. waits_enters old new location s (expression_value constant_definition c.in_ok-value.value) kept) c.defer.ensures.deferred)

@@ -1,4 +1,4 @@
-use Rattle.std.proofs.Common.{◌≡◌, [], ◌∷◌, ℕ, IfSome, Option, None, Some, length, subst, sym, ap}
+use Rattle.std.proofs.Common.{◌≡◌, [], ◌∷◌, ℕ, IfSome, Option, None, Some, length, subst, sym, ap, refl}
 use Rattle.syntax65.specs.declared.source_location.SourceLocation.{SourceLocation}
 use Rattle.semantics65.specs.declared.contexts.Context.{Context}
 use Rattle.object65.specs.Form.{Form}
@@ -12,7 +12,8 @@ use Rattle.symbols65.specs.Resolving.{IsBlocked, IsFinalWithin}
 use Rattle.symbols65.specs.declared.table.symbols.Symbols as held
 use Rattle.symbols65.specs.Views.{table_of, with_definition}
 use Rattle.asm65.specs.declared.assembler.Assembler.{Assembler}
-use Rattle.asm65.proofs.SymbolUpdates.{where_ok, turns_after}
+use Rattle.asm65.proofs.SymbolUpdates.{turns_after}
+use Rattle.ast65.proofs.Lists.{on_ok}
 use Rattle.asm65.proofs.assembler.Assembler.define_constant.Goals as goal
 
 held_final : (y : Symbols) (s : Context) (e : Tree) (o : Option Form) (f : Form) → o ≡ Some f → HasFinal y s (Some e) o → IsFinalWithin (length y.definitions) y s e f
@@ -39,6 +40,6 @@ returns c =
     let location : SourceLocation = location_in c.args.site.at.file.now c.args.site.at.line in
     let s : Context = c.args.site.context in
     let d : Definition = record { key = named s.scope c.args.name.now; value = Some c.args.value; context = s; size = c.args.size } in
-    where_ok c.define.result (λ table.
-    turns_after location s (expression_value constant_definition c.args.value ∷ []) (λ y. with_definition y d) old mid c.define.new.self c.in_ok-defer_constant.ensures.entered c.define.ensures.keeps table)
-    c.define.ensures.table
+    on_ok c.define.result (λ table.
+    turns_after location s (expression_value constant_definition c.args.value ∷ []) (λ y. with_definition y d) old mid (record mid { symbols = c.define.new.symbols }) c.in_ok-defer_constant.ensures.entered (record { cursor = refl; sections = refl; texts = refl }) table)
+    c.define.ensures

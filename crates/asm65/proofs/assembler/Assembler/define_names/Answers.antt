@@ -10,112 +10,63 @@ use Rattle.asm65.proofs.assembler.Assembler.define_names.Goals as goal
 pub returns-in-Label : goal.returns-in-Label
 returns-in-Label c =
     let location = location_in c.args.site.at.file.now c.args.site.at.line in
-    let s = c.args.site.context in
-    let m = c.args.measured in
-    let old = c.args.self.now in
-    let new = c.define_label.new.self in
     let x : Statement = statement.Label c.as_slice-name.result.now in
-    taken_as location s m old new c.define_label.result x c.args.statement (ap statement.Label c.as_slice-name.ensures ∙ sym c.in-Label.is) (λ h. adds_label location s m old new c.as_slice-name.result.now (h location)) c.define_label.ensures
+    taken_as _ _ c.args.measured _ _ c.define_label.result x c.args.statement (ap statement.Label c.as_slice-name.ensures ∙ sym c.in-Label.is) (λ h. adds_label location c.args.site.context c.args.measured _ _ c.as_slice-name.result.now (h location)) c.define_label.ensures
 
 pub returns-in-CheapLabel : goal.returns-in-CheapLabel
 returns-in-CheapLabel c =
     let location = location_in c.args.site.at.file.now c.args.site.at.line in
-    let s = c.args.site.context in
-    let m = c.args.measured in
-    let old = c.args.self.now in
-    let new = c.define_label-in-CheapLabel.new.self in
     let x : Statement = statement.CheapLabel c.as_slice-name-in-CheapLabel.result.now in
-    taken_as location s m old new c.define_label-in-CheapLabel.result x c.args.statement (ap statement.CheapLabel c.as_slice-name-in-CheapLabel.ensures ∙ sym c.in-CheapLabel.is) (λ h. adds_cheap location s m old new c.as_slice-name-in-CheapLabel.result.now (h location)) c.define_label-in-CheapLabel.ensures
+    taken_as _ _ c.args.measured _ _ c.define_label-in-CheapLabel.result x c.args.statement (ap statement.CheapLabel c.as_slice-name-in-CheapLabel.ensures ∙ sym c.in-CheapLabel.is) (λ h. adds_cheap location c.args.site.context c.args.measured _ _ c.as_slice-name-in-CheapLabel.result.now (h location)) c.define_label-in-CheapLabel.ensures
 
 pub returns-in-UnnamedLabel : goal.returns-in-UnnamedLabel
 returns-in-UnnamedLabel c =
     let location = location_in c.args.site.at.file.now c.args.site.at.line in
-    let s = c.args.site.context in
-    let m = c.args.measured in
-    let old = c.args.self.now in
-    let new = c.define_label-in-UnnamedLabel.new.self in
     let x : Statement = statement.UnnamedLabel in
-    taken_as location s m old new c.define_label-in-UnnamedLabel.result x c.args.statement (sym c.in-UnnamedLabel.is) (λ h. adds_unnamed location s m old new (h location)) c.define_label-in-UnnamedLabel.ensures
+    taken_as _ _ c.args.measured _ _ c.define_label-in-UnnamedLabel.result x c.args.statement (sym c.in-UnnamedLabel.is) (λ h. adds_unnamed location c.args.site.context c.args.measured _ _ (h location)) c.define_label-in-UnnamedLabel.ensures
 
 pub returns-in-Constant : goal.returns-in-Constant
 returns-in-Constant c =
-    let location = location_in c.args.site.at.file.now c.args.site.at.line in
-    let s = c.args.site.context in
-    let m = c.args.measured in
-    let old = c.args.self.now in
-    let new = c.define_constant.new.self in
     let x : Statement = statement.Constant c.as_slice.result.now c.in-Constant.value in
-    taken_as location s m old new c.define_constant.result x c.args.statement (ap (λ n. statement.Constant n c.in-Constant.value) c.as_slice.ensures ∙ sym c.in-Constant.is) (λ h. adds_constant location s m old new c.as_slice.result.now c.in-Constant.value h) c.define_constant.ensures
+    taken_as _ _ c.args.measured _ _ c.define_constant.result x c.args.statement (ap (λ n. statement.Constant n c.in-Constant.value) c.as_slice.ensures ∙ sym c.in-Constant.is) (λ h. adds_constant _ _ c.args.measured _ _ c.as_slice.result.now c.in-Constant.value h) c.define_constant.ensures
 
 pub returns-in-Some : goal.returns-in-Some
 returns-in-Some c =
     let location = location_in c.args.site.at.file.now c.args.site.at.line in
-    let s = c.args.site.context in
-    let m = c.args.measured in
-    let old = c.args.self.now in
-    let new = c.open_block.new.self in
     let x : Statement = statement.OpenScope (Some c.as_slice-in-Some.result.now) in
-    taken_as location s m old new c.open_block.result x c.args.statement (ap (λ n. statement.OpenScope (Some n)) c.as_slice-in-Some.ensures ∙ ap statement.OpenScope (sym c.in-Some.is) ∙ sym c.in-OpenScope.is) (λ h. adds_scope location s m old new (Some c.as_slice-in-Some.result.now) (h location)) c.open_block.ensures
+    taken_as _ _ c.args.measured _ _ c.open_block.result x c.args.statement (ap (λ n. statement.OpenScope (Some n)) c.as_slice-in-Some.ensures ∙ ap statement.OpenScope (sym c.in-Some.is) ∙ sym c.in-OpenScope.is) (λ h. adds_scope location c.args.site.context c.args.measured _ _ (Some c.as_slice-in-Some.result.now) (h location)) c.open_block.ensures
 
 pub returns-in-OpenScope : goal.returns-in-OpenScope
 returns-in-OpenScope c =
     let location = location_in c.args.site.at.file.now c.args.site.at.line in
-    let s = c.args.site.context in
-    let m = c.args.measured in
-    let old = c.args.self.now in
-    let new = c.open_block-in-None.new.self in
     let x : Statement = statement.OpenScope None in
-    taken_as location s m old new c.open_block-in-None.result x c.args.statement (ap statement.OpenScope (sym c.in-None.is) ∙ sym c.in-OpenScope.is) (λ h. adds_scope location s m old new None (h location)) c.open_block-in-None.ensures
+    taken_as _ _ c.args.measured _ _ c.open_block-in-None.result x c.args.statement (ap statement.OpenScope (sym c.in-None.is) ∙ sym c.in-OpenScope.is) (λ h. adds_scope location c.args.site.context c.args.measured _ _ None (h location)) c.open_block-in-None.ensures
 
 pub returns-in-OpenProc : goal.returns-in-OpenProc
 returns-in-OpenProc c =
     let location = location_in c.args.site.at.file.now c.args.site.at.line in
-    let s = c.args.site.context in
-    let m = c.args.measured in
-    let old = c.args.self.now in
-    let new = c.open_proc.new.self in
     let x : Statement = statement.OpenProc c.as_slice-in-OpenProc.result.now in
-    taken_as location s m old new c.open_proc.result x c.args.statement (ap statement.OpenProc c.as_slice-in-OpenProc.ensures ∙ sym c.in-OpenProc.is) (λ h. adds_proc location s m old new c.as_slice-in-OpenProc.result.now (h location)) c.open_proc.ensures
+    taken_as _ _ c.args.measured _ _ c.open_proc.result x c.args.statement (ap statement.OpenProc c.as_slice-in-OpenProc.ensures ∙ sym c.in-OpenProc.is) (λ h. adds_proc location c.args.site.context c.args.measured _ _ c.as_slice-in-OpenProc.result.now (h location)) c.open_proc.ensures
 
 pub returns-in-Import : goal.returns-in-Import
 returns-in-Import c =
-    let location = location_in c.args.site.at.file.now c.args.site.at.line in
-    let s = c.args.site.context in
-    let m = c.args.measured in
-    let old = c.args.self.now in
-    let new = c.import_names.new.self in
     let x : Statement = statement.Import c.in-Import.size c.as_slice-in-Import.result.now in
-    taken_as location s m old new c.import_names.result x c.args.statement (ap (statement.Import c.in-Import.size) c.as_slice-in-Import.ensures ∙ sym c.in-Import.is) (λ h. adds_imports location s m old new c.in-Import.size c.as_slice-in-Import.result.now h) c.import_names.ensures
+    taken_as _ _ c.args.measured _ _ c.import_names.result x c.args.statement (ap (statement.Import c.in-Import.size) c.as_slice-in-Import.ensures ∙ sym c.in-Import.is) (λ h. adds_imports _ _ c.args.measured _ _ c.in-Import.size c.as_slice-in-Import.result.now h) c.import_names.ensures
 
 pub returns-in-Global : goal.returns-in-Global
 returns-in-Global c =
-    let location = location_in c.args.site.at.file.now c.args.site.at.line in
-    let s = c.args.site.context in
-    let m = c.args.measured in
-    let old = c.args.self.now in
-    let new = c.import_names-in-Global.new.self in
     let x : Statement = statement.Global c.in-Global.size c.as_slice-in-Global.result.now in
-    taken_as location s m old new c.import_names-in-Global.result x c.args.statement (ap (statement.Global c.in-Global.size) c.as_slice-in-Global.ensures ∙ sym c.in-Global.is) (λ h. adds_globals location s m old new c.in-Global.size c.as_slice-in-Global.result.now h) c.import_names-in-Global.ensures
+    taken_as _ _ c.args.measured _ _ c.import_names-in-Global.result x c.args.statement (ap (statement.Global c.in-Global.size) c.as_slice-in-Global.ensures ∙ sym c.in-Global.is) (λ h. adds_globals _ _ c.args.measured _ _ c.in-Global.size c.as_slice-in-Global.result.now h) c.import_names-in-Global.ensures
 
 pub returns-in-ForceImport : goal.returns-in-ForceImport
 returns-in-ForceImport c =
-    let location = location_in c.args.site.at.file.now c.args.site.at.line in
-    let s = c.args.site.context in
-    let m = c.args.measured in
-    let old = c.args.self.now in
-    let new = c.force_import_names.new.self in
     let x : Statement = statement.ForceImport c.as_slice-in-ForceImport.result.now in
-    taken_as location s m old new c.force_import_names.result x c.args.statement (ap statement.ForceImport c.as_slice-in-ForceImport.ensures ∙ sym c.in-ForceImport.is) (λ h. adds_forced location s m old new c.as_slice-in-ForceImport.result.now h) c.force_import_names.ensures
+    taken_as _ _ c.args.measured _ _ c.force_import_names.result x c.args.statement (ap statement.ForceImport c.as_slice-in-ForceImport.ensures ∙ sym c.in-ForceImport.is) (λ h. adds_forced _ _ c.args.measured _ _ c.as_slice-in-ForceImport.result.now h) c.force_import_names.ensures
 
 pub returns-in-Export : goal.returns-in-Export
 returns-in-Export c =
-    let location = location_in c.args.site.at.file.now c.args.site.at.line in
-    let s = c.args.site.context in
-    let m = c.args.measured in
-    let old = c.args.self.now in
-    let new = c.defer_names.new.self in
     let x : Statement = statement.Export c.as_slice-in-Export.result.now in
-    taken_as location s m old new c.defer_names.result x c.args.statement (ap statement.Export c.as_slice-in-Export.ensures ∙ sym c.in-Export.is) (λ h. adds_pieces location s m old new x (λ y. nothing_follows y) (mentions_enter location s (map (exported true) c.as_slice-in-Export.result.now) old new h)) c.defer_names.ensures.mentioned
+    taken_as _ _ c.args.measured _ _ c.defer_names.result x c.args.statement (ap statement.Export c.as_slice-in-Export.ensures ∙ sym c.in-Export.is) (λ h. adds_pieces _ _ c.args.measured _ _ x (λ y. nothing_follows y) (mentions_enter _ _ (map (exported true) c.as_slice-in-Export.result.now) _ _ h)) c.defer_names.ensures.mentioned
 
 pub returns : goal.returns
 returns c =

@@ -6,9 +6,9 @@ use Rattle.semantics65.specs.Views.{location_in}
 use Rattle.semantics65.specs.Module.{operand, operand_pieces, expression_value}
 use Rattle.symbols65.specs.Evaluations.{HasFinal}
 use Rattle.symbols65.specs.Views.{table_of}
-use Rattle.symbols65.proofs.StatementLayouts.{ok_then}
 use Rattle.asm65.specs.Internal.AssemblerState.{EmitsPieces}
 use Rattle.asm65.proofs.PieceEmission.{emitted_at_once, tried_waits}
+use Rattle.ast65.proofs.Lists.{on_ok}
 use Rattle.asm65.proofs.emission.statements.emit_operand.Goals as goal
 
 pub returns-then-branch : goal.returns-then-branch
@@ -37,5 +37,5 @@ returns-else-branch c =
     let is : operand_tree c.args.operand ≡ Some value = sym c.operand_value.ensures ∙ c.in-Some-Some.is-1 in
     let final : HasFinal (table_of old.symbols) s (Some value) c.args.form = subst (λ (o : Option Tree). HasFinal (table_of old.symbols) s o c.args.form) is c.requires in
     let both : OnOk c.defer.result (EmitsPieces location s (operand_pieces (Some width) (Some value)) old new) =
-    ok_then c.defer.result (λ waits. tried_waits old mid new location s (expression_value (operand width) value) _ (c.in_ok-emit_value-in-Some-Some.ensures.emitted value action.Error [] final) c.if-branch.false waits) c.defer.ensures.deferred in
+    on_ok c.defer.result (λ waits. tried_waits old mid new location s (expression_value (operand width) value) _ (c.in_ok-emit_value-in-Some-Some.ensures.emitted value action.Error [] final) c.if-branch.false waits) c.defer.ensures.deferred in
     rw c.in-Some-Some.is-0 (subst (λ (o : Option Tree). OnOk c.defer.result (EmitsPieces location s (operand_pieces (Some width) o) old new)) (sym is) both)

@@ -4,9 +4,9 @@ use Rattle.syntax65.specs.Trees.{Tree, binary}
 use Rattle.std.specs.Option.{ok_or, option_map}
 use Rattle.semantics65.specs.Symbols.{binding_of, defined_at}
 use Rattle.symbols65.specs.Internal.BindingFaults.{binding_fault}
-use Rattle.symbols65.specs.Resolving.{IsBlocked, binding_in}
+use Rattle.symbols65.specs.Resolving.{IsBlocked, IsBlockedAt, binding_in}
 use Rattle.symbols65.specs.Views.{table_of}
-use Rattle.symbols65.proofs.Blockers.{if_some, operand_blocked, right_blocked}
+use Rattle.symbols65.proofs.Blockers.{either_blocks, if_some, operand_blocked, right_blocked}
 use Rattle.symbols65.proofs.resolving.finals.+blocker_of.Goals as goal
 
 pub returns-in-None : goal.returns-in-None
@@ -20,8 +20,8 @@ returns-in-None t c =
     subst (λ (v : Tree). IfSome c.blocker_of-in-None.result (IsBlocked y s v)) whole
     (if_some c.blocker_of-in-None.result (λ r h. right_blocked y s c.in-Binary.field-0 e g r h) right)
 
-pub returns-else-not-is_final : goal.returns-else-not-is_final
-returns-else-not-is_final t c =
+pub returns-in-Some-None : goal.returns-in-Some-None
+returns-in-Some-None t c =
     let y = table_of c.args.symbols.now in
     let s = c.args.context in
     let e = c.args.value.now in
@@ -30,4 +30,5 @@ returns-else-not-is_final t c =
     c.binding_at.ensures
     ∙ ap (λ o. ok_or (option_map binding_in o) (binding_fault y s e)) c.in_ok-index-in-Plain.was
     ∙ ap (λ m. Ok (binding_in m)) c.in-Defined.is in
-    if_some c.blocker_at.result (λ r h. operand_blocked y s e j r (c.is_final.ensures c.if-not-is_final.false means) h) c.blocker_at.ensures
+    operand_blocked y s e j _ (c.is_final.ensures c.if-not-is_final.false means)
+    (subst (IsBlockedAt y j) (sym c.unwrap_or.ensures) (either_blocks y j _ _ c.in_ok-definition-in-Plain.ensures.definition c.in_ok-definition-in-Plain.ensures.forms.1))

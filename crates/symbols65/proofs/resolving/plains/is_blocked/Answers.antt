@@ -1,8 +1,16 @@
+use Rattle.std.proofs.Common.{◌≡◌, ◌∙◌, Option, None, Some, Bool, true, ap, refl, sym}
+use Rattle.std.specs.Prelude.{is_some, not}
+use Rattle.object65.specs.Form.{Form}
 use Rattle.symbols65.specs.Views.{table_of}
 use Rattle.symbols65.proofs.ExpansionDepths.{extends_itself}
 use Rattle.symbols65.proofs.resolving.plains.is_blocked.Goals as goal
 
-pub returns-in-Some : goal.returns-in-Some
-returns-in-Some c = λ yes.
+no_form : (o : Option Form) (b : Bool) → is_some o ≡ not b → b ≡ true → o ≡ None
+no_form None b h e = refl
+no_form (Some f) b h e = (let never = h ∙ ap not e in absurd cc)
+
+pub returns-in-Some-cached_plain_form : goal.returns-in-Some-cached_plain_form
+returns-in-Some-cached_plain_form c = λ yes.
     (let y = table_of c.args.symbols.now in
-    c.in-Some.ensures y (extends_itself y) (c.has_no_plain_form.ensures yes))
+    let none = no_form c.in-Some-cached_plain_form.form c.is_none.result c.is_none.ensures yes in
+    c.in-Some.ensures y (extends_itself y) (sym c.in-Some-cached_plain_form.ensures ∙ none))

@@ -8,9 +8,9 @@ use Rattle.symbols65.specs.declared.table.symbols.Definition.{Definition}
 use Rattle.symbols65.specs.Resolving.{binding_in, plain_result}
 use Rattle.symbols65.specs.Views.{final_form, table_of}
 use Rattle.symbols65.proofs.Blockers.{operand_defined}
-use Rattle.symbols65.proofs.Finals.{more_ok}
 use Rattle.symbols65.proofs.KnownForms.{finals_found}
 use Rattle.symbols65.proofs.PlainForms.{operand_norm}
+use Rattle.symbols65.proofs.StatementLayouts.{ok_with}
 use Rattle.symbols65.proofs.resolving.plains.plain_form_of_binding.Goals as goal
 
 pub returns-in-Some-Some : goal.returns-in-Some-Some
@@ -38,5 +38,5 @@ returns-else-is_blocked c =
     let j = c.in-Defined.index in
     let d = c.in-Some.definition.now in
     let own : defined_form y j ≡ norm_of y d.context c.in-Some-None.value = ap (form_of_definition (norm_of y)) c.in-Some.ensures.definition ∙ ap (form_of_value (norm_of y) d.context) c.in-Some-None.is-0 in
-    more_ok (λ f. f ≡ plain_result (norm_of y d.context c.in-Some-None.value)) (λ f. (s : Context) → (e : Tree) → binding_of y s e ≡ Ok (binding_in c.args.meaning) → f ≡ plain_result (norm_of y s e)) c.find_plain_form.result
+    ok_with (λ f. f ≡ plain_result (norm_of y d.context c.in-Some-None.value)) (λ f. (s : Context) → (e : Tree) → binding_of y s e ≡ Ok (binding_in c.args.meaning) → f ≡ plain_result (norm_of y s e)) c.find_plain_form.result
     (λ f is s e means. is ∙ sym (ap plain_result (operand_defined y s e j (means ∙ ap (λ m. Ok (binding_in m)) c.in-Defined.is) ∙ own))) c.find_plain_form.ensures

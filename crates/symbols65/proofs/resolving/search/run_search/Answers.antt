@@ -20,9 +20,10 @@ use Rattle.symbols65.specs.Views.{entry_form, known_by, table_of}
 use Rattle.symbols65.proofs.Chains.{Among, last_course}
 use Rattle.symbols65.proofs.Entries.{meets_form, meets_mark, past_form, past_mark, unmet_fewer, unmet_no_more}
 use Rattle.symbols65.proofs.LastPending.{last_tried}
-use Rattle.symbols65.proofs.FormSearch.{InheritsErrors, IsPursuit, all_recorded, ends_recorded, known_of, known_same, last_circular, last_faults, last_lacks, pursuit_known, pursuit_leads, pursuit_meets, pursuit_needs, pursuit_starts, pursuit_up, search_done, search_ends, still_unmarked, unless_more}
+use Rattle.symbols65.proofs.FormSearch.{InheritsErrors, IsPursuit, all_recorded, ends_recorded, known_of, known_same, last_circular, last_faults, last_lacks, pursuit_known, pursuit_leads, pursuit_meets, pursuit_needs, pursuit_starts, pursuit_up, search_done, search_ends, still_unmarked}
 use Rattle.symbols65.proofs.Attempts.{IsAttempt, attempt_at, attempt_first, attempt_last}
 use Rattle.symbols65.proofs.ExpansionDepths.{EventuallyEquals, comes_to_norm, expression_course}
+use Rattle.symbols65.proofs.StatementLayouts.{unless_then}
 use Rattle.symbols65.proofs.resolving.search.run_search.Goals as goal
 
 -- an error has no form
@@ -105,45 +106,23 @@ find-init c =
       c.requires.1,
     )
 
-pub returns-in-None-clause-form : goal.returns-in-None-clause-form
-returns-in-None-clause-form c =
+pub returns-in-None : goal.returns-in-None
+returns-in-None c =
     let t = c.args.symbols.now in
     let s = c.args.context in
     let e = c.args.value.now in
     let searched = get nat_eq c.find.known in
     let before = entries_at (length (table_of t).definitions) (get nat_eq c.args.known.now) in
+    let met = entries_at (length (table_of t).definitions) searched in
     let ws = c.find.pending_constants.items in
     let zero : length ws ≡ 0 = search (rules, c.in-None.ensures.cases) in
-    found t s e before (entries_at (length (table_of t).definitions) searched) ws c.find.invariant.0 c.in-Ok.form (nil_from_length ws zero) (same_last t s e searched c.deref.result.now ws c.deref.ensures.value ∙ c.in-Ok.ensures)
-
-pub returns-in-None-clause-first : goal.returns-in-None-clause-first
-returns-in-None-clause-first c = λ none.
-    (let t = c.args.symbols.now in
-    let s = c.args.context in
-    let e = c.args.value.now in
-    let searched = get nat_eq c.find.known in
-    let before = entries_at (length (table_of t).definitions) (get nat_eq c.args.known.now) in
-    let ws = c.find.pending_constants.items in
-    let zero : length ws ≡ 0 = search (rules, c.in-None.ensures.cases) in
-    found t s e before (entries_at (length (table_of t).definitions) searched) ws c.find.invariant.0 c.in-Ok.form (nil_from_length ws zero) (same_last t s e searched c.deref.result.now ws c.deref.ensures.value ∙ c.in-Ok.ensures))
-
-pub returns-in-None-clause-entries : goal.returns-in-None-clause-entries
-returns-in-None-clause-entries c =
-    let t = c.args.symbols.now in
-    let count = length (table_of t).definitions in
-    let ws = c.find.pending_constants.items in
-    let zero : length ws ≡ 0 = search (rules, c.in-None.ensures.cases) in (
-      all_recorded t (entries_at count (get nat_eq c.args.known.now)) (entries_at count (get nat_eq c.find.known)) (expression_course (table_of t) c.args.context c.args.value.now) ws c.find.invariant.0 (nil_from_length ws zero) c.requires.0,
-      c.find.invariant.1,
-    )
-
-pub returns-in-None-clause-unmarked : goal.returns-in-None-clause-unmarked
-returns-in-None-clause-unmarked c = λ none.
-    (let t = c.args.symbols.now in
-    let count = length (table_of t).definitions in
-    let ws = c.find.pending_constants.items in
-    let zero : length ws ≡ 0 = search (rules, c.in-None.ensures.cases) in
-    still_unmarked t (entries_at count (get nat_eq c.args.known.now)) (entries_at count (get nat_eq c.find.known)) (expression_course (table_of t) c.args.context c.args.value.now) ws c.find.invariant.0 (nil_from_length ws zero) none)
+    let none = nil_from_length ws zero in
+    let form = found t s e before met ws c.find.invariant.0 c.in-Ok.form none (same_last t s e searched c.deref.result.now ws c.deref.ensures.value ∙ c.in-Ok.ensures) in record {
+      form = form;
+      first = λ unmarked. form;
+      entries = (all_recorded t before met (expression_course (table_of t) s e) ws c.find.invariant.0 none c.requires.0, c.find.invariant.1);
+      unmarked = still_unmarked t before met (expression_course (table_of t) s e) ws c.find.invariant.0 none;
+    }
 
 pub find-smaller-in-Continue-1 : goal.find-smaller-in-Continue-1
 find-smaller-in-Continue-1 c =
@@ -180,8 +159,8 @@ find-preserved-in-Continue-1 c =
       past_form count searched new j f c.in_ok-record-in-Some.ensures c.find.invariant.1,
     )
 
-pub returns-in-Err-Fault-clause-form : goal.returns-in-Err-Fault-clause-form
-returns-in-Err-Fault-clause-form c =
+pub returns-in-Err-Fault : goal.returns-in-Err-Fault
+returns-in-Err-Fault c =
     let t = c.args.symbols.now in
     let s = c.args.context in
     let e = c.args.value.now in
@@ -190,40 +169,17 @@ returns-in-Err-Fault-clause-form c =
     let met = entries_at (length (table_of t).definitions) searched in
     let ws = c.find.pending_constants.items in
     let z = c.in-Err-Fault.fault in
-    let same = same_last t s e searched c.deref.result.now ws c.deref.ensures.value in
-    unless_more (is_out_of_memory z) (λ h. no_form (norm_of (table_of t) s e) z (ended t s e before met ws c.find.invariant.0 z (faults t s e before met ws c.find.invariant.0 z (same ∙ h))))
-    (let P : AttemptError → Type 0 = λ x. RefinesErr lacks_memory x (last_by t s e (known_by t (λ j. entry_form (searched j))) c.deref.result.now) in subst P c.in-Err-Fault.field-0-is c.in-Err-Fault.ensures)
+    let p = c.find.invariant.0 in
+    let P : AttemptError → Type 0 = λ x. RefinesErr lacks_memory x (last_by t s e (known_by t (λ j. entry_form (searched j))) c.deref.result.now) in
+    let fails = unless_then (is_out_of_memory z) (λ h. faults t s e before met ws p z (same_last t s e searched c.deref.result.now ws c.deref.ensures.value ∙ h)) (subst P c.in-Err-Fault.field-0-is c.in-Err-Fault.ensures) in record {
+      form = unless_then (is_out_of_memory z) (λ ends. no_form (norm_of (table_of t) s e) z (ended t s e before met ws p z ends)) fails;
+      first = λ none. unless_then (is_out_of_memory z) (ended t s e before met ws p z) fails;
+      entries = unless_then (is_out_of_memory z) (λ ends. (recorded t s e before met ws p c.requires.0 z ends, c.find.invariant.1)) fails;
+      unmarked = tt;
+    }
 
-pub returns-in-Err-Fault-clause-first : goal.returns-in-Err-Fault-clause-first
-returns-in-Err-Fault-clause-first c = λ none.
-    (let t = c.args.symbols.now in
-    let s = c.args.context in
-    let e = c.args.value.now in
-    let searched = get nat_eq c.find.known in
-    let before = entries_at (length (table_of t).definitions) (get nat_eq c.args.known.now) in
-    let met = entries_at (length (table_of t).definitions) searched in
-    let ws = c.find.pending_constants.items in
-    let z = c.in-Err-Fault.fault in
-    let same = same_last t s e searched c.deref.result.now ws c.deref.ensures.value in
-    unless_more (is_out_of_memory z) (λ h. ended t s e before met ws c.find.invariant.0 z (faults t s e before met ws c.find.invariant.0 z (same ∙ h)))
-    (let P : AttemptError → Type 0 = λ x. RefinesErr lacks_memory x (last_by t s e (known_by t (λ j. entry_form (searched j))) c.deref.result.now) in subst P c.in-Err-Fault.field-0-is c.in-Err-Fault.ensures))
-
-pub returns-in-Err-Fault-clause-entries : goal.returns-in-Err-Fault-clause-entries
-returns-in-Err-Fault-clause-entries c =
-    let t = c.args.symbols.now in
-    let s = c.args.context in
-    let e = c.args.value.now in
-    let searched = get nat_eq c.find.known in
-    let before = entries_at (length (table_of t).definitions) (get nat_eq c.args.known.now) in
-    let met = entries_at (length (table_of t).definitions) searched in
-    let ws = c.find.pending_constants.items in
-    let z = c.in-Err-Fault.fault in
-    let same = same_last t s e searched c.deref.result.now ws c.deref.ensures.value in
-    unless_more (is_out_of_memory z) (λ h. (recorded t s e before met ws c.find.invariant.0 c.requires.0 z (faults t s e before met ws c.find.invariant.0 z (same ∙ h)), c.find.invariant.1))
-    (let P : AttemptError → Type 0 = λ x. RefinesErr lacks_memory x (last_by t s e (known_by t (λ j. entry_form (searched j))) c.deref.result.now) in subst P c.in-Err-Fault.field-0-is c.in-Err-Fault.ensures)
-
-pub returns-then-is_visited-clause-form : goal.returns-then-is_visited-clause-form
-returns-then-is_visited-clause-form c =
+pub returns-then-is_visited : goal.returns-then-is_visited
+returns-then-is_visited c =
     let t = c.args.symbols.now in
     let s = c.args.context in
     let e = c.args.value.now in
@@ -235,39 +191,12 @@ returns-then-is_visited-clause-form c =
     let p = c.find.invariant.0 in
     let needs = needed t s e before met ws p c.in-Err-Needs.field-0 j (last_by t s e (known_by t (λ j. entry_form (searched j))) c.deref.result.now) (same_last t s e searched c.deref.result.now ws c.deref.ensures.value) c.in-Err-Needs.field-0-is c.in-Err-Needs.ensures in
     let there : is_some (met j) ≡ true = ap (λ (n : ℕ). is_some (entry_at n (searched j))) (sym c.definition_count-count.ensures) ∙ sym c.is_visited.ensures ∙ c.if-is_visited.true in
-    let (z, ends) = ended_met t s e before met ws p c.requires.0 j needs there in
-    no_form (norm_of (table_of t) s e) z (ended t s e before met ws p z ends)
-
-pub returns-then-is_visited-clause-first : goal.returns-then-is_visited-clause-first
-returns-then-is_visited-clause-first c = λ none.
-    (let t = c.args.symbols.now in
-    let s = c.args.context in
-    let e = c.args.value.now in
-    let searched = get nat_eq c.find.known in
-    let before = entries_at (length (table_of t).definitions) (get nat_eq c.args.known.now) in
-    let met = entries_at (length (table_of t).definitions) searched in
-    let ws = c.find.pending_constants.items in
-    let j = c.in-Err-Needs.index in
-    let p = c.find.invariant.0 in
-    let needs = needed t s e before met ws p c.in-Err-Needs.field-0 j (last_by t s e (known_by t (λ j. entry_form (searched j))) c.deref.result.now) (same_last t s e searched c.deref.result.now ws c.deref.ensures.value) c.in-Err-Needs.field-0-is c.in-Err-Needs.ensures in
-    let there : is_some (met j) ≡ true = ap (λ (n : ℕ). is_some (entry_at n (searched j))) (sym c.definition_count-count.ensures) ∙ sym c.is_visited.ensures ∙ c.if-is_visited.true in
-    first_met t s e before met ws p none j needs there)
-
-pub returns-then-is_visited-clause-entries : goal.returns-then-is_visited-clause-entries
-returns-then-is_visited-clause-entries c =
-    let t = c.args.symbols.now in
-    let s = c.args.context in
-    let e = c.args.value.now in
-    let searched = get nat_eq c.find.known in
-    let before = entries_at (length (table_of t).definitions) (get nat_eq c.args.known.now) in
-    let met = entries_at (length (table_of t).definitions) searched in
-    let ws = c.find.pending_constants.items in
-    let j = c.in-Err-Needs.index in
-    let p = c.find.invariant.0 in
-    let needs = needed t s e before met ws p c.in-Err-Needs.field-0 j (last_by t s e (known_by t (λ j. entry_form (searched j))) c.deref.result.now) (same_last t s e searched c.deref.result.now ws c.deref.ensures.value) c.in-Err-Needs.field-0-is c.in-Err-Needs.ensures in
-    let there : is_some (met j) ≡ true = ap (λ (n : ℕ). is_some (entry_at n (searched j))) (sym c.definition_count-count.ensures) ∙ sym c.is_visited.ensures ∙ c.if-is_visited.true in
-    let (z, ends) = ended_met t s e before met ws p c.requires.0 j needs there in
-    (recorded t s e before met ws p c.requires.0 z ends, c.find.invariant.1)
+    let (z, ends) = ended_met t s e before met ws p c.requires.0 j needs there in record {
+      form = no_form (norm_of (table_of t) s e) z (ended t s e before met ws p z ends);
+      first = λ none. first_met t s e before met ws p none j needs there;
+      entries = (recorded t s e before met ws p c.requires.0 z ends, c.find.invariant.1);
+      unmarked = tt;
+    }
 
 pub find-smaller : goal.find-smaller
 find-smaller c =

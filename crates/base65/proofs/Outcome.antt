@@ -1,6 +1,6 @@
 -- Properties of a part that imply properties of the whole.
 use Rattle.std.proofs.Common.{◌≡◌, ◌∙◌, Bool, true, false, Result, Ok, Err, refl, sym}
-use Rattle.base65.specs.Outcome.{◌>>=◌, AndThen, Refines, RefinesErr, Unless}
+use Rattle.base65.specs.Outcome.{◌>>=◌, AndThen, RefinesErr, Unless}
 
 module _ {E : Type 0} (is_system_error : E → Bool) where
   pub refused-then : {A B : Type 0} (e : E) (read : Result A E) (f : A → Result B E) → RefinesErr is_system_error e read → RefinesErr is_system_error e (read >>= f)
@@ -9,10 +9,6 @@ module _ {E : Type 0} (is_system_error : E → Bool) where
       go : (b : Bool) → Unless b (read ≡ Err e) → Unless b ((read >>= f) ≡ Err e)
       go true h = tt
       go false h = rw h refl
-
-  pub gives-then : {X A B : Type 0} (result : Result X E) (x : A) (read : Result A E) (f : A → B) → Refines is_system_error (λ _. x) result read → Refines is_system_error (λ _. f x) result (read >>= (λ y. Ok (f y)))
-  gives-then (Ok u) x read f h = rw h refl
-  gives-then (Err e) x read f h = refused-then e read (λ y. Ok (f y)) h
 
 -- if `Next` has at most one result for each value of the first part, `AndThen` has at most one result
 pub first_once : {E A B : Type 0} (head : Result A E) (Next : A → Result B E → Type 0) (r q : Result B E) → ((x : A) → Next x r → Next x q → r ≡ q) → AndThen head Next r → AndThen head Next q → r ≡ q

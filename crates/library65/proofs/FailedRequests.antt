@@ -1,6 +1,6 @@
 -- The offsets that a failed call can have requested while a library's file was read.
 use Rattle.std.proofs.lemmas.Grind.{common_steps}
-use Rattle.std.proofs.Common.{◌≡◌, ◌∙◌, ◌<◌, ◌≤◌, ◌⊎◌, inl, inr, ℕ, zero, suc, ◌+◌, ◌-◌, ◌++◌, List, [], ◌∷◌, length, take, drop, get_or, map, true, cond, nat_lt, Option, Some, None, Ok, Err, refl, sym, ap, subst, arith}
+use Rattle.std.proofs.Common.{◌≡◌, ◌∙◌, ◌<◌, ◌≤◌, inl, ℕ, zero, suc, ◌+◌, ◌-◌, ◌++◌, List, [], ◌∷◌, length, take, drop, get_or, map, true, cond, nat_lt, Option, Some, None, Ok, Err, refl, sym, ap, subst, arith}
 use Rattle.std.specs.Prelude.{IfSome, IsErrOf, ◌&&◌, not}
 use Rattle.std.specs.FinMap.{get}
 use Rattle.std.proofs.lemmas.Bool.Decides.{nat_tests}
@@ -15,7 +15,6 @@ use Rattle.library65.specs.declared.index.UnplacedEntry.{UnplacedEntry}
 use Rattle.library65.specs.FailedRequests.{RequestsOffset, IsOffsetInPart, IsIndexOffset, IsOffsetInName, members_offset}
 use Rattle.library65.specs.Reading.{count_at, counted_names_at, end_at, entry_at, field_at, in_file, index_at, member_entries_at, unplaced_entry, unplaced_entry_at, unplaced_entries_at, member_name_at, name_at, number_at, members_with_offsets, symbol_at, symbols_at}
 use Rattle.library65.specs.Spelling.{is_among, is_member_name, is_name}
-use Rattle.std.proofs.Math.Nat.{eq-or-lt_of_le}
 use Rattle.library65.proofs.Edits.{left, right}
 use Rattle.library65.proofs.ReadIndexes.{admits, bound, ended, passes}
 use Rattle.library65.proofs.Steps.{Leads, Reading}
@@ -122,21 +121,6 @@ listings_later (suc n) bytes at before x e =
 -- ---- The offset that each step of reading requests.
 
 module _ (bytes : List ℕ) (k : ℕ) where
-  pub first_of_name : (at : ℕ) → k ≤ at → IsOffsetInName at bytes k
-  first_of_name at le x e some = omega (arith, name_later bytes at x e)
-
-  pub rest_of_name : (at : ℕ) (len : List ℕ) → field_at 1 at bytes ≡ Ok len → k ≤ at + 1 + (get_or len 0 0 - 1) → IsOffsetInName at bytes k
-  rest_of_name at len read le x e some =
-      let n = name_ends bytes at x e in
-      let same : n.0 ≡ len = cc (n.1, read) in
-      let end : x.1 ≡ at + 1 + get_or len 0 0 = n.2 ∙ ap (λ (l : List ℕ). at + 1 + get_or l 0 0) same in
-      let none : get_or len 0 0 ≡ 0 → length x.0 ≡ 0 = λ h. n.3 (ap (λ (l : List ℕ). get_or l 0 0) same ∙ h) in
-      rest (get_or len 0 0) refl end none
-    where
-      rest : (n : ℕ) → n ≡ get_or len 0 0 → x.1 ≡ at + 1 + get_or len 0 0 → (get_or len 0 0 ≡ 0 → length x.0 ≡ 0) → k < x.1
-      rest zero is end none = absurd (omega (arith, none (sym is)))
-      rest (suc n) is end none = omega arith
-
   pub count_of_symbols : (at : ℕ) → k ≤ at + 3 → IsOffsetInPart (counted_names_at at) bytes k
   count_of_symbols at le x e = omega (arith, counted_later bytes at x e)
 
@@ -165,15 +149,6 @@ module _ (bytes : List ℕ) (k : ℕ) where
         let read : counted_names_at (name.1 + 4) bytes ≡ Ok l.exports = subst (λ (y : List ℕ × ℕ). counted_names_at (y.1 + 4) bytes ≡ Ok l.exports) same l.exported in
         omega (arith, within l.exports read, counted_later bytes l.exports.1 l.imports l.imported, l.ends)
 
-    pub imports_of_listing : (exports : List (List ℕ) × ℕ) → counted_names_at (name.1 + 4) bytes ≡ Ok exports → IsOffsetInPart (counted_names_at exports.1) bytes k → IsOffsetInPart (unplaced_entry_at names at) bytes k
-    imports_of_listing exports exported within x e =
-        let l = listed bytes at names x e in
-        let same : l.name ≡ name = cc (l.named, named) in
-        let read : counted_names_at (name.1 + 4) bytes ≡ Ok l.exports = subst (λ (y : List ℕ × ℕ). counted_names_at (y.1 + 4) bytes ≡ Ok l.exports) same l.exported in
-        let here : l.exports ≡ exports = cc (read, exported) in
-        let next : counted_names_at exports.1 bytes ≡ Ok l.imports = subst (λ (y : List (List ℕ) × ℕ). counted_names_at y.1 bytes ≡ Ok l.imports) here l.imported in
-        omega (arith, within l.imports next, l.ends)
-
   pub listing_of : (n : ℕ) (at : ℕ) (before : List UnplacedEntry) → IsOffsetInPart (unplaced_entry_at (map (λ m. m.name) before) at) bytes k → IsOffsetInPart (unplaced_entries_at (suc n) before at) bytes k
   listing_of n at before within x e =
       let a = bound (unplaced_entry_at (map (λ (m : UnplacedEntry). m.name) before) at bytes) (λ m. unplaced_entries_at n (before ++ m.0 ∷ []) m.1 bytes) x e in
@@ -186,10 +161,6 @@ module _ (bytes : List ℕ) (k : ℕ) where
       omega (arith, listings_later a.0 bytes 9 [] x a.2)
 
 -- ---- The whole index.
-
-placed_first : (at : ℕ) (ms : List UnplacedEntry) (before : List Entry) (x : List Entry × ℕ) → members_with_offsets before at ms ≡ Ok x → at ≤ x.1
-placed_first at [] before x e = let same : ◌≡◌ {A = List Entry × ℕ} (before, at) x = cc e in omega (arith, ap (λ (y : List Entry × ℕ). y.1) same)
-placed_first at (m ∷ ms) before x e = let a = passes (nat_lt file_limit (at + m.size)) BadIndex (members_with_offsets (before ++ entry_at at m ∷ []) (at + m.size) ms) x e in omega (arith, placed_first (at + m.size) ms (before ++ entry_at at m ∷ []) x a.1)
 
 -- the members begin at the offset of the first entry
 placed_after : (at : ℕ) (ms : List UnplacedEntry) (e : Entry) (before : List Entry) (x : List Entry × ℕ) → members_with_offsets (e ∷ before) at ms ≡ Ok x → (end : ℕ) → members_offset x.0 end ≡ e.place
@@ -223,19 +194,6 @@ module _ (bytes : List ℕ) (k : ℕ) where
       let x = indexed bytes es e in
       let begin : members_offset es (length bytes) ≡ x.list.1 = ap (members_offset es) x.ends ∙ ap (λ (ys : List Entry). members_offset ys x.placed_to.1) (sym x.entries) ∙ begins_at x.list.1 x.list.0 x.placed_to x.offsets in
       inl (omega (arith, begin, within x.list x.listed))
-
-  pub end_of_index : (list : List UnplacedEntry × ℕ) (p : List Entry × ℕ) → member_entries_at bytes ≡ Ok list → members_with_offsets [] list.1 list.0 ≡ Ok p → 0 < p.1 → p.1 - 1 ≤ k → k ≤ p.1 → IsIndexOffset bytes k
-  end_of_index list p read offsets some low high es e =
-      let x = indexed bytes es e in
-      let same : x.list ≡ list = cc (x.listed, read) in
-      let here : members_with_offsets [] list.1 list.0 ≡ Ok x.placed_to = subst (λ (l : List UnplacedEntry × ℕ). members_with_offsets [] l.1 l.0 ≡ Ok x.placed_to) same x.offsets in
-      let to : x.placed_to ≡ p = cc (here, offsets) in
-      let end : length bytes ≡ p.1 = x.ends ∙ ap (λ (y : List Entry × ℕ). y.1) to in
-      inr (last (eq-or-lt_of_le high) end)
-    where
-      last : (k ≡ p.1) ⊎ (k < p.1) → length bytes ≡ p.1 → (length bytes ≡ k + 1) ⊎ (length bytes ≡ k)
-      last (inl h) end = inr (omega arith)
-      last (inr h) end = inl (omega arith)
 
 -- ---- The same for a store.
 
@@ -329,5 +287,3 @@ module _ (known now : Option Files) (last_failure : LastFailure) (file : List �
   pub list_failed : RequestsOffset known last_failure file (IsOffsetInPart member_entries_at) → RequestsOffset known last_failure file IsIndexOffset
   list_failed asks = asks_on known known last_failure file (IsOffsetInPart member_entries_at) IsIndexOffset refl (λ m bytes k is there within. list_of_index bytes k within) asks
 
-  pub end_failed : (list : List UnplacedEntry × ℕ) (p : List Entry × ℕ) → IfSome known (λ m. in_file (get m file) member_entries_at ≡ Ok list) → members_with_offsets [] list.1 list.0 ≡ Ok p → 0 < p.1 → FailedWithin last_failure file (p.1 - 1) (p.1 - 1 + 1) → RequestsOffset known last_failure file IsIndexOffset
-  end_failed list p read offsets some h = asks_on known known last_failure file (IsBetween (p.1 - 1) (p.1 - 1 + 1)) IsIndexOffset refl (λ m bytes k is there b. end_of_index bytes k list p (read_at known file member_entries_at list read m bytes is there) offsets some b.0 (omega (arith, b.1))) (asks_between known last_failure file (p.1 - 1) (p.1 - 1 + 1) h)

@@ -1,7 +1,6 @@
 -- The conditions under which the bodies of an object's records are within their limit.
 use Rattle.std.specs.Prelude.{ℕ, List, length, Bool, true, nat_lt, nat_le, ◌&&◌}
 use Rattle.std.specs.List.{list_all}
-use Rattle.object65.specs.declared.object.Object.{Object}
 use Rattle.object65.specs.declared.object.Section.{Section}
 use Rattle.object65.specs.declared.object.Export.{Export}
 use Rattle.object65.specs.declared.object.Assert.{Assert}
@@ -9,7 +8,7 @@ use Rattle.object65.specs.declared.object.Fragment.{Fragment}
 use Rattle.object65.specs.declared.object.Fragment.TheVariants.{Literal, Fill, Value}
 use Rattle.object65.specs.Folding.{node_limit}
 use Rattle.object65.specs.Form.{Form, nodes}
-use Rattle.object65.specs.Objects.{is_file_name, section_len, section_limit}
+use Rattle.object65.specs.Objects.{section_len, section_limit}
 
 abbrev pub is_small_text : List ℕ → Bool
 is_small_text text = nat_lt (length text) 256
@@ -30,6 +29,3 @@ is_small_export e = is_small_text e.name && is_small_form e.form
 
 abbrev pub is_small_assert : Assert → Bool
 is_small_assert a = is_small_text a.text && is_small_form a.form
-
-abbrev pub is_small : Object → Bool
-is_small o = list_all is_file_name o.files && list_all is_small_text o.imports && list_all is_small_section o.sections && list_all is_small_export o.exports && list_all is_small_assert o.asserts

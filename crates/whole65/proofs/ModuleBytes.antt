@@ -80,9 +80,6 @@ number_law E none bases values ss is (binary op f g) = grind (arith, common_step
 
 module _ (Has : Valuing) (fill : ℕ) where
   -- ---- Parts and their fragments.
-  same_part : (origins : SourceLocation → Origin) (ss is : List ℕ) (p : Part) (bytes : List ℕ) → ArePart (λ f v. Has (renumbered_form ss is f) v) fill p bytes ↔ IsFragment Has fill (fragment_of origins ss is p) bytes
-  same_part origins ss is x bytes = grind (arith, common_steps)
-
   pub same_parts : (origins : SourceLocation → Origin) (ss is : List ℕ) (ps : List Part) (bytes : List ℕ) → AreParts (λ f v. Has (renumbered_form ss is f) v) fill ps bytes ↔ AreFragments Has fill (map (fragment_of origins ss is) ps) bytes
   same_parts origins ss is [] bytes = (λ h. h, λ h. h)
   same_parts origins ss is (p ∷ ps) bytes = grind (arith, common_steps, (same_parts origins ss is ps))

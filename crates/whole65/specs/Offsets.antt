@@ -21,8 +21,9 @@ pub record IsPower (n : ℕ) : Type 0 where
 abbrev pub ArePowers : List ModuleStatement → Type 0
 ArePowers xs = AllByRecursion (λ x. IsPower x.alignment) xs
 
--- Statements laid out in order, none of which has an error at its line. (`IsWellFormedLayout` of semantics65 states something else:
--- that names and sizes fit into an object, and that lengths are those of the layout rules.)
+-- Statements laid out in order, none of which has an error at its line. (`IsWellFormedLayout` of
+-- semantics65 states something else: that names and sizes fit into an object, and that lengths are
+-- those of the layout rules.)
 pub data HasNoLineErrors : Layout → Type 0 where
   no_statement : HasNoLineErrors empty_layout
   following :

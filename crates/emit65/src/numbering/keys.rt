@@ -1,10 +1,9 @@
 //! The keys of imports, and the numbers of sections, imports and files in the object.
 
-ghost use Rattle.std.specs.Prelude.{◌≡◌, IfOk, [], map, nat_eq, OnOk};
+ghost use Rattle.std.specs.Prelude.{◌≡◌, IfOk, [], map, OnOk};
 ghost use Rattle.emit65.specs.Internal.Drafts.{any_location, origin_of};
 ghost use Rattle.semantics65.specs.Numbering.{key_of, number_of, renumbered_form, content_imports, import_keys, imports_in, distinct_keys, optional_key, declaration_imports};
 ghost use Rattle.object65.specs.Objects.{FitsBits, OriginFits};
-ghost use Rattle.indexmap.specs.IndexSet.{IsUnique};
 ghost use Rattle.emit65.specs.SectionContents.{content_of, names_of};
 ghost use Rattle.semantics65.specs.Views.{declaration_at};
 

@@ -126,27 +126,23 @@ rest_leaves o location (k ∷ ts) x y old new (Err e) some is read taken = λ co
     wrong_rest location k ts x y is o (count + 1) t new e read (taken count t room h)
 
 -- a statement that is rejected before its file is read
-module _ (f : Option Files) (last_failure : LastFailure) (location : SourceLocation) (x : Statement) (old new : Assembler) (e : AsmFault) (refused : (count : ℕ) (t : State) → Represents count t old → IsRejectedUnread f last_failure t location x e) (same : new.texts ≡ old.texts) where
-  pub rest_unread : (ts : List Lexeme) → (ts ≡ [] → ⊥) → IsStatement ts (Ok x) → RefinesAllTransitions (AreSymbolNames ts) (RestBy f location ts) 1 old new (Err e)
+module _ (f : Option Files) (last_failure : LastFailure) (location : SourceLocation) (x : Statement) (a : Assembler) (e : AsmFault) (refused : (count : ℕ) (t : State) → Represents count t a → IsRejectedUnread f last_failure t location x e) where
+  pub rest_unread : (ts : List Lexeme) → (ts ≡ [] → ⊥) → IsStatement ts (Ok x) → RefinesAllTransitions (AreSymbolNames ts) (RestBy f location ts) 1 a a (Err e)
   rest_unread [] some is = absurd (some refl)
   rest_unread (k ∷ ts) some is = λ count t room h.
-      fault_first (AreSymbolNames (k ∷ ts)) (RestBy f location (k ∷ ts) t) (count + 1) t new e
+      fault_first (AreSymbolNames (k ∷ ts)) (RestBy f location (k ∷ ts) t) (count + 1) t a e
       (unless_then (is_system_error e) (λ (all : (m : Files) → StepsTo t location (with_bytes m location x) (Err e)). some_all (λ m. AssemblesTokens m StepsTo t location (k ∷ ts) (Err e)) f (λ m. (Ok x, is, all m))) (refused count t h).inside)
-      (λ inside. says_same count t old new h same)
+      (λ inside. says_same count t a a h refl)
 
-  pub rest_stops : (ts : List Lexeme) (r : Answer) → (ts ≡ [] → ⊥) → IsStatement ts (Ok x) → (is_failure e ≡ true → e ≡ FileError) → r ≡ Err e → KeepsOutputAtFailure (AnswersWithoutFile f last_failure (λ m t. AssemblesTokens m StepsTo t location ts)) 1 old new r
+  pub rest_stops : (ts : List Lexeme) (r : Answer) → (ts ≡ [] → ⊥) → IsStatement ts (Ok x) → (is_failure e ≡ true → e ≡ FileError) → r ≡ Err e → KeepsOutputAtFailure (AnswersWithoutFile f last_failure (λ m t. AssemblesTokens m StepsTo t location ts)) 1 a a r
   rest_stops [] r some is only fails = absurd (some refl)
-  rest_stops (k ∷ ts) r some is only fails = subst (KeepsOutputAtFailure (AnswersWithoutFile f last_failure (λ m t. AssemblesTokens m StepsTo t location (k ∷ ts))) 1 old new) (sym fails)
+  rest_stops (k ∷ ts) r some is only fails = subst (KeepsOutputAtFailure (AnswersWithoutFile f last_failure (λ m t. AssemblesTokens m StepsTo t location (k ∷ ts))) 1 a a) (sym fails)
       (λ failed. record {
         fault = only failed;
-        out = ap (λ (s : ConsoleOutput). s.out) same;
-        err = ap (λ (s : ConsoleOutput). s.err) same;
+        out = refl;
+        err = refl;
         unread = λ count t room h. (let w = (refused count t h).failed failed in record { name = w.name; requested = w.requested; inside = w.inside; answered = λ m none. (Ok x, is, w.answered m none) });
       })
-
--- if an assembler represents all states of another one, a transition from it is one from the other
-pub takes_from : (IsValid : Type 0) (Is : State → Result State AsmFault → Type 0) (more : ℕ) (old mid new : Assembler) (r : Answer) → ((count : ℕ) (t : State) → Represents count t old → Represents count t mid) → RefinesAllTransitions IsValid Is more mid new r → RefinesAllTransitions IsValid Is more old new r
-takes_from IsValid Is more old mid new r held taken = λ count t room h. taken count t room (held count t h)
 
 -- the case that the result is no failure of the store
 pub never_stops : (Is : State → Result State AsmFault → Type 0) (more : ℕ) (old new : Assembler) (r : Answer) → IfErr r (λ e. is_failure e ≡ false) → KeepsOutputAtFailure Is more old new r

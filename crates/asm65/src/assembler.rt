@@ -25,8 +25,8 @@ pub struct Knowledge<'a> {
 impl Knows for Knowledge<'_> {
     ghost meaning = { λ k. environment_in (table_of k.symbols.now) k.context };
 
-    fn value(&self, alloc: Global, expr: &Expr) -> Result<Option<i64>, AllocError> {
-        constant(alloc, self.symbols, self.context, expr)
+    fn value(&self, expr: &Expr) -> Result<Option<i64>, AllocError> {
+        constant(self.symbols, self.context, expr)
     }
 
     fn defined(&self, name: &Name) -> bool {

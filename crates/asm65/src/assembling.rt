@@ -63,7 +63,6 @@ pub struct Assembly {
 
 /// Defines a constant of the command line.
 fn define_one(
-    alloc: Global,
     assembler: &mut Assembler,
     at: LocationRef<'_>,
     define: &Define<'_>,
@@ -75,17 +74,13 @@ fn define_one(
         count t assembler.new result }
     ensures no_failure { IfErr result (λ e. is_failure e ≡ false) }
 {
-    let name = Identifier::copy_of(alloc, define.name)?;
+    let name = Identifier::copy_of(assembler.symbols.alloc, define.name)?;
     let value = Expr::new(ExprKind::Number(define.value));
-    assembler.assemble_statement(alloc, at, Statement::Constant { name, value })
+    assembler.assemble_statement(at, Statement::Constant { name, value })
 }
 
 /// Defines the constants of a job, before the first line.
-pub fn define_all(
-    alloc: Global,
-    assembler: &mut Assembler,
-    job: &AsmJob<'_>,
-) -> Result<(), AsmFault>
+pub fn define_all(assembler: &mut Assembler, job: &AsmJob<'_>) -> Result<(), AsmFault>
     requires { Represents 0 initial_state assembler.old }
     ensures defined { RefinesTransition ⊤
         (DefinesConstants StepsTo initial_state (no_line (job_of job.now).source)
@@ -97,7 +92,7 @@ pub fn define_all(
         line: 0,
     };
     for one in job.defines {
-        define_one(alloc, assembler, at, one)?;
+        define_one(assembler, at, one)?;
     }
     Ok(())
 }
@@ -121,12 +116,7 @@ fn fail_before_lines(alloc: Global, fault: AsmFault) -> Assembly
 }
 
 /// Ends an assembly with an error at a location, after the output so far.
-fn fail_at_location(
-    alloc: Global,
-    assembler: Assembler,
-    at: LocationRef<'_>,
-    fault: AsmFault,
-) -> Assembly
+fn fail_at_location(assembler: Assembler, at: LocationRef<'_>, fault: AsmFault) -> Assembly
     ensures refused { is_system_error fault ≡ false → (t : State) → HasSameOutput t assembler →
         RefinesOutcome (outcome_of_state t (Some (record {
           place = location_of_ref at.entry;
@@ -141,19 +131,14 @@ fn fail_at_location(
         (result.err ≡ []) }
 {
     if is_system_error(&fault) {
-        return fail_before_lines(alloc, fault);
+        return fail_before_lines(assembler.symbols.alloc, fault);
     }
-    fail_at_line(alloc, assembler, at, fault)
+    fail_at_line(assembler, at, fault)
 }
 
 /// Ends an assembly with an error after some statements, at the location that was reached, after
 /// their output.
-fn fail_with_output(
-    alloc: Global,
-    expander: Expander,
-    assembler: Assembler,
-    fault: AsmFault,
-) -> Assembly
+fn fail_with_output(expander: Expander, assembler: Assembler, fault: AsmFault) -> Assembly
     ensures refused { is_system_error fault ≡ false → (t : State) →
         HasSameOutput t assembler → RefinesOutcome
         (outcome_of_state t (Some (record { place = location_of expander; fault = fault })))
@@ -170,7 +155,7 @@ fn fail_with_output(
 {
     if !is_failure(&fault) {
         let (file, line) = expander.place();
-        return fail_at_location(alloc, assembler, LocationRef { file, line }, fault);
+        return fail_at_location(assembler, LocationRef { file, line }, fault);
     }
     // The name is handed on as it is, since no memory may be left for a copy.
     let SourceLocation { file, line } = expander.into_place();
@@ -212,7 +197,7 @@ fn open_source<S: Store>(
 }
 
 /// Assembles the statements of an opened source.
-fn assemble_opened<S: Store>(alloc: Global, store: &mut S, run: Run) -> Assembly
+fn assemble_opened<S: Store>(store: &mut S, run: Run) -> Assembly
     requires { IsRunning run }
     ensures assembled { IfSome (S.files store.old) (λ m. (job : Job) (t : State) →
         RepresentsFirstState m (Ok run.expander) (first_state_in m job.source job.include) →
@@ -231,24 +216,19 @@ fn assemble_opened<S: Store>(alloc: Global, store: &mut S, run: Run) -> Assembly
         (result.err ≡ []) }
 {
     let mut run = run;
-    let ran = assemble_all(alloc, store, &mut run);
+    let ran = assemble_all(store, &mut run);
     let Run {
         expander,
         assembler,
     } = run;
     match ran {
-        Ok(()) => finish_assembly(alloc, assembler),
-        Err(fault) => fail_with_output(alloc, expander, assembler, fault),
+        Ok(()) => finish_assembly(assembler),
+        Err(fault) => fail_with_output(expander, assembler, fault),
     }
 }
 
 /// Assembles a job with a new assembler.
-fn assemble_with<S: Store>(
-    alloc: Global,
-    store: &mut S,
-    job: &AsmJob<'_>,
-    assembler: Assembler,
-) -> Assembly
+fn assemble_with<S: Store>(store: &mut S, job: &AsmJob<'_>, assembler: Assembler) -> Assembly
     requires { Represents 0 initial_state assembler }
     ensures assembled { IfSome (S.files store.old) (λ m. RefinesProp is_diagnostic_system_error
         (λ r. IsOutcome m (job_of job.now) (assembly_outcome result r)) result.result) }
@@ -269,16 +249,16 @@ fn assemble_with<S: Store>(
         file: job.source,
         line: 0,
     };
-    match open_source(alloc, store, job) {
-        Err(fault) => fail_at_location(alloc, assembler, at, AsmFault::Expansion(fault)),
-        Ok(expander) => match define_all(alloc, &mut assembler, job) {
-            Err(fault) => fail_at_location(alloc, assembler, at, fault),
+    match open_source(assembler.symbols.alloc, store, job) {
+        Err(fault) => fail_at_location(assembler, at, AsmFault::Expansion(fault)),
+        Ok(expander) => match define_all(&mut assembler, job) {
+            Err(fault) => fail_at_location(assembler, at, fault),
             Ok(()) => {
                 let run = Run {
                     expander,
                     assembler,
                 };
-                assemble_opened(alloc, store, run)
+                assemble_opened(store, run)
             }
         },
     }
@@ -306,7 +286,7 @@ pub fn assemble<S: Store>(alloc: Global, store: &mut S, job: &AsmJob<'_>) -> Ass
         (result.err ≡ []) }
 {
     match Assembler::new(alloc, store.seed()) {
-        Ok(assembler) => assemble_with(alloc, store, job, assembler),
+        Ok(assembler) => assemble_with(store, job, assembler),
         Err(_) => fail_before_lines(alloc, AsmFault::OutOfMemory),
     }
 }

@@ -24,7 +24,6 @@ use ast65::{AsmFault, Statement, label, operand, split_instruction, statement};
 use base65::Store;
 use expand65::{ExpandFault, Expander, Statement as Given, StoredLine};
 use semantics65::{GLOBAL_SCOPE, LocationRef};
-use std::alloc::Global;
 use syntax65::{LineTokens, Token, TokenKind};
 
 /// The number of tokens that are stored without an allocation. Most lines have no more.
@@ -43,7 +42,6 @@ fn not_understood(_statement: Statement) -> Result<(), AsmFault>
 /// store that doesn't tell its files.
 #[inline(always)]
 fn assemble_well_formed(
-    alloc: Global,
     assembler: &mut Assembler,
     at: LocationRef<'_>,
     statement: Statement,
@@ -55,7 +53,7 @@ fn assemble_well_formed(
     ensures no_failure { IfErr result (λ e. is_failure e ≡ false) }
 {
     if is_well_formed(&statement) {
-        assembler.assemble_statement(alloc, at, statement)
+        assembler.assemble_statement(at, statement)
     } else {
         not_understood(statement)
     }
@@ -63,7 +61,6 @@ fn assemble_well_formed(
 
 /// Assembles the rest of a line after its label.
 pub fn assemble_rest<S: Store>(
-    alloc: Global,
     store: &mut S,
     assembler: &mut Assembler,
     at: LocationRef<'_>,
@@ -76,22 +73,22 @@ pub fn assemble_rest<S: Store>(
         1 assembler.old assembler.new result }
     ensures frame { AsmStoreFrame S.files S.failures store.old store.new result }
 {
+    let alloc = assembler.symbols.alloc;
     if tokens.is_empty() {
         return Ok(());
     }
     if let Some((mnemonic, following)) = split_instruction(tokens) {
         let operand = operand(alloc, following)?;
-        return assembler.assemble_instruction(alloc, at, mnemonic, operand);
+        return assembler.assemble_instruction(at, mnemonic, operand);
     }
     let mut statement = statement(alloc, tokens)?;
-    read_incbin(alloc, store, assembler, at, &mut statement)?;
-    assemble_well_formed(alloc, assembler, at, statement)
+    read_incbin(store, assembler, at, &mut statement)?;
+    assemble_well_formed(assembler, at, statement)
 }
 
 /// Assembles the tokens of a label.
 #[inline(never)]
 fn assemble_label<S: Store>(
-    alloc: Global,
     store: &mut S,
     assembler: &mut Assembler,
     at: LocationRef<'_>,
@@ -104,12 +101,12 @@ fn assemble_label<S: Store>(
         2 assembler.old assembler.new result }
     ensures frame { AsmStoreFrame S.files S.failures store.old store.new result }
 {
-    let (label, rest) = label(alloc, tokens)?;
+    let (label, rest) = label(assembler.symbols.alloc, tokens)?;
     let Some(label) = label else {
-        return assemble_rest(alloc, store, assembler, at, rest);
+        return assemble_rest(store, assembler, at, rest);
     };
-    assemble_well_formed(alloc, assembler, at, label)?;
-    assemble_rest(alloc, store, assembler, at, rest)
+    assemble_well_formed(assembler, at, label)?;
+    assemble_rest(store, assembler, at, rest)
 }
 
 /// A line of a file: its label, if it has one, and the rest.
@@ -122,7 +119,6 @@ pub struct Parts<'a, 'b> {
 /// Assembles the rest of a line after its label, unless it is empty.
 #[inline(always)]
 fn assemble_nonempty_rest<S: Store>(
-    alloc: Global,
     store: &mut S,
     assembler: &mut Assembler,
     at: LocationRef<'_>,
@@ -137,13 +133,12 @@ fn assemble_nonempty_rest<S: Store>(
     if tokens.is_empty() {
         return Ok(());
     }
-    assemble_rest(alloc, store, assembler, at, tokens)
+    assemble_rest(store, assembler, at, tokens)
 }
 
 /// Assembles the statements of a line.
 #[inline(always)]
 pub fn assemble_parts<S: Store>(
-    alloc: Global,
     store: &mut S,
     assembler: &mut Assembler,
     at: LocationRef<'_>,
@@ -157,15 +152,14 @@ pub fn assemble_parts<S: Store>(
     ensures frame { AsmStoreFrame S.files S.failures store.old store.new result }
 {
     if parts.label.is_empty() {
-        return assemble_nonempty_rest(alloc, store, assembler, at, parts.rest);
+        return assemble_nonempty_rest(store, assembler, at, parts.rest);
     }
-    assemble_label(alloc, store, assembler, at, parts.label)?;
-    assemble_nonempty_rest(alloc, store, assembler, at, parts.rest)
+    assemble_label(store, assembler, at, parts.label)?;
+    assemble_nonempty_rest(store, assembler, at, parts.rest)
 }
 
 /// Assembles a line without a label.
 fn assemble_unlabelled_line<S: Store>(
-    alloc: Global,
     store: &mut S,
     assembler: &mut Assembler,
     at: LocationRef<'_>,
@@ -184,17 +178,16 @@ fn assemble_unlabelled_line<S: Store>(
     };
     let mut few = [blank; FEW_TOKENS];
     match line.store_tokens(&mut few) {
-        Some(count) => assemble_rest(alloc, store, assembler, at, &few[..count]),
+        Some(count) => assemble_rest(store, assembler, at, &few[..count]),
         None => {
-            let tokens = line.tokens(alloc)?;
-            assemble_rest(alloc, store, assembler, at, &tokens)
+            let tokens = line.tokens(assembler.symbols.alloc)?;
+            assemble_rest(store, assembler, at, &tokens)
         }
     }
 }
 
 /// Assembles a statement that expansion returned.
 pub fn assemble_expanded<S: Store>(
-    alloc: Global,
     store: &mut S,
     assembler: &mut Assembler,
     at: LocationRef<'_>,
@@ -208,10 +201,10 @@ pub fn assemble_expanded<S: Store>(
 {
     match given {
         Given::Label(line) => {
-            let tokens = line.tokens(alloc)?;
-            assemble_label(alloc, store, assembler, at, &tokens)
+            let tokens = line.tokens(assembler.symbols.alloc)?;
+            assemble_label(store, assembler, at, &tokens)
         }
-        Given::Plain(line) => assemble_unlabelled_line(alloc, store, assembler, at, line),
+        Given::Plain(line) => assemble_unlabelled_line(store, assembler, at, line),
     }
 }
 
@@ -251,7 +244,6 @@ fn next_statement<S: Store>(run: &mut Run, store: &mut S) -> Result<Option<Given
 
 /// Assembles a statement at its location.
 fn assemble_at_location<S: Store>(
-    alloc: Global,
     store: &mut S,
     run: &mut Run,
     statement: &Given,
@@ -265,17 +257,13 @@ fn assemble_at_location<S: Store>(
 {
     let (file, line) = run.expander.place();
     let at = LocationRef { file, line };
-    assemble_expanded(alloc, store, &mut run.assembler, at, statement)
+    assemble_expanded(store, &mut run.assembler, at, statement)
 }
 
 /// Assembles the statements of the next line if it comes from a file and expansion doesn't change it.
 /// Returns whether it assembled them.
 #[inline(always)]
-fn assemble_peeked_line<S: Store>(
-    alloc: Global,
-    store: &mut S,
-    run: &mut Run,
-) -> Result<bool, AsmFault>
+fn assemble_peeked_line<S: Store>(store: &mut S, run: &mut Run) -> Result<bool, AsmFault>
     requires { IsRunning run.old }
     ensures next { AssemblesOptionalLine (S.files store.old)
         (S.last_failure store.new) run.old run.new result }
@@ -295,7 +283,7 @@ fn assemble_peeked_line<S: Store>(
     };
     let (label, rest) = tokens.as_slice().split_at(len);
     let parts = Parts { label, rest };
-    let taken = assemble_parts(alloc, store, &mut run.assembler, at, parts);
+    let taken = assemble_parts(store, &mut run.assembler, at, parts);
     drop(tokens);
     run.expander.consume_peeked(line);
     taken?;
@@ -315,7 +303,7 @@ fn check_closed(run: &Run) -> Result<(), AsmFault>
 }
 
 /// Assembles the remaining statements. Returns an error if a scope is open after the last one.
-pub fn assemble_all<S: Store>(alloc: Global, store: &mut S, run: &mut Run) -> Result<(), AsmFault>
+pub fn assemble_all<S: Store>(store: &mut S, run: &mut Run) -> Result<(), AsmFault>
     requires { IsRunning run.old }
     ensures ran { IfSome (S.files store.old) (λ m. (job : Job) (t : State) →
         RepresentsFirstState m (Ok run.old.expander) (first_state_in m job.source job.include) →
@@ -328,12 +316,12 @@ pub fn assemble_all<S: Store>(alloc: Global, store: &mut S, run: &mut Run) -> Re
     ensures frame { AsmStoreFrame S.files S.failures store.old store.new result }
 {
     'statements: loop {
-        if assemble_peeked_line(alloc, store, run)? {
+        if assemble_peeked_line(store, run)? {
             continue;
         }
         let Some(statement) = next_statement(run, store)? else {
             return check_closed(run);
         };
-        assemble_at_location(alloc, store, run, &statement)?;
+        assemble_at_location(store, run, &statement)?;
     }
 }

@@ -10,7 +10,7 @@ ghost use Rattle.ast65.specs.Faults.{is_failure, is_system_error, is_out_of_memo
 ghost use Rattle.semantics65.specs.Views.{location_of_ref};
 ghost use Rattle.sources65.specs.Machine.{State};
 ghost use Rattle.asm65.specs.Internal.RunState.{IsRejectedUnread, AsmStoreFrame, read_bytes};
-ghost use Rattle.asm65.specs.Internal.AssemblerState.{Represents, IsRepresentable};
+ghost use Rattle.asm65.specs.Internal.AssemblerState.{Represents};
 ghost use Rattle.base65.specs.Outcome.{Refines};
 ghost use Rattle.semantics65.specs.Layout.{unless_fault};
 ghost use Rattle.symbols65.specs.Measuring.{unread_fault};
@@ -57,7 +57,7 @@ fn bytes_beside<S: Store>(
 
 /// Checks the start and length of an `.incbin` as far as possible without its file.
 #[inline(never)]
-fn check_range(alloc: Global, assembler: &Assembler, range: IncbinRange<'_>) -> Result<(), AsmFault>
+fn check_range(assembler: &Assembler, range: IncbinRange<'_>) -> Result<(), AsmFault>
     ensures checked { (count : ℕ) (t : State) → Represents count t assembler.now →
         Refines is_out_of_memory (λ u. u) result (unless_fault (unread_fault t.symbols t.cursor
         range.entry.start.now range.entry.len.now) tt) }
@@ -67,29 +67,24 @@ fn check_range(alloc: Global, assembler: &Assembler, range: IncbinRange<'_>) -> 
         symbols: &assembler.symbols,
         cursor: &assembler.cursor,
     };
-    check_unread(alloc, before, range)
+    check_unread(before, range)
 }
 
 /// Reads the bytes of an `.incbin` into its statement. The file is read only if the statement has no error that is
 /// independent of the file.
 #[inline(never)]
 fn with_bytes<S: Store>(
-    alloc: Global,
     store: &mut S,
-    assembler: &mut Assembler,
+    assembler: &Assembler,
     at: LocationRef<'_>,
     statement: Statement,
 ) -> Result<Statement, AsmFault>
-    requires { IsRepresentable assembler.old }
     ensures bytes { IfSome (S.files store.old) (λ m. IfOk result (λ x. x ≡ read_bytes m
         (location_of_ref at.entry) statement)) }
-    ensures represented { (count : ℕ) (t : State) → Represents count t assembler.old →
-        OnOk result (Represents count t assembler.new) }
-    ensures refused { (count : ℕ) (t : State) → Represents count t assembler.old → IfErr result
+    ensures refused { (count : ℕ) (t : State) → Represents count t assembler.now → IfErr result
         (IsRejectedUnread (S.files store.old) (S.last_failure store.new) t
         (location_of_ref at.entry)
         statement) }
-    ensures texts { assembler.new.texts ≡ assembler.old.texts }
     ensures failed { IfErr result (λ e. is_failure e ≡ true → e ≡ FileError) }
     ensures frame { AsmStoreFrame S.files S.failures store.old store.new result }
 {
@@ -99,8 +94,8 @@ fn with_bytes<S: Store>(
                 start: &start,
                 len: &len,
             };
-            check_range(alloc, assembler, range)?;
-            let bytes = bytes_beside(alloc, store, at.file, name.as_slice())?;
+            check_range(assembler, range)?;
+            let bytes = bytes_beside(assembler.symbols.alloc, store, at.file, name.as_slice())?;
             Ok(Statement::Incbin { bytes, start, len })
         }
         other => Ok(other),
@@ -110,22 +105,17 @@ fn with_bytes<S: Store>(
 /// Reads the bytes of a statement if it is an `.incbin`. Other statements aren't moved.
 #[inline(always)]
 pub fn read_incbin<S: Store>(
-    alloc: Global,
     store: &mut S,
-    assembler: &mut Assembler,
+    assembler: &Assembler,
     at: LocationRef<'_>,
     statement: &mut Statement,
 ) -> Result<(), AsmFault>
-    requires { IsRepresentable assembler.old }
     ensures bytes { IfSome (S.files store.old) (λ m. OnOk result (statement.new ≡
         read_bytes m (location_of_ref at.entry) statement.old)) }
-    ensures represented { (count : ℕ) (t : State) → Represents count t assembler.old →
-        OnOk result (Represents count t assembler.new) }
-    ensures refused { (count : ℕ) (t : State) → Represents count t assembler.old → IfErr result
+    ensures refused { (count : ℕ) (t : State) → Represents count t assembler.now → IfErr result
         (IsRejectedUnread (S.files store.old) (S.last_failure store.new) t
         (location_of_ref at.entry)
         statement.old) }
-    ensures texts { assembler.new.texts ≡ assembler.old.texts }
     ensures failed { IfErr result (λ e. is_failure e ≡ true → e ≡ FileError) }
     ensures frame { AsmStoreFrame S.files S.failures store.old store.new result }
 {
@@ -133,11 +123,6 @@ pub fn read_incbin<S: Store>(
         return Ok(());
     };
     let named = replace(statement, Statement::Nothing);
-    match with_bytes(alloc, store, assembler, at, named) {
-        Ok(whole) => {
-            *statement = whole;
-            Ok(())
-        }
-        Err(fault) => Err(fault),
-    }
+    *statement = with_bytes(store, assembler, at, named)?;
+    Ok(())
 }

@@ -20,7 +20,7 @@ use crate::resolving::{ExportedNames, FixupLocation, ResolvedPiece, resolve};
 use crate::texts::{ConsoleOutput, Diagnostic, warn};
 use ast65::AsmFault;
 use base65::ListVec;
-use emit65::{ClosedSections, Fixup, SectionEntry, Sections};
+use emit65::{Fixup, SectionEntry, Sections};
 use indexmap::IndexSet;
 use object65::Object;
 use semantics65::{LocationRef, Segment};
@@ -81,7 +81,6 @@ fn apply_resolved(
 
 /// Resolves a fixup to its content, or to its error.
 fn resolve_fixup(
-    alloc: Global,
     tables: FinalTables<'_>,
     resolve_state: &mut ResolveState,
     fixup: Fixup,
@@ -100,30 +99,25 @@ fn resolve_fixup(
         pos: fixup.pos,
     };
     match resolve(
-        alloc,
         tables.symbols,
         &mut resolve_state.known,
         &mut resolve_state.exported,
         fixup_location,
         fixup,
     ) {
-        Ok(made) => match apply_resolved(&mut resolve_state.err, fixup_location, made) {
-            Ok(entry) => Ok(entry),
-            Err(_) => Err(Diagnostic::without_memory()),
-        },
+        Ok(made) => Ok(apply_resolved(&mut resolve_state.err, fixup_location, made)?),
         Err(fault) => {
             let at = LocationRef {
                 file: fixup_location.file(),
                 line: fixup_location.pos.line,
             };
-            Err(Diagnostic::of_fault(alloc, at, fault))
+            Err(Diagnostic::of_fault(tables.symbols.alloc, at, fault))
         }
     }
 }
 
 /// Resolves an entry in place if it is pending, or returns its error.
 fn resolve_entry(
-    alloc: Global,
     tables: FinalTables<'_>,
     resolve_state: &mut ResolveState,
     entry: &mut SectionEntry,
@@ -147,13 +141,12 @@ fn resolve_entry(
     let SectionEntry::FixupEntry(fixup) = mem::replace(entry, nothing) else {
         return Ok(());
     };
-    *entry = resolve_fixup(alloc, tables, resolve_state, Box::into_inner(fixup))?;
+    *entry = resolve_fixup(tables, resolve_state, Box::into_inner(fixup))?;
     Ok(())
 }
 
 /// Resolves all entries, in source order, up to the first error.
 fn resolve_entries(
-    alloc: Global,
     tables: FinalTables<'_>,
     resolve_state: &mut ResolveState,
     entries: &mut Vec<SectionEntry>,
@@ -167,7 +160,7 @@ fn resolve_entries(
     ensures no_failure { IfErr result (λ e. is_store_failure e ≡ false) }
 {
     for entry in entries.iter_mut() {
-        resolve_entry(alloc, tables, resolve_state, entry)?;
+        resolve_entry(tables, resolve_state, entry)?;
     }
     Ok(())
 }
@@ -175,7 +168,6 @@ fn resolve_entries(
 /// Builds the object from the sections after the last statement, or returns the first error of a
 /// fixup.
 fn object_of(
-    alloc: Global,
     symbols: &Symbols,
     segments: &[Segment],
     resolve_state: &mut ResolveState,
@@ -190,28 +182,13 @@ fn object_of(
     ensures numbers { IfOk result ObjectFits }
     ensures no_failure { IfErr result (λ e. is_store_failure e ≡ false) }
 {
-    let Ok(closed) = sections.close() else {
-        return Err(Diagnostic::without_memory());
-    };
-    let ClosedSections {
-        requested,
-        files,
-        mut entries,
-    } = closed;
+    let mut closed = sections.close()?;
     let tables = FinalTables {
         symbols,
-        files: files.table.as_slice(),
+        files: closed.files.table.as_slice(),
     };
-    resolve_entries(alloc, tables, resolve_state, &mut entries)?;
-    let closed = ClosedSections {
-        requested,
-        files,
-        entries,
-    };
-    match closed.finish(alloc, segments, &symbols.imports) {
-        Ok(object) => Ok(object),
-        Err(_) => Err(Diagnostic::without_memory()),
-    }
+    resolve_entries(tables, resolve_state, &mut closed.entries)?;
+    Ok(closed.finish(symbols.alloc, segments, &symbols.imports)?)
 }
 
 /// Returns whether memory ran out, or the store failed.
@@ -249,7 +226,7 @@ fn assembly_of(alloc: Global, answer: Result<Object, Diagnostic>, texts: Console
 }
 
 /// Returns the result after the last line: the object, or the first error of a fixup.
-pub fn finish_assembly(alloc: Global, assembler: Assembler) -> Assembly
+pub fn finish_assembly(assembler: Assembler) -> Assembly
     ensures concluded { (count : ℕ) (t : State) → Represents count t assembler →
         RefinesOutcome (outcome_of_state t None) result }
     ensures good { IfOk result.result (λ o. (count : ℕ) (t : State) → Represents count t assembler →
@@ -261,6 +238,7 @@ pub fn finish_assembly(alloc: Global, assembler: Assembler) -> Assembly
     ensures silent { is_system_error_result result.result ≡ true →
         (result.out ≡ []) × (result.err ≡ []) }
 {
+    let alloc = assembler.symbols.alloc;
     let Assembler {
         symbols,
         cursor,
@@ -269,28 +247,17 @@ pub fn finish_assembly(alloc: Global, assembler: Assembler) -> Assembly
     } = assembler;
     let ConsoleOutput { out, err } = texts;
     let mut resolve_state = ResolveState {
-        known: empty_cache(alloc, &symbols),
+        known: empty_cache(&symbols),
         exported: IndexSet::with_hasher(alloc, *symbols.imports.hasher()),
         err,
     };
-    let found = object_of(
-        alloc,
-        &symbols,
-        cursor.segments(),
-        &mut resolve_state,
-        sections,
-    );
+    let found = object_of(&symbols, cursor.segments(), &mut resolve_state, sections);
     let ResolveState { err, .. } = resolve_state;
     assembly_of(alloc, found, ConsoleOutput { out, err })
 }
 
 /// Returns the result of an assembly that ends with an error at a line.
-pub fn fail_at_line(
-    alloc: Global,
-    assembler: Assembler,
-    at: LocationRef<'_>,
-    fault: AsmFault,
-) -> Assembly
+pub fn fail_at_line(assembler: Assembler, at: LocationRef<'_>, fault: AsmFault) -> Assembly
     ensures refused { is_system_error fault ≡ false → (t : State) → HasSameOutput t assembler →
         RefinesOutcome (outcome_of_state t (Some (record {
           place = location_of_ref at.entry;
@@ -302,6 +269,7 @@ pub fn fail_at_line(
     ensures silent { is_system_error_result result.result ≡ true →
         (result.out ≡ []) × (result.err ≡ []) }
 {
+    let alloc = assembler.symbols.alloc;
     assembly_of(
         alloc,
         Err(Diagnostic::of_fault(alloc, at, fault)),

@@ -65,7 +65,6 @@ impl Assembler {
     #[inline(never)]
     pub fn defer_names(
         &mut self,
-        alloc: Global,
         site: PieceContext<'_>,
         mention: NameUse,
         names: &[ListVec<u8>],
@@ -76,7 +75,7 @@ impl Assembler {
         ensures tables { ChangesOnlySections self.old self.new }
     {
         for name in names {
-            let piece = piece_of(alloc, mention, name.as_slice())?;
+            let piece = piece_of(self.symbols.alloc, mention, name.as_slice())?;
             defer(self, site, piece)?;
         }
         Ok(())
@@ -85,7 +84,6 @@ impl Assembler {
     /// Defers a constant whose form isn't final: its expression may have an error.
     fn defer_constant(
         &mut self,
-        alloc: Global,
         site: PieceContext<'_>,
         value: &Expr,
         form: &Option<Norm>,
@@ -99,7 +97,7 @@ impl Assembler {
         if form.is_some() {
             return Ok(());
         }
-        let value = copy_of(alloc, value)?;
+        let value = copy_of(self.symbols.alloc, value)?;
         defer(self, site, FixupKind::Constant(value))
     }
 
@@ -107,7 +105,6 @@ impl Assembler {
     #[inline(never)]
     pub fn define_constant(
         &mut self,
-        alloc: Global,
         site: PieceContext<'_>,
         size: AddressSize,
         name: &[u8],
@@ -128,7 +125,7 @@ impl Assembler {
             self.old self.new) }
     {
         let context = site.context;
-        self.defer_constant(alloc, site, &value, &form)?;
+        self.defer_constant(site, &value, &form)?;
         let scope = context.scope as usize;
         let blocker = blocker(&self.symbols, context, &value, &form);
         let definition = Definition {
@@ -139,7 +136,7 @@ impl Assembler {
             blocker,
         };
         let key = Key::Named { scope, name };
-        define(alloc, &mut self.symbols, key, definition)
+        define(&mut self.symbols, key, definition)
     }
 }
 
@@ -169,7 +166,6 @@ impl Assembler {
     #[inline(never)]
     pub fn define_label(
         &mut self,
-        alloc: Global,
         key: Key<'_>,
         context: Context,
         size: AddressSize,
@@ -179,17 +175,12 @@ impl Assembler {
             (λ y. with_definition y (label_definition (key_of key.entry) context size))
             self.old self.new) }
     {
-        define(alloc, &mut self.symbols, key, label(context, size))
+        define(&mut self.symbols, key, label(context, size))
     }
 
     /// Opens a scope, which may have a name.
     #[inline(never)]
-    pub fn open_block(
-        &mut self,
-        alloc: Global,
-        context: Context,
-        name: Option<&[u8]>,
-    ) -> Result<(), AllocError>
+    pub fn open_block(&mut self, context: Context, name: Option<&[u8]>) -> Result<(), AllocError>
         requires new { opened_twice (table_of self.old.symbols).scopes context.scope
             (option_map (λ n. n.now) name) ≡ None }
         ensures { OnOk result ((location : SourceLocation) → EmitsThenDefines location context []
@@ -200,15 +191,13 @@ impl Assembler {
             }))
             self.old self.new) }
     {
-        self.symbols
-            .open_scope(alloc, context.scope as usize, name, false)
+        self.symbols.open_scope(context.scope as usize, name, false)
     }
 
     /// Defines a label and opens a scope of the same name.
     #[inline(never)]
     pub fn open_proc(
         &mut self,
-        alloc: Global,
         context: Context,
         size: AddressSize,
         name: &[u8],
@@ -225,15 +214,14 @@ impl Assembler {
     {
         let scope = context.scope as usize;
         let key = Key::Named { scope, name };
-        define(alloc, &mut self.symbols, key, label(context, size))?;
-        self.symbols.open_scope(alloc, scope, Some(name), true)
+        define(&mut self.symbols, key, label(context, size))?;
+        self.symbols.open_scope(scope, Some(name), true)
     }
 
     /// Imports names with an address size.
     #[inline(never)]
     pub fn import_names(
         &mut self,
-        alloc: Global,
         site: PieceContext<'_>,
         mention: NameUse,
         size: AddressSize,
@@ -244,15 +232,14 @@ impl Assembler {
             (map (name_use_piece mention) names.now)
             (λ y. with_names y (is_for_zero_page size) names.now) self.old self.new) }
     {
-        self.defer_names(alloc, site, mention, names)?;
-        self.symbols.import(alloc, names, is_for_zero_page(size))
+        self.defer_names(site, mention, names)?;
+        self.symbols.import(names, is_for_zero_page(size))
     }
 
     /// Imports names even if nothing uses them.
     #[inline(never)]
     pub fn force_import_names(
         &mut self,
-        alloc: Global,
         site: PieceContext<'_>,
         names: &[ListVec<u8>],
     ) -> Result<(), AllocError>
@@ -261,16 +248,15 @@ impl Assembler {
             (map imported names.now ++ map forced_import names.now)
             (λ y. with_names y false names.now) self.old self.new) }
     {
-        self.defer_names(alloc, site, NameUse::Imported, names)?;
-        self.defer_names(alloc, site, NameUse::ForcedImport, names)?;
-        self.symbols.import(alloc, names, false)
+        self.defer_names(site, NameUse::Imported, names)?;
+        self.defer_names(site, NameUse::ForcedImport, names)?;
+        self.symbols.import(names, false)
     }
 
     /// Defines the names of a statement that emits nothing, and defers the names that it mentions.
     #[inline(always)]
     pub fn define_names(
         &mut self,
-        alloc: Global,
         site: PieceContext<'_>,
         measured: StatementLayout,
         statement: Statement,
@@ -292,35 +278,35 @@ impl Assembler {
         match statement {
             Statement::Label(name) => {
                 let name = name.as_slice();
-                self.define_label(alloc, Key::Named { scope, name }, context, size)
+                self.define_label(Key::Named { scope, name }, context, size)
             }
             Statement::CheapLabel(name) => {
                 let region = context.region as usize;
                 let name = name.as_slice();
-                self.define_label(alloc, Key::Cheap { region, name }, context, size)
+                self.define_label(Key::Cheap { region, name }, context, size)
             }
             Statement::UnnamedLabel => {
-                self.define_label(alloc, Key::Unnamed(context.unnamed as usize), context, size)
+                self.define_label(Key::Unnamed(context.unnamed as usize), context, size)
             }
             Statement::Constant { name, value } => {
-                self.define_constant(alloc, site, size, name.as_slice(), value, form)
+                self.define_constant(site, size, name.as_slice(), value, form)
             }
             Statement::OpenScope(name) => match name {
-                Some(name) => self.open_block(alloc, context, Some(name.as_slice())),
-                None => self.open_block(alloc, context, None),
+                Some(name) => self.open_block(context, Some(name.as_slice())),
+                None => self.open_block(context, None),
             },
-            Statement::OpenProc(name) => self.open_proc(alloc, context, size, name.as_slice()),
+            Statement::OpenProc(name) => self.open_proc(context, size, name.as_slice()),
             Statement::Import { size, names } => {
-                self.import_names(alloc, site, NameUse::Imported, size, names.as_slice())
+                self.import_names(site, NameUse::Imported, size, names.as_slice())
             }
             Statement::Global { size, names } => {
                 let mention = NameUse::Exported { must: false };
-                self.import_names(alloc, site, mention, size, names.as_slice())
+                self.import_names(site, mention, size, names.as_slice())
             }
-            Statement::ForceImport(names) => self.force_import_names(alloc, site, names.as_slice()),
+            Statement::ForceImport(names) => self.force_import_names(site, names.as_slice()),
             Statement::Export(names) => {
                 let mention = NameUse::Exported { must: true };
-                self.defer_names(alloc, site, mention, names.as_slice())
+                self.defer_names(site, mention, names.as_slice())
             }
             // A part of a file has its file's bytes before it is taken, and other statements enter nothing.
             _ => Ok(()),

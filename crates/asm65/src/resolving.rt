@@ -205,7 +205,6 @@ fn add_export(alloc: Global, exported: &mut ExportedNames, name: &[u8]) -> Resul
 /// Resolves an export of the name whose definition has this index: to its form, or to nothing if it
 /// was exported before.
 fn resolve_export(
-    alloc: Global,
     symbols: &Symbols,
     known: &mut FormCache,
     exported: &mut ExportedNames,
@@ -227,10 +226,11 @@ fn resolve_export(
     ensures more { IfOk result (λ m. names_of exported.new ≡ names_of exported.old ++
         exported_names (result_of_piece fixup_location.entry m).content.said) }
 {
+    let alloc = symbols.alloc;
     if !add_export(alloc, exported, name.as_slice())? {
         return Ok(empty_piece());
     }
-    let form = defined_norm(alloc, symbols, known, index)?;
+    let form = defined_norm(symbols, known, index)?;
     checked_declaration(
         alloc,
         fixup_location,
@@ -240,7 +240,6 @@ fn resolve_export(
 
 /// Resolves a deferred piece, or returns its error.
 pub fn resolve(
-    alloc: Global,
     symbols: &Symbols,
     known: &mut FormCache,
     exported: &mut ExportedNames,
@@ -259,19 +258,20 @@ pub fn resolve(
     ensures more { IfOk result (λ m. names_of exported.new ≡ names_of exported.old ++
         exported_names (result_of_piece fixup_location.entry m).content.said) }
 {
+    let alloc = symbols.alloc;
     let Fixup { context, piece, .. } = fixup;
     match piece {
         FixupKind::Datum { width, value } => {
-            let form = norm(alloc, symbols, known, context, &value)?;
+            let form = norm(symbols, known, context, &value)?;
             resolve_datum(alloc, width, fixup_location, context, form)
         }
         FixupKind::Operand { width, value } => {
-            let form = norm(alloc, symbols, known, context, &value)?;
+            let form = norm(symbols, known, context, &value)?;
             let form = operand_form(alloc, width, context, form)?;
             resolve_datum(alloc, width, fixup_location, context, form)
         }
         FixupKind::Constant(value) => {
-            norm(alloc, symbols, known, context, &value)?;
+            norm(symbols, known, context, &value)?;
             Ok(empty_piece())
         }
         FixupKind::Assertion {
@@ -279,7 +279,7 @@ pub fn resolve(
             text,
             value,
         } => {
-            let form = norm(alloc, symbols, known, context, &value)?;
+            let form = norm(symbols, known, context, &value)?;
             resolve_assertion(alloc, action, fixup_location, text, form)
         }
         // The module may not define what it imports.
@@ -293,15 +293,7 @@ pub fn resolve(
             Declaration::ForcedImport(name),
         )?),
         FixupKind::Export { must, name } => match defined(symbols, name.as_slice()) {
-            Some(index) => resolve_export(
-                alloc,
-                symbols,
-                known,
-                exported,
-                fixup_location,
-                index,
-                name,
-            ),
+            Some(index) => resolve_export(symbols, known, exported, fixup_location, index, name),
             None if must => Err(AsmFault::NotDefined(name)),
             None => Ok(empty_piece()),
         },

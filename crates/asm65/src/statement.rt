@@ -104,7 +104,6 @@ impl Assembler {
     #[inline(always)]
     fn emit_encoded(
         &mut self,
-        alloc: Global,
         site: PieceContext<'_>,
         encoding: EncodingChoice,
         mnemonic: Mnemonic,
@@ -121,14 +120,13 @@ impl Assembler {
             return Ok(());
         };
         emit_opcode(self, site.context, opcode(mnemonic, mode))?;
-        emit_operand(alloc, self, site, width_of(mode), operand, form)
+        emit_operand(self, site, width_of(mode), operand, form)
     }
 
     /// Emits the pieces of a statement, then defines its names.
     #[inline(always)]
     fn emit_statement(
         &mut self,
-        alloc: Global,
         site: PieceContext<'_>,
         analysis: Analysis,
         statement: Statement,
@@ -157,11 +155,9 @@ impl Assembler {
         } = measured;
         match statement {
             Statement::Instruction { mnemonic, operand } => {
-                self.emit_encoded(alloc, site, encoding, mnemonic, operand, form)
+                self.emit_encoded(site, encoding, mnemonic, operand, form)
             }
-            Statement::Values { width, items } => {
-                emit_values(alloc, self, site, width, items, forms)
-            }
+            Statement::Values { width, items } => { emit_values(self, site, width, items, forms) }
             Statement::Reserve { .. } => emit_reserve(self, context, length, encoding),
             Statement::Align { .. } => emit_reserve(self, context, length, encoding),
             Statement::Incbin { bytes, .. } => emit_incbin(self, context, length, encoding, bytes),
@@ -170,7 +166,7 @@ impl Assembler {
                 action,
                 text,
             } => {
-                if emit_value(alloc, self, site, form, ValueUse::Assertion)? {
+                if emit_value(self, site, form, ValueUse::Assertion)? {
                     return Ok(());
                 }
                 let piece = FixupKind::Assertion {
@@ -180,7 +176,7 @@ impl Assembler {
                 };
                 defer(self, site, piece)
             }
-            other => self.define_names(alloc, site, measured, other, form),
+            other => self.define_names(site, measured, other, form),
         }
     }
 
@@ -189,7 +185,6 @@ impl Assembler {
     #[inline(always)]
     fn lay_out_next_instruction(
         &mut self,
-        alloc: Global,
         mnemonic: Mnemonic,
         operand: &Operand,
     ) -> Result<LaidOut, AsmFault>
@@ -212,7 +207,7 @@ impl Assembler {
             symbols: &self.symbols,
             cursor: &self.cursor,
         };
-        let analysis = lay_out_instruction(alloc, before, mnemonic, operand)?;
+        let analysis = lay_out_instruction(before, mnemonic, operand)?;
         let context = self.cursor.context();
         self.sections.request_section(context.segment)?;
         self.cursor.advance_by(analysis.measured.length);
@@ -222,7 +217,6 @@ impl Assembler {
     /// Assembles an instruction, as `assemble_statement` does.
     pub fn assemble_instruction(
         &mut self,
-        alloc: Global,
         at: LocationRef<'_>,
         mnemonic: Mnemonic,
         operand: Operand,
@@ -238,12 +232,12 @@ impl Assembler {
             self.new.texts ≡ self.old.texts) }
         ensures no_failure { IfErr result (λ e. is_failure e ≡ false) }
     {
-        search_operand(alloc, &mut self.symbols, self.cursor.context(), &operand)?;
-        match self.lay_out_next_instruction(alloc, mnemonic, &operand) {
+        search_operand(&mut self.symbols, self.cursor.context(), &operand)?;
+        match self.lay_out_next_instruction(mnemonic, &operand) {
             Ok(LaidOut { context, analysis }) => {
                 let site = PieceContext { at, context };
                 let Analysis { measured, form, .. } = analysis;
-                self.emit_encoded(alloc, site, measured.encoding, mnemonic, operand, form)?;
+                self.emit_encoded(site, measured.encoding, mnemonic, operand, form)?;
                 Ok(())
             }
             Err(fault) => reject_instruction(operand, fault),
@@ -253,7 +247,6 @@ impl Assembler {
     /// Assembles a statement. If it has an error, the output stays unchanged.
     pub fn assemble_statement(
         &mut self,
-        alloc: Global,
         at: LocationRef<'_>,
         statement: Statement,
     ) -> Result<(), AsmFault>
@@ -267,20 +260,20 @@ impl Assembler {
         ensures no_failure { IfErr result (λ e. is_failure e ≡ false) }
     {
         let context = self.cursor.context();
-        search_statement(alloc, &mut self.symbols, context, &statement)?;
+        search_statement(&mut self.symbols, context, &statement)?;
         let before = LineState {
             symbols: &self.symbols,
             cursor: &self.cursor,
         };
-        let analysis = match lay_out_statement(alloc, before, &statement) {
+        let analysis = match lay_out_statement(before, &statement) {
             Ok(analysis) => analysis,
             Err(fault) => return reject_statement(statement, fault),
         };
         self.request_section(context.segment, &statement)?;
         self.texts.record_output(at, &statement)?;
         self.cursor
-            .advance(alloc, &self.symbols, &statement, analysis.measured)?;
-        self.emit_statement(alloc, PieceContext { at, context }, analysis, statement)?;
+            .advance(&self.symbols, &statement, analysis.measured)?;
+        self.emit_statement(PieceContext { at, context }, analysis, statement)?;
         Ok(())
     }
 }

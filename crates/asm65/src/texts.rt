@@ -1,6 +1,7 @@
 //! The output of an assembly, and the reason why it has no object.
 
-ghost use Rattle.std.specs.Prelude.{◌≡◌, [], false, true, unwrap_or, ◌++◌, codes, OnOk};
+ghost use Rattle.std.specs.Prelude.{◌≡◌, [], false, true, unwrap_or, ◌++◌, codes, None, OnOk};
+ghost use Rattle.ast65.specs.declared.fault.AsmFault.TheVariants.{OutOfMemory};
 ghost use Rattle.ast65.specs.Faults.{is_failure, is_system_error};
 ghost use Rattle.asm65.specs.Assembly.{is_store_failure, is_diagnostic_system_error, located_fault};
 ghost use Rattle.semantics65.specs.Views.{location_of_ref, location_in};
@@ -40,19 +41,19 @@ pub struct Diagnostic {
     pub fault: AsmFault,
 }
 
-impl Diagnostic {
-    /// Creates the error *out of memory*, without a file's name.
-    pub fn without_memory() -> Self
-        ensures outside { is_diagnostic_system_error result ≡ true }
-        ensures no_failure { is_store_failure result ≡ false }
-    {
+impl From<AllocError> for Diagnostic {
+    ghost from_gives = { λ _ d. d ≡ record { file = None; line = 0; fault = OutOfMemory } };
+
+    fn from(_e: AllocError) -> Diagnostic {
         Diagnostic {
             file: None,
             line: 0,
             fault: AsmFault::OutOfMemory,
         }
     }
+}
 
+impl Diagnostic {
     /// Creates the diagnostic of an error at a line.
     pub fn of_fault(alloc: Global, at: LocationRef<'_>, fault: AsmFault) -> Self
         ensures placed { is_diagnostic_system_error result ≡ false → located_fault result ≡
@@ -67,7 +68,7 @@ impl Diagnostic {
                 line: at.line,
                 fault,
             },
-            Err(_) => Diagnostic::without_memory(),
+            Err(error) => Diagnostic::from(error),
         }
     }
 

@@ -39,7 +39,7 @@ fn is_nonzero<K: Knows>(alloc: Global, knows: &K, tokens: &[Token<'_>]) -> Resul
     ensures no_failure { IfErr result (λ e. is_failure e ≡ false) }
 {
     let value = parse_expression(alloc, tokens)?;
-    match knows.value(alloc, &value)? {
+    match knows.value(&value)? {
         None => Err(ExpandFault::NotConstant),
         Some(value) => Ok(value != 0),
     }

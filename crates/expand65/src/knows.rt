@@ -3,7 +3,7 @@
 ghost use Rattle.std.specs.Prelude.{◌≡◌, IfOk};
 ghost use Rattle.expand65.specs.State.{EnvironmentView};
 
-use std::alloc::{AllocError, Global};
+use std::alloc::AllocError;
 use syntax65::{Expr, Name};
 
 /// The names and values known at a line.
@@ -12,7 +12,7 @@ pub trait Knows {
     ghost meaning: { Self → EnvironmentView };
 
     /// Returns the value of an expression, if it is constant.
-    fn value(&self, alloc: Global, expr: &Expr) -> Result<Option<i64>, AllocError>
+    fn value(&self, expr: &Expr) -> Result<Option<i64>, AllocError>
         ensures { IfOk result (λ v. v ≡ (meaning self.now).value expr.now) };
 
     /// Returns whether a name is that of a label or constant so far.

@@ -155,12 +155,12 @@ fn iterations_of(value: Option<i64>) -> Result<u32, ExpandFault>
 }
 
 /// Evaluates the expression of a count.
-fn evaluate_iterations<K: Knows>(alloc: Global, knows: &K, count: Expr) -> Result<u32, ExpandFault>
+fn evaluate_iterations<K: Knows>(knows: &K, count: Expr) -> Result<u32, ExpandFault>
     ensures value { Refines is_system_error (λ n. n) result
         (iterations_of ((K.meaning knows.now).value count)) }
     ensures no_failure { IfErr result (λ e. is_failure e ≡ false) }
 {
-    iterations_of(knows.value(alloc, &count)?)
+    iterations_of(knows.value(&count)?)
 }
 
 impl Preprocessor {
@@ -181,7 +181,7 @@ impl Preprocessor {
             (repeat_line (K.meaning knows.now) s (lexemes tokens.now))) }
     {
         let Header { count, variable } = header_of(self.alloc, tokens)?;
-        let count = evaluate_iterations(self.alloc, knows, count)?;
+        let count = evaluate_iterations(knows, count)?;
         self.repeat(store, count, variable)
     }
 

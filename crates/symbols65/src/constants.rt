@@ -41,14 +41,13 @@ pub fn literal_of(form: &Norm) -> Option<i64>
 
 /// Returns the value of an expression if it is constant by the definitions so far.
 pub fn constant(
-    alloc: Global,
     symbols: &Symbols,
     context: Context,
     value: &Expr,
 ) -> Result<Option<i64>, AllocError>
     ensures { IfOk result (λ v. v ≡ constant_in (table_of symbols.now) context value.now) }
 {
-    match find_plain_form(alloc, symbols, context, value)? {
+    match find_plain_form(symbols, context, value)? {
         Some(form) => Ok(literal_of(&form)),
         None => Ok(None),
     }
@@ -120,11 +119,7 @@ fn evaluation_of(form: Option<Norm>, is_final: bool, other: AddressSize) -> Eval
 }
 
 /// Evaluates a reference.
-fn evaluate_reference(
-    alloc: Global,
-    before: LineState<'_>,
-    operand: &Expr,
-) -> Result<Evaluation, AllocError>
+fn evaluate_reference(before: LineState<'_>, operand: &Expr) -> Result<Evaluation, AllocError>
     requires { IsReference operand.now }
     ensures { IfOk result (IsEvaluation (table_of before.entry.symbols.now)
         (context_of before.entry.cursor.now) (own_size before.entry.cursor.now) operand.now) }
@@ -135,10 +130,10 @@ fn evaluate_reference(
         return Ok(evaluation_of(None, false, AddressSize::Absolute));
     };
     let other = size_of_binding(before.symbols, meaning);
-    if let Some(form) = final_binding_form(alloc, before.symbols, context, operand, meaning)? {
+    if let Some(form) = final_binding_form(before.symbols, context, operand, meaning)? {
         return Ok(evaluation_of(Some(form), true, other));
     }
-    let form = plain_form_of_binding(alloc, before.symbols, meaning)?;
+    let form = plain_form_of_binding(before.symbols, meaning)?;
     Ok(evaluation_of(form, false, other))
 }
 
@@ -186,12 +181,7 @@ fn evaluate_binary(
 
 /// Rejects a name with `::` whose scope doesn't exist.
 #[inline(never)]
-fn check_name(
-    alloc: Global,
-    symbols: &Symbols,
-    scope: usize,
-    written: &Name,
-) -> Result<(), AsmFault>
+fn check_name(symbols: &Symbols, scope: usize, written: &Name) -> Result<(), AsmFault>
     ensures { ChecksStatement result (missing_scope_fault (table_of symbols.now).scopes scope
         (name written.now.is_global written.now.parts)) }
 {
@@ -203,7 +193,7 @@ fn check_name(
     match scope_of(symbols, opened, scope, written.is_global, scopes_in(parts)) {
         Some(_) => Ok(()),
         None => {
-            let name = name_text(alloc, written.is_global, parts)?;
+            let name = name_text(symbols.alloc, written.is_global, parts)?;
             Err(AsmFault::NoSuchScope(name))
         }
     }
@@ -211,10 +201,11 @@ fn check_name(
 
 /// Evaluates an expression in the context of a statement, in one walk; the error is its first
 /// name with `::` whose scope doesn't exist.
-pub fn evaluate(alloc: Global, before: LineState<'_>, value: &Expr) -> Result<Evaluation, AsmFault>
+pub fn evaluate(before: LineState<'_>, value: &Expr) -> Result<Evaluation, AsmFault>
     ensures { EvaluatesTree (table_of before.entry.symbols.now)
         (context_of before.entry.cursor.now) (own_size before.entry.cursor.now) value.now result }
 {
+    let alloc = before.symbols.alloc;
     match value.kind() {
         ExprKind::Number(number) => {
             let value = i64::from(*number);
@@ -230,20 +221,20 @@ pub fn evaluate(alloc: Global, before: LineState<'_>, value: &Expr) -> Result<Ev
             size: before.cursor.segment().size,
         }),
         ExprKind::Prefix(op, part) => {
-            let part = evaluate(alloc, before, part)?;
+            let part = evaluate(before, part)?;
             Ok(evaluate_prefix(alloc, *op, part)?)
         }
         ExprKind::Binary(op, operands) => {
-            let left = evaluate(alloc, before, &operands.left)?;
-            let right = evaluate(alloc, before, &operands.right)?;
+            let left = evaluate(before, &operands.left)?;
+            let right = evaluate(before, &operands.right)?;
             Ok(evaluate_binary(alloc, *op, left, right)?)
         }
         ExprKind::Scoped(name) => {
-            check_name(alloc, before.symbols, before.cursor.scope() as usize, name)?;
-            Ok(evaluate_reference(alloc, before, value)?)
+            check_name(before.symbols, before.cursor.scope() as usize, name)?;
+            Ok(evaluate_reference(before, value)?)
         }
         ExprKind::Plain(_) | ExprKind::Cheap(_) | ExprKind::Forward(_) | ExprKind::Backward(_) => {
-            Ok(evaluate_reference(alloc, before, value)?)
+            Ok(evaluate_reference(before, value)?)
         }
     }
 }
@@ -269,10 +260,8 @@ fn first_of(mnemonic: Mnemonic, first: Mode, second: Mode) -> Option<Mode>
     if opcode(mnemonic, first).is_some() {
         return Some(first);
     }
-    match opcode(mnemonic, second) {
-        Some(_) => Some(second),
-        None => None,
-    }
+    opcode(mnemonic, second)?;
+    Some(second)
 }
 
 /// Returns the addressing mode of an address operand, if the instruction has one. A prefix forces the size. Without a
@@ -300,13 +289,7 @@ pub fn constant_value(found: &Option<Evaluation>) -> Option<i64>
     ensures { (y : Table) (s : Context) (own : AddressSize) (e : Tree) →
         IsEvaluated y s own (Some e) found.now → result ≡ constant_in y s e }
 {
-    match found {
-        Some(found) => match &found.form {
-            Some(form) => literal_of(form),
-            None => None,
-        },
-        None => None,
-    }
+    literal_of(found.as_ref()?.form.as_ref()?)
 }
 
 /// Returns the address size of an evaluated expression.

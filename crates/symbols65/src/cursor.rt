@@ -147,12 +147,7 @@ impl Cursor {
 
     /// Makes the segment with this name the current one. Adds it if there is none.
     #[inline(never)]
-    fn select(
-        &mut self,
-        alloc: Global,
-        name: &[u8],
-        size: Option<AddressSize>,
-    ) -> Result<(), AllocError>
+    fn select(&mut self, name: &[u8], size: Option<AddressSize>) -> Result<(), AllocError>
         requires { length self.old.segments < 4294967295 }
         ensures { OnOk result (self.new ≡ record self.old {
           segments = named_segments self.old.segments name.now size
@@ -161,6 +156,7 @@ impl Cursor {
               (segment_index self.old.segments name.now);
         }) }
     {
+        let alloc = *self.names.allocator();
         if let Some(index) = self.segment_index(name) {
             self.current = index as u32;
             return Ok(());
@@ -178,7 +174,6 @@ impl Cursor {
     /// Updates the segments after a statement of `count` bytes.
     fn advance_segments(
         &mut self,
-        alloc: Global,
         statement: &Statement,
         count: u32,
         alignment: u32,
@@ -193,7 +188,7 @@ impl Cursor {
         }) }
     {
         match statement {
-            Statement::Segment { name, size } => self.select(alloc, name.as_slice(), *size),
+            Statement::Segment { name, size } => self.select(name.as_slice(), *size),
             Statement::PushSegment => {
                 self.grow(count, alignment);
                 self.pushed_segments.push(self.current)?;
@@ -225,7 +220,6 @@ impl Cursor {
     /// Moves the cursor past a statement with this layout.
     pub fn advance(
         &mut self,
-        alloc: Global,
         symbols: &Symbols,
         statement: &Statement,
         measure: StatementLayout,
@@ -236,7 +230,7 @@ impl Cursor {
             self.old statement.now measure.length measure.alignment) }
     {
         self.count_openings(symbols, statement);
-        self.advance_segments(alloc, statement, measure.length, measure.alignment)
+        self.advance_segments(statement, measure.length, measure.alignment)
     }
 
     /// Updates the open scope and the numbers of scopes, regions and unnamed labels

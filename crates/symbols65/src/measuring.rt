@@ -29,7 +29,6 @@ use crate::table::Symbols;
 use ast65::{AsmFault, Operand, Statement};
 use object65::Norm;
 use semantics65::EncodingChoice;
-use std::alloc::Global;
 use syntax65::{AddressSize, Mnemonic};
 
 /// The state before a statement: the symbol table of the statements before it, and the cursor.
@@ -63,11 +62,7 @@ pub struct Analysis {
 }
 
 /// Evaluates the expressions of a statement. Rejects the statement if there is an error in its names or scopes.
-fn check_naming(
-    alloc: Global,
-    before: LineState<'_>,
-    statement: &Statement,
-) -> Result<Evaluations, AsmFault>
+fn check_naming(before: LineState<'_>, statement: &Statement) -> Result<Evaluations, AsmFault>
     ensures naming { Refines is_out_of_memory (λ _. tt {0}) result (unless_fault (naming_fault
         (table_of before.entry.symbols.now) (context_of before.entry.cursor.now)
         statement.now) tt) }
@@ -78,9 +73,9 @@ fn check_naming(
     let context = before.cursor.context();
     let scope = context.scope as usize;
     check_global_only(scope, statement)?;
-    let found = evaluate_trees(alloc, before, statement)?;
-    check_opened(alloc, before.symbols, scope, statement)?;
-    check_defined(alloc, before.symbols, context, statement)?;
+    let found = evaluate_trees(before, statement)?;
+    check_opened(before.symbols, scope, statement)?;
+    check_defined(before.symbols, context, statement)?;
     Ok(found)
 }
 
@@ -114,11 +109,7 @@ fn layout_without_bytes(cursor: &Cursor) -> StatementLayout
 }
 
 /// Computes the length and the definitions of a statement, or its first error at its line.
-pub fn lay_out_statement(
-    alloc: Global,
-    before: LineState<'_>,
-    statement: &Statement,
-) -> Result<Analysis, AsmFault>
+pub fn lay_out_statement(before: LineState<'_>, statement: &Statement) -> Result<Analysis, AsmFault>
     ensures measured { Refines is_out_of_memory (λ a. a.measured) result (layout_result
         (table_of before.entry.symbols.now) before.entry.cursor.now
         statement.now) }
@@ -129,7 +120,7 @@ pub fn lay_out_statement(
     ensures forms { IfOk result (λ a. HaveFinals (table_of before.entry.symbols.now)
         (context_of before.entry.cursor.now) (items_in statement.now) a.forms.items) }
 {
-    let found = check_naming(alloc, before, statement)?;
+    let found = check_naming(before, statement)?;
     let measured = layout_by_kind(before, statement, &found)?;
     let Evaluations { first, forms, .. } = found;
     let form = final_form(first);
@@ -143,7 +134,6 @@ pub fn lay_out_statement(
 /// Computes the layout of an instruction, or its first error at its line. Instructions have a function of their
 /// own, since most statements are instructions.
 pub fn lay_out_instruction(
-    alloc: Global,
     before: LineState<'_>,
     mnemonic: Mnemonic,
     operand: &Operand,
@@ -156,12 +146,12 @@ pub fn lay_out_instruction(
     ensures form { IfOk result (λ a. HasFinal (table_of before.entry.symbols.now)
         (context_of before.entry.cursor.now) (operand_tree operand.now) a.form) }
 {
-    let found = evaluate_optional(alloc, before, operand_value(operand))?;
+    let found = evaluate_optional(before, operand_value(operand))?;
     let measured = instruction(before.cursor, mnemonic, operand, &found)?;
     let form = final_form(found);
     Ok(Analysis {
         measured,
         form,
-        forms: Vec::new(alloc),
+        forms: Vec::new(before.symbols.alloc),
     })
 }

@@ -123,10 +123,7 @@ impl Symbols {
     pub fn defined(&self, key: Key<'_>) -> Option<usize>
         ensures { result ≡ definition_index (table_of self.now) (key_of key.entry) }
     {
-        match self.interned_key(key) {
-            Some(entry) => self.index_of_key(entry),
-            None => None,
-        }
+        self.index_of_key(self.interned_key(key)?)
     }
 
     /// Returns the number of definitions.
@@ -147,12 +144,10 @@ impl Symbols {
     pub fn scope_in(&self, within: usize, name: &[u8]) -> Option<usize>
         ensures { result ≡ scope_in (table_of self.now).scopes within name.now }
     {
-        match self.name_id(name) {
-            Some(name_id) => match self.scope_index(ScopeKey::Named { within, name_id }) {
-                Some(index) if index < self.scopes.len() => Some(index + 1),
-                _ => None,
-            },
-            None => None,
+        let name_id = self.name_id(name)?;
+        match self.scope_index(ScopeKey::Named { within, name_id }) {
+            Some(index) if index < self.scopes.len() => Some(index + 1),
+            _ => None,
         }
     }
 
@@ -195,10 +190,8 @@ impl Symbols {
             StoresFinalForm (table_of self.now) index
             (definition_view (key_at self.now index) d.now) d.now) }
     {
-        match self.definitions.get_index(index) {
-            Some((_, definition)) => Some(definition),
-            None => None,
-        }
+        let (_, definition) = self.definitions.get_index(index)?;
+        Some(definition)
     }
 
     /// Returns whether the definition at an index is that of a name directly in a scope.
@@ -226,23 +219,18 @@ impl Symbols {
     }
 
     /// Interns a name and returns its number.
-    pub fn intern_name(&mut self, alloc: Global, name: &[u8]) -> Result<usize, AllocError>
+    pub fn intern_name(&mut self, name: &[u8]) -> Result<usize, AllocError>
         ensures table { table_of self.new ≡ table_of self.old }
         ensures definitions { self.new.definitions ≡ self.old.definitions }
         ensures scopes { self.new.scopes ≡ self.old.scopes }
         ensures number { IfOk result (λ w.
             position (bytes_eq name.now) (interned_names_of self.new) ≡ Some w) }
     {
-        intern(alloc, &mut self.interned_names, name)
+        intern(self.alloc, &mut self.interned_names, name)
     }
 
     /// Returns the key of a new scope. Interns its name, if it has one.
-    fn new_scope_key(
-        &mut self,
-        alloc: Global,
-        within: usize,
-        name: Option<&[u8]>,
-    ) -> Result<ScopeKey, AllocError>
+    fn new_scope_key(&mut self, within: usize, name: Option<&[u8]>) -> Result<ScopeKey, AllocError>
         ensures table { table_of self.new ≡ table_of self.old }
         ensures scopes { self.new.scopes ≡ self.old.scopes }
         ensures opening { IfOk result (λ k.
@@ -251,7 +239,7 @@ impl Symbols {
     {
         match name {
             Some(name) => {
-                let name_id = self.intern_name(alloc, name)?;
+                let name_id = self.intern_name(name)?;
                 Ok(ScopeKey::Named { within, name_id })
             }
             None => {
@@ -264,7 +252,6 @@ impl Symbols {
     /// Opens a scope within another. The result is unspecified if the outer scope already has a scope of this name.
     pub fn open_scope(
         &mut self,
-        alloc: Global,
         within: usize,
         name: Option<&[u8]>,
         is_proc: bool,
@@ -279,7 +266,7 @@ impl Symbols {
               is_proc = is_proc;
             })) }
     {
-        let scope_key = self.new_scope_key(alloc, within, name)?;
+        let scope_key = self.new_scope_key(within, name)?;
         if self.scope_index(scope_key).is_some() {
             return Ok(());
         }
@@ -288,15 +275,11 @@ impl Symbols {
     }
 
     /// Imports names, for the zero page if `is_zero_page`.
-    pub fn import(
-        &mut self,
-        alloc: Global,
-        names: &[ListVec<u8>],
-        is_zero_page: bool,
-    ) -> Result<(), AllocError>
+    pub fn import(&mut self, names: &[ListVec<u8>], is_zero_page: bool) -> Result<(), AllocError>
         ensures { OnOk result (table_of self.new ≡
             with_names (table_of self.old) is_zero_page names.now) }
     {
+        let alloc = self.alloc;
         self.searched.clear();
         add_names(alloc, &mut self.imports, names)?;
         if is_zero_page {

@@ -20,7 +20,7 @@ use base65::ListVec;
 use emit65::FixupKind;
 use object65::{Norm, Width};
 use semantics65::{Context, EncodingChoice};
-use std::alloc::{AllocError, Global};
+use std::alloc::AllocError;
 use std::vec::IntoIter;
 use syntax65::{Expr, Mode};
 
@@ -70,7 +70,6 @@ pub fn emit_opcode(
 /// Emits the value of an operand at once if its form is final and has no error, else defers it.
 #[inline(always)]
 pub fn emit_operand(
-    alloc: Global,
     assembler: &mut Assembler,
     site: PieceContext<'_>,
     width: Option<Width>,
@@ -84,7 +83,7 @@ pub fn emit_operand(
 {
     match (width, operand_value(operand)) {
         (Some(width), Some(value)) => {
-            if emit_value(alloc, assembler, site, form, ValueUse::Operand(width))? {
+            if emit_value(assembler, site, form, ValueUse::Operand(width))? {
                 return Ok(());
             }
             defer(assembler, site, FixupKind::Operand { width, value })
@@ -97,16 +96,12 @@ pub fn emit_operand(
 fn next_form(forms: &mut IntoIter<Option<Norm>>) -> Option<Norm>
     ensures { IsNextForm (into_iter_items forms.old) result (into_iter_items forms.new) }
 {
-    match forms.next() {
-        Some(form) => form,
-        None => None,
-    }
+    forms.next()?
 }
 
 /// Emits an element of a list at once if its form is final and has no error, else defers it.
 #[inline(always)]
 fn emit_element(
-    alloc: Global,
     assembler: &mut Assembler,
     site: PieceContext<'_>,
     width: Width,
@@ -119,7 +114,7 @@ fn emit_element(
         (expression_value (datum width) value ∷ []) assembler.old assembler.new) }
     ensures tables { ChangesOnlySections assembler.old assembler.new }
 {
-    if emit_value(alloc, assembler, site, form, ValueUse::Datum(width))? {
+    if emit_value(assembler, site, form, ValueUse::Datum(width))? {
         return Ok(());
     }
     defer(assembler, site, FixupKind::Datum { width, value })
@@ -127,7 +122,6 @@ fn emit_element(
 
 /// Emits a list of expressions and strings.
 fn emit_mixed(
-    alloc: Global,
     assembler: &mut Assembler,
     site: PieceContext<'_>,
     width: Width,
@@ -143,7 +137,7 @@ fn emit_mixed(
     for item in items.into_vec() {
         let form = next_form(&mut forms);
         match item {
-            Item::Value(value) => emit_element(alloc, assembler, site, width, value, form)?,
+            Item::Value(value) => emit_element(assembler, site, width, value, form)?,
             Item::StringLiteral(bytes) => {
                 assembler
                     .sections
@@ -156,7 +150,6 @@ fn emit_mixed(
 
 /// Emits a list of numbers: their bytes together if each number is in range, else one by one.
 fn emit_numbers(
-    alloc: Global,
     assembler: &mut Assembler,
     site: PieceContext<'_>,
     width: Width,
@@ -166,13 +159,14 @@ fn emit_numbers(
         (location_of_ref site.entry.at) site.entry.context
         (map (item_piece width) (map literal_item numbers.now)) assembler.old assembler.new) }
 {
+    let alloc = assembler.symbols.alloc;
     match bytes_of(alloc, width, numbers)? {
         Some(bytes) => assembler
             .sections
             .append(site.context.segment, bytes.as_slice()),
         None => {
             let items = items_of(alloc, numbers)?;
-            emit_mixed(alloc, assembler, site, width, items, Vec::new(alloc))
+            emit_mixed(assembler, site, width, items, Vec::new(alloc))
         }
     }
 }
@@ -180,7 +174,6 @@ fn emit_numbers(
 /// Emits a list.
 #[inline(never)]
 pub fn emit_values(
-    alloc: Global,
     assembler: &mut Assembler,
     site: PieceContext<'_>,
     width: Width,
@@ -193,10 +186,8 @@ pub fn emit_values(
         (map (item_piece width) items) assembler.old assembler.new) }
 {
     match items.into_kind() {
-        ItemsKind::Numbers(numbers) => {
-            emit_numbers(alloc, assembler, site, width, numbers.as_slice())
-        }
-        ItemsKind::Mixed(items) => emit_mixed(alloc, assembler, site, width, items, forms),
+        ItemsKind::Numbers(numbers) => { emit_numbers(assembler, site, width, numbers.as_slice()) }
+        ItemsKind::Mixed(items) => emit_mixed(assembler, site, width, items, forms),
     }
 }
 

@@ -153,7 +153,6 @@ pub enum ValueUse {
 /// a fixup is built only if it is needed.
 #[inline(always)]
 pub fn emit_value(
-    alloc: Global,
     assembler: &mut Assembler,
     site: PieceContext<'_>,
     form: Option<Norm>,
@@ -169,6 +168,7 @@ pub fn emit_value(
         return Ok(false);
     };
     let segment = site.context.segment;
+    let alloc = assembler.symbols.alloc;
     let sections = &mut assembler.sections;
     match value_use {
         ValueUse::Datum(width) => emit_form(sections, segment, width, site.at, form),

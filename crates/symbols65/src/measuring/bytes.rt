@@ -25,7 +25,6 @@ use ast65::{AsmFault, IncbinRange, Item, Items, ItemsKind, Operand};
 use base65::ListVec;
 use object65::Width;
 use semantics65::EncodingChoice;
-use std::alloc::Global;
 use syntax65::{MAX_FILE, Mnemonic, Mode};
 
 /// Returns the value of an optional expression, which must be constant.
@@ -45,16 +44,12 @@ fn optional_constant(found: &Option<Evaluation>) -> Result<Option<i64>, AsmFault
 /// Checks a part of a file as far as possible without the file, which is read only if there is no
 /// error.
 #[inline(never)]
-pub fn check_unread(
-    alloc: Global,
-    before: LineState<'_>,
-    range: IncbinRange<'_>,
-) -> Result<(), AsmFault>
+pub fn check_unread(before: LineState<'_>, range: IncbinRange<'_>) -> Result<(), AsmFault>
     ensures { Refines is_out_of_memory (λ u. u) result (unless_fault (unread_fault
         (table_of before.entry.symbols.now) before.entry.cursor.now
         range.entry.start.now range.entry.len.now) tt) }
 {
-    let found = evaluate_two(alloc, before, range.start.get(), range.len.get())?;
+    let found = evaluate_two(before, range.start.get(), range.len.get())?;
     optional_constant(&found.first)?;
     optional_constant(&found.second)?;
     Ok(())

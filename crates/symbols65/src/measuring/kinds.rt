@@ -36,12 +36,7 @@ pub fn check_global_only(scope: usize, statement: &Statement) -> Result<(), AsmF
 }
 
 /// Rejects a statement that opens a scope if the enclosing scope already has one with its name.
-pub fn check_opened(
-    alloc: Global,
-    symbols: &Symbols,
-    scope: usize,
-    statement: &Statement,
-) -> Result<(), AsmFault>
+pub fn check_opened(symbols: &Symbols, scope: usize, statement: &Statement) -> Result<(), AsmFault>
     ensures { ChecksStatement result (opened_twice (table_of symbols.now).scopes scope
         (scope_name statement.now)) }
 {
@@ -51,7 +46,7 @@ pub fn check_opened(
     match symbols.scope_in(scope, name.as_slice()) {
         None => Ok(()),
         Some(_) => {
-            let name = Vec::from_slice(alloc, name.as_slice())?;
+            let name = Vec::from_slice(symbols.alloc, name.as_slice())?;
             Err(AsmFault::ScopeTwice(ListVec::from_vec(name)))
         }
     }
@@ -59,7 +54,6 @@ pub fn check_opened(
 
 /// Rejects a statement that defines a symbol that is already defined.
 pub fn check_defined(
-    alloc: Global,
     symbols: &Symbols,
     context: Context,
     statement: &Statement,
@@ -85,7 +79,7 @@ pub fn check_defined(
     match symbols.defined(key) {
         None => Ok(()),
         Some(_) => {
-            let name = Vec::from_slice(alloc, name)?;
+            let name = Vec::from_slice(symbols.alloc, name)?;
             Err(AsmFault::DefinedTwice(ListVec::from_vec(name)))
         }
     }

@@ -16,7 +16,7 @@ use crate::table::Symbols;
 use ast65::{AsmFault, Item, Items, ItemsKind, Operand, Statement};
 use object65::Norm;
 use semantics65::Context;
-use std::alloc::{AllocError, Global};
+use std::alloc::AllocError;
 use syntax65::Expr;
 
 /// The evaluations of the expressions of a statement.
@@ -32,7 +32,6 @@ pub struct Evaluations {
 
 /// Evaluates an optional expression.
 pub fn evaluate_optional(
-    alloc: Global,
     before: LineState<'_>,
     value: Option<&Expr>,
 ) -> Result<Option<Evaluation>, AsmFault>
@@ -46,7 +45,7 @@ pub fn evaluate_optional(
 {
     match value {
         Some(value) => {
-            let found = evaluate(alloc, before, value)?;
+            let found = evaluate(before, value)?;
             Ok(Some(found))
         }
         None => Ok(None),
@@ -94,24 +93,20 @@ fn second_value(statement: &Statement) -> Option<&Expr>
 
 /// Evaluates the elements of a list, and returns the final form of each, if it is evident already.
 #[inline(never)]
-fn evaluate_items(
-    alloc: Global,
-    before: LineState<'_>,
-    items: &[Item],
-) -> Result<Vec<Option<Norm>>, AsmFault>
+fn evaluate_items(before: LineState<'_>, items: &[Item]) -> Result<Vec<Option<Norm>>, AsmFault>
     ensures scopes { Refines is_out_of_memory (λ _. tt {0}) result (unless_fault
         (missing_scopes_fault (table_of before.entry.symbols.now).scopes
         (context_of before.entry.cursor.now).scope (item_trees items.now)) tt) }
     ensures forms { IfOk result (λ forms. HaveFinals (table_of before.entry.symbols.now)
         (context_of before.entry.cursor.now) items.now forms.items) }
 {
-    let mut forms = Vec::with_capacity(alloc, items.len())?;
+    let mut forms = Vec::with_capacity(before.symbols.alloc, items.len())?;
     for item in items {
         let value = match item {
             Item::Value(value) => Some(value),
             Item::StringLiteral(_) => None,
         };
-        let found = evaluate_optional(alloc, before, value)?;
+        let found = evaluate_optional(before, value)?;
         forms.push(final_form(found))?;
     }
     Ok(forms)
@@ -119,7 +114,6 @@ fn evaluate_items(
 
 /// Evaluates two optional expressions, in order.
 pub fn evaluate_two(
-    alloc: Global,
     before: LineState<'_>,
     first: Option<&Expr>,
     second: Option<&Expr>,
@@ -137,21 +131,17 @@ pub fn evaluate_two(
         (option_map (λ e. e.now) second.entry) found.second) }
     ensures forms { IfOk result (λ found. found.forms.items ≡ []) }
 {
-    let first = evaluate_optional(alloc, before, first)?;
-    let second = evaluate_optional(alloc, before, second)?;
+    let first = evaluate_optional(before, first)?;
+    let second = evaluate_optional(before, second)?;
     Ok(Evaluations {
         first,
         second,
-        forms: Vec::new(alloc),
+        forms: Vec::new(before.symbols.alloc),
     })
 }
 
 /// Evaluates the expressions of a statement. The error is its first name with `::` whose scope doesn't exist.
-pub fn evaluate_trees(
-    alloc: Global,
-    before: LineState<'_>,
-    statement: &Statement,
-) -> Result<Evaluations, AsmFault>
+pub fn evaluate_trees(before: LineState<'_>, statement: &Statement) -> Result<Evaluations, AsmFault>
     ensures scopes { Refines is_out_of_memory (λ _. tt {0}) result (unless_fault
         (missing_scopes_fault (table_of before.entry.symbols.now).scopes
         (context_of before.entry.cursor.now).scope (trees_of statement.now)) tt) }
@@ -162,12 +152,12 @@ pub fn evaluate_trees(
     let Statement::Values { items, .. } = statement else {
         let first = first_value(statement);
         let second = second_value(statement);
-        return evaluate_two(alloc, before, first, second);
+        return evaluate_two(before, first, second);
     };
     let forms = match items.kind() {
         // Numbers need no evaluation.
-        ItemsKind::Numbers(_) => Vec::new(alloc),
-        ItemsKind::Mixed(items) => evaluate_items(alloc, before, items.as_slice())?,
+        ItemsKind::Numbers(_) => Vec::new(before.symbols.alloc),
+        ItemsKind::Mixed(items) => evaluate_items(before, items.as_slice())?,
     };
     Ok(Evaluations {
         first: None,
@@ -178,7 +168,6 @@ pub fn evaluate_trees(
 
 /// Searches for the forms of the constants in an optional expression.
 fn search_optional(
-    alloc: Global,
     symbols: &mut Symbols,
     context: Context,
     value: Option<&Expr>,
@@ -186,14 +175,13 @@ fn search_optional(
     ensures { table_of symbols.new ≡ table_of symbols.old }
 {
     match value {
-        Some(value) => search_constants(alloc, symbols, context, value),
+        Some(value) => search_constants(symbols, context, value),
         None => Ok(()),
     }
 }
 
 /// Searches for the forms of the constants in an operand, and stores the results in the symbol table.
 pub fn search_operand(
-    alloc: Global,
     symbols: &mut Symbols,
     context: Context,
     operand: &Operand,
@@ -203,12 +191,11 @@ pub fn search_operand(
     if !symbols.has_unresolved {
         return Ok(());
     }
-    search_optional(alloc, symbols, context, operand_value(operand))
+    search_optional(symbols, context, operand_value(operand))
 }
 
 /// Searches for the forms of the constants in a statement, and stores the results in the symbol table.
 pub fn search_statement(
-    alloc: Global,
     symbols: &mut Symbols,
     context: Context,
     statement: &Statement,
@@ -219,15 +206,15 @@ pub fn search_statement(
         return Ok(());
     }
     let Statement::Values { items, .. } = statement else {
-        search_optional(alloc, symbols, context, first_value(statement))?;
-        return search_optional(alloc, symbols, context, second_value(statement));
+        search_optional(symbols, context, first_value(statement))?;
+        return search_optional(symbols, context, second_value(statement));
     };
     let ItemsKind::Mixed(items) = items.kind() else {
         return Ok(());
     };
     for item in items.as_slice() {
         if let Item::Value(value) = item {
-            search_constants(alloc, symbols, context, value)?;
+            search_constants(symbols, context, value)?;
         }
     }
     Ok(())

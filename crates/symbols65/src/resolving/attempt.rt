@@ -14,7 +14,7 @@ use crate::table::{FormCache, SearchEntry, Symbols};
 use ast65::AsmFault;
 use object65::{Node, Norm};
 use semantics65::Context;
-use std::alloc::{AllocError, Global};
+use std::alloc::AllocError;
 use syntax65::{Expr, ExprKind};
 
 /// The error of an attempt.
@@ -50,16 +50,12 @@ pub fn address(context: Context) -> Norm
 
 /// Returns the form of the definition at an index: that of a constant is final, or a search has
 /// found it.
-fn attempt_defined(
-    alloc: Global,
-    symbols: &Symbols,
-    known: &FormCache,
-    index: usize,
-) -> Result<Norm, AttemptError>
+fn attempt_defined(symbols: &Symbols, known: &FormCache, index: usize) -> Result<Norm, AttemptError>
     ensures { Refines lacks_memory (λ f. f) result (attempt_definition
         (λ s e. known_form index (known_among symbols.now known.now index))
         (slice_get (table_of symbols.now).definitions index)) }
 {
+    let alloc = symbols.alloc;
     let Some(definition) = symbols.definition(index) else {
         return Err(AttemptError::Fault(AsmFault::NoSuchLabel));
     };
@@ -75,7 +71,6 @@ fn attempt_defined(
 
 /// Returns the form of the meaning of a name.
 fn attempt_binding(
-    alloc: Global,
     symbols: &Symbols,
     known: &FormCache,
     meaning: Binding,
@@ -85,7 +80,7 @@ fn attempt_binding(
         (table_of symbols.now) (binding_in meaning)) }
 {
     match meaning {
-        Binding::Defined(index) => attempt_defined(alloc, symbols, known, index),
+        Binding::Defined(index) => attempt_defined(symbols, known, index),
         // Memory can't have more imports than 32 bits can number.
         Binding::Imported(key) => match u32::try_from(key) {
             Ok(key) => Ok(Norm::new(Node::ImportedName(key))),
@@ -96,7 +91,6 @@ fn attempt_binding(
 
 /// Attempts the form of an expression in its context.
 fn try_norm(
-    alloc: Global,
     symbols: &Symbols,
     known: &FormCache,
     context: Context,
@@ -106,16 +100,17 @@ fn try_norm(
         (known_among symbols.now known.now)
         (table_of symbols.now) context value.now) }
 {
+    let alloc = symbols.alloc;
     match value.kind() {
         ExprKind::Number(number) => Ok(Norm::new(Node::NumberNode(i64::from(*number)))),
         ExprKind::Here => Ok(address(context)),
         ExprKind::Prefix(op, part) => {
-            let part = try_norm(alloc, symbols, known, context, part)?;
+            let part = try_norm(symbols, known, context, part)?;
             Ok(folded_form(Norm::prefix(alloc, *op, part))?)
         }
         ExprKind::Binary(op, operands) => {
-            let left = try_norm(alloc, symbols, known, context, &operands.left)?;
-            let right = try_norm(alloc, symbols, known, context, &operands.right)?;
+            let left = try_norm(symbols, known, context, &operands.left)?;
+            let right = try_norm(symbols, known, context, &operands.right)?;
             Ok(folded_form(Norm::binary(alloc, *op, left, right))?)
         }
         ExprKind::Plain(_)
@@ -123,15 +118,14 @@ fn try_norm(
         | ExprKind::Cheap(_)
         | ExprKind::Forward(_)
         | ExprKind::Backward(_) => {
-            let meaning = binding_of(alloc, symbols, context, value)?;
-            attempt_binding(alloc, symbols, known, meaning)
+            let meaning = binding_of(symbols, context, value)?;
+            attempt_binding(symbols, known, meaning)
         }
     }
 }
 
 /// Attempts the last of the pending constants or, if there is none, the expression itself.
 pub fn try_last(
-    alloc: Global,
     symbols: &Symbols,
     known: &FormCache,
     context: Context,
@@ -146,13 +140,13 @@ pub fn try_last(
         pending_constants.now) }
 {
     let Some(last) = pending_constants.last() else {
-        return try_norm(alloc, symbols, known, context, value);
+        return try_norm(symbols, known, context, value);
     };
     let Some(definition) = symbols.definition(*last) else {
         return Err(AttemptError::Fault(AsmFault::NoSuchLabel));
     };
     match &definition.value {
         None => Ok(address(definition.context)),
-        Some(value) => try_norm(alloc, symbols, known, definition.context, value),
+        Some(value) => try_norm(symbols, known, definition.context, value),
     }
 }

@@ -112,10 +112,7 @@ fn member_binding(symbols: &Symbols, scope: usize, name: &[u8]) -> Option<Bindin
     if scope == 0 {
         return defined_or_imported(symbols, defined, name);
     }
-    match defined {
-        Some(index) => Some(Binding::Defined(index)),
-        None => None,
-    }
+    Some(Binding::Defined(defined?))
 }
 
 /// Returns the meaning of a plain name, if it has one: the definition in the innermost scope that has one,
@@ -138,10 +135,8 @@ fn scoped_binding(symbols: &Symbols, context: Context, name: &Name) -> Option<Bi
     let parts = name.parts.as_slice();
     let opened = context.opened as usize;
     let scope = context.scope as usize;
-    match scope_of(symbols, opened, scope, name.is_global, scopes_in(parts)) {
-        None => None,
-        Some(inner) => member_binding(symbols, inner, last_in(parts)),
-    }
+    let inner = scope_of(symbols, opened, scope, name.is_global, scopes_in(parts))?;
+    member_binding(symbols, inner, last_in(parts))
 }
 
 /// Returns the parts of a name that are names of scopes: all but the last.
@@ -212,10 +207,8 @@ pub fn binding_at(symbols: &Symbols, context: Context, operand: &Expr) -> Option
         ExprKind::Cheap(name) => {
             let region = context.region as usize;
             let name = name.as_slice();
-            match symbols.defined(Key::Cheap { region, name }) {
-                Some(index) => Some(Binding::Defined(index)),
-                None => None,
-            }
+            let index = symbols.defined(Key::Cheap { region, name })?;
+            Some(Binding::Defined(index))
         }
         ExprKind::Forward(steps) => label_after(symbols, context.unnamed, *steps),
         ExprKind::Backward(steps) => label_before(symbols, context.unnamed, *steps),
@@ -234,13 +227,13 @@ fn undefined(alloc: Global, name: &[u8]) -> Result<AsmFault, AllocError>
 /// Returns the error for an operand without a meaning.
 #[inline(never)]
 fn binding_fault(
-    alloc: Global,
     symbols: &Symbols,
     context: Context,
     operand: &Expr,
 ) -> Result<AsmFault, AllocError>
     ensures { IfOk result (λ e. e ≡ binding_fault (table_of symbols.now) context operand.now) }
 {
+    let alloc = symbols.alloc;
     match operand.kind() {
         ExprKind::Plain(name) | ExprKind::Cheap(name) => undefined(alloc, name.as_slice()),
         ExprKind::Scoped(name) => {
@@ -261,17 +254,12 @@ fn binding_fault(
 }
 
 /// Returns the meaning of an operand in its context, or its error.
-pub fn binding_of(
-    alloc: Global,
-    symbols: &Symbols,
-    context: Context,
-    operand: &Expr,
-) -> Result<Binding, AsmFault>
+pub fn binding_of(symbols: &Symbols, context: Context, operand: &Expr) -> Result<Binding, AsmFault>
     ensures { Refines is_out_of_memory binding_in result
         (binding_of (table_of symbols.now) context operand.now) }
 {
     match binding_at(symbols, context, operand) {
         Some(meaning) => Ok(meaning),
-        None => Err(binding_fault(alloc, symbols, context, operand)?),
+        None => Err(binding_fault(symbols, context, operand)?),
     }
 }

@@ -18,7 +18,7 @@ use crate::table::Symbols;
 use base65::{Op1, Op2};
 use object65::{FormFault, Norm};
 use semantics65::Context;
-use std::alloc::{AllocError, Global};
+use std::alloc::AllocError;
 use syntax65::{Expr, ExprKind};
 
 /// Returns a folded form; nothing if it has no value or is too large.
@@ -87,7 +87,6 @@ pub fn blocker_of(symbols: &Symbols, context: Context, value: &Expr) -> Option<u
 
 /// Returns the final form of an operand with this meaning, if that is evident already.
 pub fn final_binding_form(
-    alloc: Global,
     symbols: &Symbols,
     context: Context,
     operand: &Expr,
@@ -107,7 +106,7 @@ pub fn final_binding_form(
     };
     match (&definition.value, &definition.form) {
         (None, _) => Ok(Some(address(definition.context))),
-        (Some(_), Some(form)) => Ok(Some(Norm::copy_of(alloc, form)?)),
+        (Some(_), Some(form)) => Ok(Some(Norm::copy_of(symbols.alloc, form)?)),
         (Some(_), None) => Ok(None),
     }
 }

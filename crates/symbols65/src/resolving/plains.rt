@@ -18,7 +18,7 @@ use ast65::AsmFault;
 use indexmap::IndexMap;
 use object65::{Node, Norm};
 use semantics65::Context;
-use std::alloc::{AllocError, Global};
+use std::alloc::AllocError;
 use std::mem;
 use syntax65::{Expr, ExprKind};
 
@@ -70,7 +70,6 @@ fn is_blocked(symbols: &Symbols, index: usize) -> bool
 
 /// Finds the number or address of an expression by the definitions so far, if it has one.
 pub fn find_plain_form(
-    alloc: Global,
     symbols: &Symbols,
     context: Context,
     value: &Expr,
@@ -78,8 +77,8 @@ pub fn find_plain_form(
     ensures { IfOk result (λ f.
         f ≡ plain_result (norm_of (table_of symbols.now) context value.now)) }
 {
-    let mut known: FormCache = IndexMap::new(alloc);
-    match run_search(alloc, symbols, &mut known, context, value) {
+    let mut known: FormCache = IndexMap::new(symbols.alloc);
+    match run_search(symbols, &mut known, context, value) {
         Ok(form) => Ok(plain_form(&form)),
         Err(fault) if fault.is_memory() => Err(AllocError),
         Err(_) => Ok(None),
@@ -100,17 +99,17 @@ fn search_entry_of(found: Result<Norm, AsmFault>, count: usize) -> Result<Search
 }
 
 /// Searches for the form of the constant at an index, and stores the results in the symbol table.
-fn search_constant(alloc: Global, symbols: &mut Symbols, index: usize) -> Result<(), AllocError>
+fn search_constant(symbols: &mut Symbols, index: usize) -> Result<(), AllocError>
     ensures { table_of symbols.new ≡ table_of symbols.old }
 {
-    let mut known = mem::replace(&mut symbols.searched, IndexMap::new(alloc));
+    let mut known = mem::replace(&mut symbols.searched, IndexMap::new(symbols.alloc));
     let Some(definition) = symbols.definition(index) else {
         return Ok(());
     };
     let Some(value) = &definition.value else {
         return Ok(());
     };
-    let found = run_search(alloc, symbols, &mut known, definition.context, value);
+    let found = run_search(symbols, &mut known, definition.context, value);
     let entry = search_entry_of(found, symbols.definition_count())?;
     record(&mut known, index, entry)?;
     symbols.searched = known;
@@ -134,29 +133,24 @@ fn unsearched(symbols: &Symbols, context: Context, operand: &Expr) -> Option<usi
 
 /// Searches for the form of the constant at an index, after that of its blocker. A blocked constant
 /// isn't searched for, since its form can be large.
-fn search_unless_blocked(
-    alloc: Global,
-    symbols: &mut Symbols,
-    index: usize,
-) -> Result<(), AllocError>
+fn search_unless_blocked(symbols: &mut Symbols, index: usize) -> Result<(), AllocError>
     ensures { table_of symbols.new ≡ table_of symbols.old }
 {
     if let Some(blocker) = blocker_of(symbols, index) {
         if !is_visited(&symbols.searched, blocker, symbols.definition_count()) {
-            search_constant(alloc, symbols, blocker)?;
+            search_constant(symbols, blocker)?;
         }
     }
     if is_blocked(symbols, index) {
         Ok(())
     } else {
-        search_constant(alloc, symbols, index)
+        search_constant(symbols, index)
     }
 }
 
 /// Searches for the forms of the constants in an expression, and stores them in the symbol table,
 /// so that each is searched for once.
 pub fn search_constants(
-    alloc: Global,
     symbols: &mut Symbols,
     context: Context,
     value: &Expr,
@@ -165,10 +159,10 @@ pub fn search_constants(
 {
     match value.kind() {
         ExprKind::Number(_) | ExprKind::Here => Ok(()),
-        ExprKind::Prefix(_, part) => search_constants(alloc, symbols, context, part),
+        ExprKind::Prefix(_, part) => search_constants(symbols, context, part),
         ExprKind::Binary(_, operands) => {
-            search_constants(alloc, symbols, context, &operands.left)?;
-            search_constants(alloc, symbols, context, &operands.right)
+            search_constants(symbols, context, &operands.left)?;
+            search_constants(symbols, context, &operands.right)
         }
         ExprKind::Plain(_)
         | ExprKind::Scoped(_)
@@ -178,14 +172,13 @@ pub fn search_constants(
             let Some(index) = unsearched(symbols, context, value) else {
                 return Ok(());
             };
-            search_unless_blocked(alloc, symbols, index)
+            search_unless_blocked(symbols, index)
         }
     }
 }
 
 /// Returns the number or address of a meaning, if it has one.
 pub fn plain_form_of_binding(
-    alloc: Global,
     symbols: &Symbols,
     meaning: Binding,
 ) -> Result<Option<Norm>, AllocError>
@@ -208,7 +201,7 @@ pub fn plain_form_of_binding(
                 if is_blocked(symbols, index) {
                     return Ok(None);
                 }
-                find_plain_form(alloc, symbols, definition.context, value)
+                find_plain_form(symbols, definition.context, value)
             }
         },
     }

@@ -163,8 +163,6 @@ pub fn scope_of(
         return inner_scope(symbols, opened, GLOBAL, names);
     }
     let (first, names) = names.split_first()?;
-    match scope_outward(symbols, opened, scope, first.as_slice()) {
-        Some(outer) => inner_scope(symbols, opened, outer, names),
-        None => None,
-    }
+    let outer = scope_outward(symbols, opened, scope, first.as_slice())?;
+    inner_scope(symbols, opened, outer, names)
 }

@@ -15,14 +15,14 @@ use ast65::AsmFault;
 use indexmap::IndexMap;
 use object65::Norm;
 use semantics65::Context;
-use std::alloc::{AllocError, Global};
+use std::alloc::AllocError;
 use syntax65::Expr;
 
 /// Creates the cache of a symbol table to which nothing is added any more.
-pub fn empty_cache(alloc: Global, symbols: &Symbols) -> FormCache
+pub fn empty_cache(symbols: &Symbols) -> FormCache
     ensures { IsFormCache (table_of symbols.now) result }
 {
-    IndexMap::new(alloc)
+    IndexMap::new(symbols.alloc)
 }
 
 /// Records the entry of the constant at an index.
@@ -51,7 +51,6 @@ pub fn is_visited(known: &FormCache, index: usize, count: usize) -> bool
 /// one for each constant that it needs. If an earlier one found that a constant has no form, the
 /// error may be another than the first.
 pub fn run_search(
-    alloc: Global,
     symbols: &Symbols,
     known: &mut FormCache,
     context: Context,
@@ -68,9 +67,9 @@ pub fn run_search(
         IsUnmarked (table_of symbols.now) known.new) }
 {
     let count = symbols.definition_count();
-    let mut pending_constants: Vec<usize> = Vec::new(alloc);
+    let mut pending_constants: Vec<usize> = Vec::new(symbols.alloc);
     'find: loop {
-        let attempt = try_last(alloc, symbols, known, context, value, &pending_constants);
+        let attempt = try_last(symbols, known, context, value, &pending_constants);
         match attempt {
             Ok(form) => match pending_constants.pop() {
                 None => return Ok(form),
@@ -92,7 +91,6 @@ pub fn run_search(
 /// Returns the normal form of an expression after the last line. The forms of constants that it
 /// finds are kept.
 pub fn norm(
-    alloc: Global,
     symbols: &Symbols,
     known: &mut FormCache,
     context: Context,
@@ -103,12 +101,11 @@ pub fn norm(
         (norm_of (table_of symbols.now) context value.now) }
     ensures table { OnOk result (IsFormCache (table_of symbols.now) known.new) }
 {
-    run_search(alloc, symbols, known, context, value)
+    run_search(symbols, known, context, value)
 }
 
 /// Returns the normal form of the definition at an index.
 pub fn defined_norm(
-    alloc: Global,
     symbols: &Symbols,
     known: &mut FormCache,
     index: usize,
@@ -122,7 +119,7 @@ pub fn defined_norm(
         None => Err(AsmFault::NoSuchLabel),
         Some(definition) => match &definition.value {
             None => Ok(address(definition.context)),
-            Some(value) => norm(alloc, symbols, known, definition.context, value),
+            Some(value) => norm(symbols, known, definition.context, value),
         },
     }
 }

@@ -11,13 +11,13 @@ use super::symbols::{Definition, InternedKey, Key, SearchEntry, Symbols};
 use base65::Seed;
 use indexmap::IndexMap;
 use semantics65::GLOBAL_SCOPE;
-use std::alloc::{AllocError, Global};
+use std::alloc::AllocError;
 
 /// The number of the global scope.
 const GLOBAL: usize = GLOBAL_SCOPE as usize;
 
 /// Interns the name of a key, if it has one, and returns the interned key.
-fn entry(alloc: Global, symbols: &mut Symbols, key: Key<'_>) -> Result<InternedKey, AllocError>
+fn entry(symbols: &mut Symbols, key: Key<'_>) -> Result<InternedKey, AllocError>
     ensures table { table_of symbols.new ≡ table_of symbols.old }
     ensures definitions { symbols.new.definitions ≡ symbols.old.definitions }
     ensures entry { IfOk result (λ e.
@@ -26,11 +26,11 @@ fn entry(alloc: Global, symbols: &mut Symbols, key: Key<'_>) -> Result<InternedK
 {
     match key {
         Key::Named { scope, name } => {
-            let name_id = symbols.intern_name(alloc, name)?;
+            let name_id = symbols.intern_name(name)?;
             Ok(InternedKey::Named { scope, name_id })
         }
         Key::Cheap { region, name } => {
-            let name_id = symbols.intern_name(alloc, name)?;
+            let name_id = symbols.intern_name(name)?;
             Ok(InternedKey::Cheap { region, name_id })
         }
         Key::Unnamed(count) => Ok(InternedKey::Unnamed(count)),
@@ -102,12 +102,7 @@ fn keeps_bindings(symbols: &Symbols, key: Key<'_>) -> bool
 
 /// Adds a definition. Its key must not have one. Keeps the entries of searches if all operands keep
 /// their meanings.
-pub fn define(
-    alloc: Global,
-    symbols: &mut Symbols,
-    key: Key<'_>,
-    definition: Definition,
-) -> Result<(), AllocError>
+pub fn define(symbols: &mut Symbols, key: Key<'_>, definition: Definition) -> Result<(), AllocError>
     requires new { definition_index (table_of symbols.old) (key_of key) ≡ None }
     requires form { StoresFinalForm (table_of symbols.old)
         (length (table_of symbols.old).definitions)
@@ -116,7 +111,7 @@ pub fn define(
         (definition_view (key_of key.entry) definition)) }
 {
     let keeps = keeps_bindings(symbols, key);
-    let entry = entry(alloc, symbols, key)?;
+    let entry = entry(symbols, key)?;
     clear_unless(&mut symbols.searched, keeps);
     symbols.has_unresolved |= definition.value.is_some() && definition.form.is_none();
     mark_inner(&mut symbols.inner, entry)?;

@@ -67,6 +67,8 @@ pub type FormCache = IndexMap<usize, SearchEntry>;
 /// A symbol table.
 #[derive(Drop)]
 pub struct Symbols {
+    /// The allocator of all its parts.
+    pub alloc: Global,
     /// The interned names. A lookup doesn't copy the name.
     pub interned_names: IndexSet<InternedName, Seed>,
     /// The definitions, in source order.
@@ -122,6 +124,7 @@ impl Symbols {
         ensures { table_of result ≡ symbols_of [] }
     {
         Symbols {
+            alloc,
             interned_names: IndexSet::with_hasher(alloc, seed),
             definitions: IndexMap::with_hasher(alloc, seed),
             scopes: IndexMap::with_hasher(alloc, seed),

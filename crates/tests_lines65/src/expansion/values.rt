@@ -6,7 +6,7 @@ ghost use Rattle.tests_lines65.specs.Constants.{value_of};
 
 use base65::{apply1, apply2};
 use expand65::Knows;
-use std::alloc::{AllocError, Global};
+use std::alloc::AllocError;
 use syntax65::{Expr, ExprKind, Name};
 
 /// The value of an expression without names.
@@ -39,7 +39,7 @@ impl Knows for Constants {
 
     ghost meaning = { λ k. meaning_of k.all };
 
-    fn value(&self, _alloc: Global, expr: &Expr) -> Result<Option<i64>, AllocError> {
+    fn value(&self, expr: &Expr) -> Result<Option<i64>, AllocError> {
         Ok(value_of(expr))
     }
 

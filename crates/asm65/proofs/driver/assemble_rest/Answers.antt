@@ -14,7 +14,7 @@ use Rattle.sources65.specs.Machine.{StepsTo}
 use Rattle.sources65.specs.Reading.{AssemblesTokens}
 use Rattle.sources65.proofs.AssembledStatements.{some_tokens}
 use Rattle.asm65.specs.Assembly.{AnswersWithoutFile}
-use Rattle.asm65.proofs.Runs.{Answer, RestBy, never_stops, rest_leaves, rest_stops, rest_unread, rest_wrong, some_there, sound_leaves, takes_from, some_all}
+use Rattle.asm65.proofs.Runs.{Answer, RestBy, never_stops, rest_leaves, rest_stops, rest_unread, rest_wrong, some_there, sound_leaves, some_all}
 use Rattle.asm65.proofs.driver.assemble_rest.Goals as goal
 
 pub returns-in_err-read_incbin-clause-read : goal.returns-in_err-read_incbin-clause-read
@@ -25,10 +25,10 @@ returns-in_err-read_incbin-clause-read g c =
     let location = location_in c.args.at.file.now c.args.at.line in
     let ts = lexemes c.args.tokens.now in
     let some : ts ≡ [] → ⊥ = some_tokens c.args.tokens.now (some_there (length c.args.tokens.now) c.if-is_empty.ensures) in
-    let P : Answer → Type 0 = RefinesAllTransitions (AreSymbolNames ts) (RestBy (g.S.Store.files c.args.store.now) location ts) 1 c.args.assembler.now c.read_incbin.new.assembler in
+    let P : Answer → Type 0 = RefinesAllTransitions (AreSymbolNames ts) (RestBy (g.S.Store.files c.args.store.now) location ts) 1 c.args.assembler.now c.args.assembler.now in
     record {
-      taken = subst P (sym (p.1 ∙ ap Err p.2)) (rest_unread (g.S.Store.files c.args.store.now) (g.S.Store.last_failure c.read_incbin.new.store) location c.in_ok-statement.statement c.args.assembler.now c.read_incbin.new.assembler e c.in_err-read_incbin.ensures.refused c.in_err-read_incbin.ensures.texts ts some c.in_ok-statement.ensures.value);
-      stopped = rest_stops (g.S.Store.files c.args.store.now) (g.S.Store.last_failure c.read_incbin.new.store) location c.in_ok-statement.statement c.args.assembler.now c.read_incbin.new.assembler e c.in_err-read_incbin.ensures.refused c.in_err-read_incbin.ensures.texts ts r some c.in_ok-statement.ensures.value c.in_err-read_incbin.ensures.failed (p.1 ∙ ap Err p.2);
+      taken = subst P (sym (p.1 ∙ ap Err p.2)) (rest_unread (g.S.Store.files c.args.store.now) (g.S.Store.last_failure c.read_incbin.new.store) location c.in_ok-statement.statement c.args.assembler.now e c.in_err-read_incbin.ensures.refused ts some c.in_ok-statement.ensures.value);
+      stopped = rest_stops (g.S.Store.files c.args.store.now) (g.S.Store.last_failure c.read_incbin.new.store) location c.in_ok-statement.statement c.args.assembler.now e c.in_err-read_incbin.ensures.refused ts r some c.in_ok-statement.ensures.value c.in_err-read_incbin.ensures.failed (p.1 ∙ ap Err p.2);
     }
 
 pub returns-in_err-operand-clause-read : goal.returns-in_err-operand-clause-read
@@ -60,11 +60,6 @@ returns-in-Some-clause-read g c = record {
   stopped = first_of (search rules, grind (arith, common_steps));
 }
 
-pub assemble_well_formed-requires : goal.assemble_well_formed-requires
-assemble_well_formed-requires g c =
-    let (count, t, room, h) = c.requires in
-    (count, t, room, c.in_ok-read_incbin.ensures.represented count t h)
-
 pub returns-clause-read : goal.returns-clause-read
 returns-clause-read g c = record {
   taken = (let some : lexemes c.args.tokens.now ≡ [] → ⊥ = some_tokens c.args.tokens.now (some_there (length c.args.tokens.now) c.if-is_empty.ensures) in
@@ -72,8 +67,7 @@ returns-clause-read g c = record {
       let ts = lexemes c.args.tokens.now in
       let x = c.in_ok-statement.statement in
       let y = c.read_incbin.new.statement in
-      takes_from (AreSymbolNames ts) (RestBy (g.S.Store.files c.args.store.now) location ts) 1 c.args.assembler.now c.read_incbin.new.assembler c.assemble_well_formed.new.assembler c.assemble_well_formed.result c.in_ok-read_incbin.ensures.represented
-      (rest_leaves (g.S.Store.files c.args.store.now) location ts x y c.read_incbin.new.assembler c.assemble_well_formed.new.assembler c.assemble_well_formed.result some c.in_ok-statement.ensures.value c.in_ok-read_incbin.ensures.bytes c.assemble_well_formed.ensures.transitions));
+      rest_leaves (g.S.Store.files c.args.store.now) location ts x y c.args.assembler.now c.assemble_well_formed.new.assembler c.assemble_well_formed.result some c.in_ok-statement.ensures.value c.in_ok-read_incbin.ensures.bytes c.assemble_well_formed.ensures.transitions);
   stopped = (let location = location_in c.args.at.file.now c.args.at.line in
       never_stops (AnswersWithoutFile (g.S.Store.files c.args.store.now) (g.S.Store.last_failure c.read_incbin.new.store) (λ m t. AssemblesTokens m StepsTo t location (lexemes c.args.tokens.now))) 1 c.args.assembler.now c.assemble_well_formed.new.assembler c.assemble_well_formed.result c.assemble_well_formed.ensures.no_failure);
 }
@@ -86,9 +80,6 @@ returns-in-Some-clause-frame g c = grind (arith, common_steps)
 
 pub returns-clause-frame : goal.returns-clause-frame
 returns-clause-frame g c = grind (arith, common_steps)
-
-pub read_incbin-requires : goal.read_incbin-requires
-read_incbin-requires g c = grind (arith, common_steps)
 
 pub returns-then-is_empty-clause-read : goal.returns-then-is_empty-clause-read
 returns-then-is_empty-clause-read g c = grind (arith, common_steps)

@@ -76,10 +76,7 @@ pub struct Entries {
 pub fn sum_of(left: u32, right: u32) -> Result<u32, AllocError>
     ensures { IfOk result (λ n. n ≡ left + right) }
 {
-    match left.checked_add(right) {
-        Some(count) => Ok(count),
-        None => Err(AllocError),
-    }
+    left.checked_add(right).ok_or(AllocError)
 }
 
 impl Entries {

@@ -63,18 +63,18 @@ fn finish_section(
 {
     let SectionDraft { segment, entries } = draft;
     let fragments = fragments_of(alloc, numbers, entries)?;
-    match segments.get(segment as usize) {
-        Some(segment) => Ok(Section {
-            name: ListVec::copy_of(alloc, segment.name.as_slice())?,
-            align: power_of(segment.align),
-            fragments,
-        }),
-        None => Ok(Section {
-            name: ListVec::new(alloc),
-            align: 0,
-            fragments,
-        }),
-    }
+    let (name, align) = match segments.get(segment as usize) {
+        Some(segment) => (
+            ListVec::copy_of(alloc, segment.name.as_slice())?,
+            power_of(segment.align),
+        ),
+        None => (ListVec::new(alloc), 0),
+    };
+    Ok(Section {
+        name,
+        align,
+        fragments,
+    })
 }
 
 /// Builds the sections of a module.

@@ -1,6 +1,6 @@
 //! The cursor: the scope, region and segment of the next statement.
 
-ghost use Rattle.std.specs.Prelude.{◌≡◌, ◌+◌, ◌<◌, ◌≤◌, length, OnOk, IfOk, None, ◌++◌, ◌∷◌, [], if◌then◌else◌};
+ghost use Rattle.std.specs.Prelude.{◌≡◌, ◌+◌, ◌<◌, ◌≤◌, length, OnOk, IfOk, None, [], if◌then◌else◌};
 ghost use Rattle.object65.specs.Objects.{section_limit};
 ghost use Rattle.semantics65.specs.Symbols.{is_unnamed, opens_region, Symbols as Table};
 ghost use Rattle.semantics65.specs.Layout.{current_after, first_size, with_grown_segment, has_pushed_segments, pushed_segments_after, named_segments, new_segment, opens_scope, existing_or_new_index, segment_index, scope_after, segment_at, segments_after, context_of, start};

@@ -30,10 +30,7 @@ pub struct Numbers {
 pub fn narrow(index: usize) -> Result<u32, AllocError>
     ensures { IfOk result (λ n. n ≡ index) }
 {
-    match u32::try_from(index) {
-        Ok(number) => Ok(number),
-        Err(_) => Err(AllocError),
-    }
+    u32::try_from(index).or(Err(AllocError))
 }
 
 /// Returns the number of a key, or 0 if it has none.

@@ -30,10 +30,8 @@ fn add_file(order: &mut FileOrder, pos: SourcePos) -> Result<(), AllocError>
         (pos.file ∷ [])) }
     ensures last { OnOk result (HasLast order.new) }
 {
-    if let Some(last) = order.last {
-        if last == pos.file {
-            return Ok(());
-        }
+    if order.last == Some(pos.file) {
+        return Ok(());
     }
     order.files.insert(pos.file)?;
     order.last = Some(pos.file);

@@ -8,7 +8,7 @@ use Rattle.symbols65.specs.Views.{table_of, with_definition, with_names, with_sc
 use Rattle.symbols65.specs.Measuring.{HaveBoundedParents}
 use Rattle.asm65.specs.declared.assembler.Assembler.{Assembler}
 use Rattle.asm65.specs.Internal.AssemblerState.{Represents, has_content, AreNumberedBelow, EmitsPieces, environment_in, ChangesOnlySections, ChangesOnlySymbols, DefersMentions, EmitsThenDefines, with_fixups, is_for_zero_page, label_definition, statement_with_layout}
-use Rattle.std.specs.Prelude.{Some, OnOk, Result, Ok, Err, true, false, Option}
+use Rattle.std.specs.Prelude.{Some, OnOk, Result, true, false, Option}
 use Rattle.std.proofs.lemmas.List.{take_all}
 use Rattle.ast65.proofs.Lists.{map_length, on_ok}
 use Rattle.syntax65.specs.declared.source_location.SourceLocation.{SourceLocation}

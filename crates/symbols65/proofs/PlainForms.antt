@@ -1,7 +1,7 @@
 -- Forms that are numbers or addresses.
 use Rattle.std.proofs.Common.{ℕ, suc, ◌≡◌, ◌∙◌, ◌⊎◌, inl, inr, Option, Some, None, refl, sym, ap, arith, Bool, true, false, Result, Ok, Err}
 use Rattle.std.specs.Prelude.{nat_le, if◌then◌else◌}
-use Rattle.syntax65.specs.Trees.{Tree, number, here, name, cheap, forward, backward, unary, binary}
+use Rattle.syntax65.specs.Trees.{Tree, number, here, unary, binary}
 use Rattle.semantics65.specs.declared.contexts.Context.{Context}
 use Rattle.semantics65.specs.Symbols.{Binding, binding_of, Symbols}
 use Rattle.semantics65.specs.Norms.{form_of_binding, literal_in, fold_result, norm}

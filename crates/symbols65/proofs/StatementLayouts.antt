@@ -1,7 +1,7 @@
 -- Checks in order, and the layout of lists, instructions, `.res` and `.align`.
 use Rattle.std.proofs.Common.{arith, ◌≡◌, ℕ, zero, suc, ◌+◌, ◌*◌, ◌<◌, ◌≤◌, nat_lt, drop, get_or, add-one, Bool, true, false, List, [], ◌∷◌, length, map, Option, Some, None, refl, sym, subst, ap, ◌∙◌}
 use Rattle.std.proofs.lemmas.Grind.{common_steps}
-use Rattle.std.specs.Prelude.{IfOk, OnOk, is_some, Result, Ok, Err, ◌&&◌, sum_by, ℤ, pos, negsuc, not, ◌-◌, MatchOption, SomeIff}
+use Rattle.std.specs.Prelude.{IfOk, is_some, Result, Ok, Err, ◌&&◌, sum_by, ℤ, pos, negsuc, not, ◌-◌, MatchOption, SomeIff}
 use Rattle.base65.specs.Outcome.{Unless, ◌>>=◌, Refines}
 use Rattle.std.proofs.lemmas.List.{drop_all}
 use Rattle.std.proofs.lemmas.List.Sums.{sum_by-cons}

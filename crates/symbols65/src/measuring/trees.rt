@@ -1,6 +1,6 @@
 //! The expressions of statements, each of which is evaluated once.
 
-ghost use Rattle.std.specs.Prelude.{◌≡◌, IfOk, Option, Some, [], ◌∷◌, ◌++◌};
+ghost use Rattle.std.specs.Prelude.{◌≡◌, IfOk, Option, Some, [], ◌++◌};
 ghost use Rattle.std.specs.Option.{option_map};
 ghost use Rattle.base65.specs.Outcome.{Refines};
 ghost use Rattle.ast65.specs.Faults.{is_out_of_memory};

@@ -1,6 +1,6 @@
 //! Searches for the form of an expression. The form of each constant is found once.
 
-ghost use Rattle.std.specs.Prelude.{◌≡◌, OnOk, if◌then◌else◌, is_some, nat_eq};
+ghost use Rattle.std.specs.Prelude.{◌≡◌, OnOk, is_some, nat_eq};
 ghost use Rattle.base65.specs.Outcome.{Refines, RefinesProp};
 ghost use Rattle.indexmap.specs.IndexMap.{get};
 ghost use Rattle.ast65.specs.Faults.{is_out_of_memory};

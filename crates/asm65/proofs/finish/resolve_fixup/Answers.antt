@@ -15,8 +15,8 @@ use Rattle.asm65.proofs.NoStoreFailures.{resolved_inside}
 use Rattle.asm65.proofs.SlotResolution.{found_inside, no_more, stands_there, unless}
 use Rattle.asm65.proofs.finish.resolve_fixup.Goals as goal
 
-pub returns-in-Ok-apply_resolved-clause-resolved : goal.returns-in-Ok-apply_resolved-clause-resolved
-returns-in-Ok-apply_resolved-clause-resolved c =
+pub returns-in_ok-apply_resolved-in-Ok-clause-resolved : goal.returns-in_ok-apply_resolved-in-Ok-clause-resolved
+returns-in_ok-apply_resolved-in-Ok-clause-resolved c =
     let files : List (List ℕ) = map (string_bytes {Z = Global}) c.args.tables.files.now in
     let w : Fixup = fixup_of files c.args.fixup in
     let fixup_location : FixupLocation = record { files = c.args.tables.files; pos = c.args.fixup.pos } in
@@ -24,10 +24,10 @@ returns-in-Ok-apply_resolved-clause-resolved c =
     record {
       made = result_of_piece fixup_location c.in-Ok.made;
       found = ap (with_location w.place) c.in-Ok.ensures.piece;
-      entry = c.in-Ok-apply_resolved.ensures.entry;
-      standing = stands_there (length files) c.args.fixup.pos c.in-Ok-apply_resolved.entry h c.in-Ok-apply_resolved.ensures.located;
+      entry = c.in_ok-apply_resolved-in-Ok.ensures.entry;
+      standing = stands_there (length files) c.args.fixup.pos c.in_ok-apply_resolved-in-Ok.field-0 h c.in_ok-apply_resolved-in-Ok.ensures.located;
       names = c.in-Ok.ensures.more;
-      err = c.in-Ok-apply_resolved.ensures.err;
+      err = c.in_ok-apply_resolved-in-Ok.ensures.err;
     }
 
 pub returns-in-Err-clause-resolved : goal.returns-in-Err-clause-resolved

@@ -16,8 +16,8 @@ use Rattle.asm65.specs.declared.texts.Diagnostic.{Diagnostic}
 
 -- ---- A statement whose file can't be read.
 
--- The answer if the file of the last failed call weren't there. That call read the file at most at its end, if the store
--- tells its files.
+-- The answer if the file of the last failed call weren't there. That call read at an offset not past the file's end, if
+-- the store tells its files.
 pub record AnswersWithoutFile {S : Type 0} (o : Option Files) (last_failure : LastFailure) (IsAnswer : Files → S → Result S AsmFault → Type 0)
     (t : S) (r : Result S AsmFault) : Type 0 where
   pub name : List ℕ
@@ -30,7 +30,7 @@ pub record AnswersWithoutFile {S : Type 0} (o : Option Files) (last_failure : La
 abbrev pub define_of : code.Define → Define
 define_of d = (d.name.now, d.value)
 
--- without where its texts lie
+-- the job that the arguments of `assemble` state
 abbrev pub job_of : AsmJob → Job
 job_of job = record {
   source = job.source.now;
@@ -38,7 +38,7 @@ job_of job = record {
   defines = map define_of job.defines.now;
 }
 
--- no file where memory ran out or the source couldn't be opened
+-- an error with its location; the file is empty if the diagnostic has none
 abbrev pub located_fault : Diagnostic → LocatedFault
 located_fault e = record {
   place = record { file = unwrap_or e.file []; line = e.line };
@@ -55,7 +55,7 @@ is_diagnostic_system_error e = is_system_error e.fault
 abbrev pub is_store_failure : Diagnostic → Bool
 is_store_failure e = is_failure e.fault
 
--- an answer, with what was said
+-- a result, with the printed texts
 abbrev pub assembly_outcome : Assembly → Result Object Diagnostic → Outcome
 assembly_outcome a r = record { result = located_result r; out = a.out; err = a.err }
 

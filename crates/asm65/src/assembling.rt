@@ -55,9 +55,9 @@ pub struct AsmJob<'a> {
 pub struct Assembly {
     /// The object, or the first error.
     pub result: Result<Object, Diagnostic>,
-    /// The text for standard output, up to an error.
+    /// The text for standard output, up to an error; empty if memory ran out.
     pub out: ListVec<u8>,
-    /// The text for standard error, up to an error.
+    /// The text for standard error, up to an error; empty if memory ran out.
     pub err: ListVec<u8>,
 }
 
@@ -97,8 +97,8 @@ pub fn define_all(assembler: &mut Assembler, job: &AsmJob<'_>) -> Result<(), Asm
     Ok(())
 }
 
-/// Returns a system error before the first line, without output.
-fn fail_before_lines(alloc: Global, fault: AsmFault) -> Assembly
+/// Ends an assembly with this error, without a location and without output.
+fn fail_without_location(alloc: Global, fault: AsmFault) -> Assembly
     ensures fault { IfErr result.result (λ e. e.fault ≡ fault) }
     ensures placed { IfErr result.result (λ e. (located_fault e).place ≡ no_location) }
     ensures none { IfOk result.result (λ _. ⊥) }
@@ -115,7 +115,8 @@ fn fail_before_lines(alloc: Global, fault: AsmFault) -> Assembly
     }
 }
 
-/// Ends an assembly with an error at a location, after the output so far.
+/// Ends an assembly with an error at a location, after the output so far. A system error has no
+/// location, and nothing is printed.
 fn fail_at_location(assembler: Assembler, at: LocationRef<'_>, fault: AsmFault) -> Assembly
     ensures refused { is_system_error fault ≡ false → (t : State) → HasSameOutput t assembler →
         RefinesOutcome (outcome_of_state t (Some (record {
@@ -131,13 +132,13 @@ fn fail_at_location(assembler: Assembler, at: LocationRef<'_>, fault: AsmFault) 
         (result.err ≡ []) }
 {
     if is_system_error(&fault) {
-        return fail_before_lines(assembler.symbols.alloc, fault);
+        return fail_without_location(assembler.symbols.alloc, fault);
     }
     fail_at_line(assembler, at, fault)
 }
 
 /// Ends an assembly with an error after some statements, at the location that was reached, after
-/// their output.
+/// their output. If memory ran out, there is no location, and nothing is printed.
 fn fail_with_output(expander: Expander, assembler: Assembler, fault: AsmFault) -> Assembly
     ensures refused { is_system_error fault ≡ false → (t : State) →
         HasSameOutput t assembler → RefinesOutcome
@@ -278,7 +279,7 @@ pub fn assemble<S: Store>(alloc: Global, store: &mut S, job: &AsmJob<'_>) -> Ass
     ensures good { IfOk result.result (λ o. is_well_formed_object o ≡ true) }
     ensures numbers { IfOk result.result ObjectFits }
     // If the store fails, the texts of the statements before are printed. The error's location follows from the call that
-    // failed last, if the store tells it.
+    // failed last, if the store tells its files.
     ensures stopped { IfSome (S.files store.old) (λ m.
         ReportsStoreFailure m (S.last_failure store.new) (job_of job.now) result) }
     // If memory runs out, nothing is printed.
@@ -287,6 +288,6 @@ pub fn assemble<S: Store>(alloc: Global, store: &mut S, job: &AsmJob<'_>) -> Ass
 {
     match Assembler::new(alloc, store.seed()) {
         Ok(assembler) => assemble_with(store, job, assembler),
-        Err(_) => fail_before_lines(alloc, AsmFault::OutOfMemory),
+        Err(_) => fail_without_location(alloc, AsmFault::OutOfMemory),
     }
 }

@@ -5,7 +5,7 @@ pub mod values;
 
 use semantics65::{Context, LocationRef};
 
-/// The context of a piece of a statement.
+/// The location and the context of a piece of a statement.
 #[derive(Clone, Copy)]
 pub struct PieceContext<'a> {
     pub at: LocationRef<'a>,

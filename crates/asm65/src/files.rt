@@ -40,7 +40,7 @@ fn bytes_beside<S: Store>(
     ensures failed { IfErr result (λ e. is_failure e ≡ true → e ≡ FileError) }
     ensures last_failure { IfErr result (λ e. is_failure e ≡ true →
         FailedOn (S.last_failure store.new) (sibling_path file.now name.now)) }
-    ensures no_failure { IfErr result (λ e. is_failure e ≡ true → IfSome (S.files store.old)
+    ensures within { IfErr result (λ e. is_failure e ≡ true → IfSome (S.files store.old)
         (λ m. let path = sibling_path file.now name.now in
         FailedWithin (S.last_failure store.new) path 0 (length (bytes_in (map.get m path))))) }
     ensures frame { AsmStoreFrame S.files S.failures store.old store.new result }
@@ -70,10 +70,10 @@ fn check_range(assembler: &Assembler, range: IncbinRange<'_>) -> Result<(), AsmF
     check_unread(before, range)
 }
 
-/// Reads the bytes of an `.incbin` into its statement. The file is read only if the statement has no error that is
-/// independent of the file.
+/// Reads the bytes of an `.incbin` into its statement: of a file over the size limit, one byte more than the limit. The
+/// file is read only if the statement has no error that is independent of the file.
 #[inline(never)]
-fn with_bytes<S: Store>(
+fn with_read_bytes<S: Store>(
     store: &mut S,
     assembler: &Assembler,
     at: LocationRef<'_>,
@@ -102,7 +102,8 @@ fn with_bytes<S: Store>(
     }
 }
 
-/// Reads the bytes of a statement if it is an `.incbin`. Other statements aren't moved.
+/// Reads the bytes of a statement if it is an `.incbin`. Other statements aren't moved. After an error the statement is
+/// unspecified.
 #[inline(always)]
 pub fn read_incbin<S: Store>(
     store: &mut S,
@@ -123,6 +124,6 @@ pub fn read_incbin<S: Store>(
         return Ok(());
     };
     let named = replace(statement, Statement::Nothing);
-    *statement = with_bytes(store, assembler, at, named)?;
+    *statement = with_read_bytes(store, assembler, at, named)?;
     Ok(())
 }

@@ -308,7 +308,7 @@ impl Assembler {
                 let mention = NameUse::Exported { must: true };
                 self.defer_names(site, mention, names.as_slice())
             }
-            // A part of a file has its file's bytes before it is taken, and other statements enter nothing.
+            // `IncbinPath` has become `Incbin` before, and the other statements define and mention no name.
             _ => Ok(()),
         }
     }

@@ -72,7 +72,7 @@ fn empty_piece() -> ResolvedPiece
 }
 
 /// Returns the result of a piece that has one entry.
-fn one(entry: SectionEntry) -> ResolvedPiece
+fn single_entry(entry: SectionEntry) -> ResolvedPiece
     ensures piece { (fixup_location : FixupLocation) →
         result_of_piece fixup_location result ≡
         without_warning (entry_content fixup_location entry) }
@@ -99,7 +99,7 @@ fn declaration_piece(
         pos: fixup_location.pos,
         said: declaration,
     };
-    Ok(one(SectionEntry::DeclarationEntry(Box::new(alloc, located)?)))
+    Ok(single_entry(SectionEntry::DeclarationEntry(Box::new(alloc, located)?)))
 }
 
 /// Returns one declaration, or an error if an object can't hold the name of its file.
@@ -137,13 +137,13 @@ fn resolve_datum(
                 return Err(AsmFault::OutOfRange);
             }
             let bytes = ListVec::from_vec(Vec::from_slice(alloc, &put(width, value))?);
-            Ok(one(SectionEntry::Bytes { segment, bytes }))
+            Ok(single_entry(SectionEntry::Bytes { segment, bytes }))
         }
         None => {
             if !is_file_name(fixup_location.file()) {
                 return Err(AsmFault::FileNameTooLong);
             }
-            Ok(one(SectionEntry::Value {
+            Ok(single_entry(SectionEntry::Value {
                 width,
                 segment,
                 pos: fixup_location.pos,
@@ -282,7 +282,7 @@ pub fn resolve(
             let form = norm(symbols, known, context, &value)?;
             resolve_assertion(alloc, action, fixup_location, text, form)
         }
-        // The module may not define what it imports.
+        // The module must not define what it imports.
         FixupKind::Import(name) => match defined(symbols, name.as_slice()) {
             Some(_) => Err(AsmFault::ImportedAndDefined(name)),
             None => Ok(empty_piece()),

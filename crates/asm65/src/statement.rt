@@ -29,12 +29,12 @@ use base65::ListVec;
 use emit65::FixupKind;
 use object65::{Norm, is_name};
 use semantics65::{Context, EncodingChoice, LocationRef};
-use std::alloc::{AllocError, Global};
+use std::alloc::AllocError;
 use symbols65::{
     Analysis, LineState, StatementLayout, lay_out_instruction, lay_out_statement, needs_section,
     search_operand, search_statement,
 };
-use syntax65::{Mnemonic, Mode, opcode};
+use syntax65::{Mnemonic, opcode};
 
 /// An assertion's text has fewer bytes than this.
 const LEN_LIMIT: usize = 256;
@@ -244,7 +244,7 @@ impl Assembler {
         }
     }
 
-    /// Assembles a statement. If it has an error, the output stays unchanged.
+    /// Assembles a statement. If it has an error, nothing more is printed; after a system error the output is unspecified.
     pub fn assemble_statement(
         &mut self,
         at: LocationRef<'_>,

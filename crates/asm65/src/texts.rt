@@ -34,8 +34,8 @@ pub fn is_system_error(fault: &AsmFault) -> bool
 /// The error for which a source has no object, with its location. The line is 0 if none was read.
 #[derive(Drop)]
 pub struct Diagnostic {
-    /// The file of the line, or the source if no line was read; none if memory ran out, or if the store failed when the
-    /// source was opened.
+    /// The file of the line, or the source if no line was read; none if the store failed when the source was opened. If
+    /// memory ran out, the file and the line mean nothing.
     pub file: Option<PathString>,
     pub line: u32,
     pub fault: AsmFault,
@@ -54,7 +54,7 @@ impl From<AllocError> for Diagnostic {
 }
 
 impl Diagnostic {
-    /// Creates the diagnostic of an error at a line.
+    /// Creates the diagnostic of an error at a line. If memory runs out for the name of the file, that is the error instead.
     pub fn of_fault(alloc: Global, at: LocationRef<'_>, fault: AsmFault) -> Self
         ensures placed { is_diagnostic_system_error result ≡ false → located_fault result ≡
             record { place = location_of_ref at.entry; fault = fault } }

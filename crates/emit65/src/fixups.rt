@@ -26,7 +26,7 @@ pub enum FixupKind {
         text: ListVec<u8>,
         value: Expr,
     },
-    /// A name that the module may not define.
+    /// A name that the module must not define.
     Import(ListVec<u8>),
     /// A name that is imported even if nothing uses it.
     ForcedImport(ListVec<u8>),

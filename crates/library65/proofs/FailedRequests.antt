@@ -286,4 +286,3 @@ module _ (known now : Option Files) (last_failure : LastFailure) (file : List �
 
   pub list_failed : RequestsOffset known last_failure file (IsOffsetInPart member_entries_at) → RequestsOffset known last_failure file IsIndexOffset
   list_failed asks = asks_on known known last_failure file (IsOffsetInPart member_entries_at) IsIndexOffset refl (λ m bytes k is there within. list_of_index bytes k within) asks
-

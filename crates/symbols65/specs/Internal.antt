@@ -1,3 +1,3 @@
--- The memory layout of a type, below the model that contracts see.
+-- Definitions for contracts within the crate only.
 pub mod BindingFaults
 pub mod Cursors

@@ -42,8 +42,7 @@ IsReference e = ⊤
 
 -- ---- Final forms, within a number of nested expressions.
 
--- an expression has this form whatever statements follow, and needs at most as many nested expressions as there are
--- definitions, and itself
+-- whatever statements follow, an expression has this form, and at most n levels of constants are expanded for it
 abbrev pub IsFinalWithin : ℕ → Symbols → Context → Tree → Form → Type 0
 IsFinalWithin n y s e f = (z : Symbols) → Extends y z → norm (suc n) z s e ≡ Ok f
 

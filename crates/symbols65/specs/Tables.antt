@@ -62,7 +62,7 @@ AreCounted ks = (i : ℕ) (k : InternedKey) → slice_get ks i ≡ Some k → Is
 abbrev pub HasNumber : ℕ → ScopeKey → Type 0
 HasNumber i k = (within number : ℕ) → k ≡ opening.Nameless within number → number ≡ i
 
--- it is recorded with the name of this key if a scope other than the global one defines it
+-- if this is the key of a name in a scope other than the global one, that name is marked
 abbrev pub IsInnerKnown : List Bool → InternedKey → Type 0
 IsInnerKnown inner k = (scope w : ℕ) → k ≡ entry.Named (suc scope) w → slice_get inner w ≡ Some true
 

@@ -54,7 +54,7 @@ pub struct StatementLayout {
 #[derive(Drop)]
 pub struct Analysis {
     pub measured: StatementLayout,
-    /// The final form of the expression of an instruction, a constant or an assertion, if that is evident already.
+    /// The final form of the first expression of a statement other than a list, if that is evident already.
     pub form: Option<Norm>,
     /// The final forms of the elements of a list, each at the index of its element; empty if all elements are
     /// numbers.
@@ -108,7 +108,8 @@ fn layout_without_bytes(cursor: &Cursor) -> StatementLayout
     }
 }
 
-/// Computes the length and the definitions of a statement, or its first error at its line.
+/// Computes the layout of a statement, and the final forms that are evident already; or returns its first error at its
+/// line.
 pub fn lay_out_statement(before: LineState<'_>, statement: &Statement) -> Result<Analysis, AsmFault>
     ensures measured { Refines is_out_of_memory (λ a. a.measured) result (layout_result
         (table_of before.entry.symbols.now) before.entry.cursor.now

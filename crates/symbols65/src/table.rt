@@ -194,7 +194,7 @@ impl Symbols {
         Some(definition)
     }
 
-    /// Returns whether the definition at an index is that of a name directly in a scope.
+    /// Returns true only if the definition at an index is that of a name directly in a scope.
     pub fn is_in(&self, index: usize, scope: usize) -> bool
         ensures { result ≡ true → (n : List ℕ) × (key_at self.now index ≡ named scope n) }
     {

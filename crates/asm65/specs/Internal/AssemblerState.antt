@@ -48,7 +48,8 @@ AreNumberedBelow next ds = AllByRecursion (λ d. IsNumberedBelow next d.key) ds
 
 -- ---- An assembler.
 
--- An assembler represents a state, after statements that opened at most this many scopes and regions.
+-- An assembler represents a state, after statements with at most this many openings (of scopes, regions, segments and
+-- unnamed labels).
 pub record Represents (count : ℕ) (t : State) (a : Assembler) : Type 0 where
   pub symbols : table_of a.symbols ≡ t.symbols
   pub cursor : a.cursor ≡ t.cursor
@@ -71,7 +72,7 @@ EmitsPieces location s ps old new =
 
 -- ---- What names and expressions mean at a context.
 
--- by the definitions before it
+-- the environment of a context, by this symbol table
 abbrev pub environment_in : Symbols → Context → EnvironmentView
 environment_in y s = record {
   value = constant_in y s;
@@ -105,9 +106,9 @@ abbrev pub operand_part : Width → Context → SourceLocation → Form → Resu
 operand_part width s location f = operand_form width s f >>= value_part width location
 
 -- numbers that are in range, and their bytes
-pub record AreEncodedNumbers (width : Width) (ns value_part : List ℕ) : Type 0 where
+pub record AreEncodedNumbers (width : Width) (ns encoded : List ℕ) : Type 0 where
   pub fit : list_all (λ (n : ℕ). fits_width width (pos n)) ns ≡ true
-  pub bytes : value_part ≡ flat_map (λ (n : ℕ). value_bytes width (pos n)) ns
+  pub bytes : encoded ≡ flat_map (λ (n : ℕ). value_bytes width (pos n)) ns
 
 -- ---- Pieces.
 
@@ -129,7 +130,7 @@ IsNextForm (f ∷ fs) o rest = (o ≡ f) × (rest ≡ fs)
 
 -- ---- What a statement adds to what an assembler holds.
 
--- a statement with what it lies by
+-- a statement with its location, context and layout
 abbrev pub statement_with_layout : SourceLocation → Context → StatementLayout → Statement → LaidOutStatement
 statement_with_layout location s m x = record {
   stated = x;
@@ -155,7 +156,7 @@ pub record IsNew (y : Symbols) (s : Context) (x : Statement) : Type 0 where
   pub opened : opened_twice y.scopes s.scope (scope_name x) ≡ None
   pub defined : (k : Key) → key_defined s x ≡ Some k → definition_index y k ≡ None
 
--- the same, but for names
+-- only the symbol table changes
 pub record ChangesOnlySymbols (old new : Assembler) : Type 0 where
   pub cursor : new.cursor ≡ old.cursor
   pub sections : new.sections ≡ old.sections

@@ -44,7 +44,7 @@ use Rattle.asm65.specs.declared.resolving.ResolvedPiece as code
 
 -- ---- The frame of a call that assembles statements.
 
--- of a store: its files as before, and its count of failures, by the answer
+-- the store's files are unchanged, and its count of failures rises as the result says
 pub record AsmStoreFrame {X T : Type 0} (files_of : X → Option Files) (failures_of : X → ℕ) (old new : X) (result : Result T AsmFault) : Type 0 where
   pub files : files_of new ≡ files_of old
   pub count : PropagatesIoErrors is_failure (failures_of old) (failures_of new) result
@@ -57,7 +57,7 @@ RepresentsWithin most t a = (count : ℕ) × (count ≤ most) × Represents coun
 abbrev pub HasHeadroom : ℕ → Assembler → Type 0
 HasHeadroom more a = (count : ℕ) × (t : State) × (count + more ≤ opening_limit) × Represents count t a
 
--- nothing else was said than what a state says
+-- the assembler has printed what the state has printed
 abbrev pub HasSameOutput : State → Assembler → Type 0
 HasSameOutput t a = (a.texts.out ≡ t.out) × (a.texts.err ≡ t.err)
 
@@ -80,13 +80,13 @@ RefinesTransition IsValid IsAnswer most t new (Ok x) =
 RefinesTransition IsValid IsAnswer most t new (Err e) =
     Unless (is_system_error e) ((IsValid → IsAnswer (Err e)) × HasSameOutput t new)
 
--- where a store tells its files
+-- the answer for the files of the store, if it tells them
 abbrev pub ForKnownFiles :
     Option Files → (Files → State → Result State AsmFault → Type 0) → State →
     Result State AsmFault → Type 0
 ForKnownFiles o IsAnswer t r = IfSome o (λ m. IsAnswer m t r)
 
--- the same for each represented state in which this much more may be opened
+-- the call refines a transition from each represented state in which this much more may be opened
 abbrev pub RefinesAllTransitions :
     Type 0 → (State → Result State AsmFault → Type 0) → ℕ → Assembler → Assembler →
     Result (Unit {0}) AsmFault → Type 0
@@ -110,7 +110,8 @@ abbrev pub KeepsOutputAtFailure :
 KeepsOutputAtFailure IsAnswer more old new r =
     IfErr r (λ e. is_failure e ≡ true → FailsWithoutOutput IsAnswer more old new e)
 
--- so it takes what it reads of a store, where that tells its files, or stops where the store failed
+-- A call that may read a file: if the store tells its files, it refines the transitions; if the store failed, it stops
+-- without output.
 pub record RefinesRead (o : Option Files) (last_failure : LastFailure) (IsValid : Type 0)
     (IsAnswer : Files → State → Result State AsmFault → Type 0) (more : ℕ) (old new : Assembler)
     (r : Result (Unit {0}) AsmFault) : Type 0 where
@@ -119,7 +120,7 @@ pub record RefinesRead (o : Option Files) (last_failure : LastFailure) (IsValid 
 
 -- ---- A source.
 
--- what an expander gives is so much at most, and each of its statements opens two at most
+-- twice the greatest measure of a new expander (3145729): each of its statements opens two at most
 abbrev pub running_limit : ℕ
 running_limit = 6291458
 
@@ -129,11 +130,11 @@ pub record RunRepresents (t : State) (run : Run) : Type 0 where
   pub room : count + 2 * measure_of run.expander ≤ running_limit
   pub holds : Represents count t run.assembler
 
--- some state is held so, to which statements led
+-- a run represents a state that statements lead to
 abbrev pub IsRunning : Run → Type 0
 IsRunning run = (t : State) × IsReached t × RunRepresents t run
 
--- a state is held, however much was opened before
+-- an assembler represents a state, after any number of openings
 abbrev pub RepresentsSome : State → Assembler → Type 0
 RepresentsSome t a = (count : ℕ) × Represents count t a
 
@@ -175,7 +176,7 @@ pub record AssemblesLine (o : Option Files) (last_failure : LastFailure) (old ne
   pub less : measure_of new.expander < measure_of old.expander
   pub placed : (m : Files) → IsPositioned m old.expander → IsPositioned m new.expander
 
--- they are, or nothing is done
+-- the statements of the next line are assembled, or (for `Ok false`) nothing changes
 abbrev pub AssemblesOptionalLine : Option Files → LastFailure → Run → Run → Result Bool AsmFault → Type 0
 AssemblesOptionalLine o last_failure old new (Ok true) = AssemblesLine o last_failure old new (Ok tt)
 AssemblesOptionalLine o last_failure old new (Ok false) = new ≡ old
@@ -189,8 +190,8 @@ read_bytes m location (IncbinPath name start len) =
     Incbin (option_map (take 16777217) (bytes_for m location name)) start len
 read_bytes m location x = x
 
--- A statement is refused before its file is read for what is wrong with it whatever the files have; where the store
--- fails nothing is, so without its file the answer would be that it isn't there.
+-- An error from reading a statement's file. Unless it is a system error, the statement has it whatever its file holds. If
+-- the store failed, the statement has no such error: without its file, its error would be that the file isn't there.
 pub record IsRejectedUnread (o : Option Files) (last_failure : LastFailure) (t : State) (location : SourceLocation) (x : Statement) (e : AsmFault) : Type 0 where
   pub inside : Unless (is_system_error e) ((m : Files) → StepsTo t location (with_bytes m location x) (Err e))
   pub failed : is_failure e ≡ true → AnswersWithoutFile o last_failure (λ m t. StepsTo t location (with_bytes m location x)) t (Err FileNotFound)
@@ -215,7 +216,7 @@ result_of_piece t m = record {
   warning = unwrap_or (option_map (warning_at (location_of_fixup t)) m.warning) [];
 }
 
--- the location of an entry, if it has one and isn't pending
+-- an entry isn't pending, and its location, if it has one, is this
 abbrev pub HasLocation : SourcePos → SectionEntry → Type 0
 HasLocation pos (entry.Value width g o f) = o ≡ pos
 HasLocation pos (entry.DeclarationEntry t) = t.value.pos ≡ pos

@@ -20,7 +20,7 @@ use base65::ListVec;
 use emit65::{FixupKind, Sections};
 use object65::format::FILE_NAME_LIMIT;
 use object65::{Norm, Width, fits, put};
-use semantics65::{Context, EncodingChoice, LocationRef};
+use semantics65::{EncodingChoice, LocationRef};
 use std::alloc::{AllocError, Global};
 use symbols65::constants::literal_of;
 use symbols65::operand_form;

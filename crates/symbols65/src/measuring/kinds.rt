@@ -17,7 +17,6 @@ use crate::table::{Key, Symbols};
 use ast65::{AsmFault, Statement};
 use base65::ListVec;
 use semantics65::Context;
-use std::alloc::Global;
 use syntax65::{Expr, ExprKind};
 
 /// Rejects an import or export of names if a scope other than the global one is open.

@@ -21,7 +21,7 @@ use crate::cursor::Cursor;
 use crate::measuring::{StatementLayout, fit, layout_without_bytes};
 use crate::table::Symbols;
 use ast65::AsmFault;
-use semantics65::{EncodingChoice, Segment};
+use semantics65::EncodingChoice;
 use syntax65::AddressSize;
 
 /// Returns whether the scope at an index was opened by `.scope`.

@@ -13,7 +13,7 @@ use crate::constants::{Evaluation, evaluate, final_form};
 use crate::measuring::LineState;
 use crate::resolving::search_constants;
 use crate::table::Symbols;
-use ast65::{AsmFault, Item, Items, ItemsKind, Operand, Statement};
+use ast65::{AsmFault, Item, ItemsKind, Operand, Statement};
 use object65::Norm;
 use semantics65::Context;
 use std::alloc::AllocError;

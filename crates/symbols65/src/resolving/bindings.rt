@@ -9,7 +9,7 @@ ghost use Rattle.ast65.specs.Faults.{is_out_of_memory};
 ghost use Rattle.semantics65.specs.Norms.{fold_result};
 ghost use Rattle.std.specs.Prelude.{◌≡◌, ◌+◌, ◌-◌, IfOk, None, Result, Some};
 ghost use Rattle.syntax65.specs.Trees.{name as name_tree};
-ghost use Rattle.semantics65.specs.Symbols.{binding_of, scoped_binding, backward_binding, last_of, member_binding, binding_or_fault, plain_binding, scope_path, unnamed_binding, import_index};
+ghost use Rattle.semantics65.specs.Symbols.{binding_of, scoped_binding, last_of, member_binding, binding_or_fault, plain_binding, scope_path, unnamed_binding, import_index};
 ghost use Rattle.symbols65.specs.Internal.BindingFaults.{binding_fault, name_fault};
 ghost use Rattle.symbols65.specs.Resolving.{defined_index, binding_in, plain_part};
 ghost use Rattle.symbols65.specs.Views.{table_of};
@@ -182,16 +182,6 @@ fn label_after(symbols: &Symbols, before: u32, steps: usize) -> Option<Binding>
     Some(Binding::Defined(index))
 }
 
-/// Returns an unnamed label before a use, given the number of labels before the use.
-fn label_before(symbols: &Symbols, before: u32, steps: usize) -> Option<Binding>
-    ensures { backward_binding (table_of symbols.now) before steps ≡
-        ok_or (option_map binding_in result) NoSuchLabel }
-{
-    let count = (before as usize).checked_sub(steps)?;
-    let index = symbols.defined(Key::Unnamed(count))?;
-    Some(Binding::Defined(index))
-}
-
 /// Returns the meaning of an operand in its context, if it has one.
 pub fn binding_at(symbols: &Symbols, context: Context, operand: &Expr) -> Option<Binding>
     ensures { binding_of (table_of symbols.now) context operand.now ≡
@@ -211,7 +201,11 @@ pub fn binding_at(symbols: &Symbols, context: Context, operand: &Expr) -> Option
             Some(Binding::Defined(index))
         }
         ExprKind::Forward(steps) => label_after(symbols, context.unnamed, *steps),
-        ExprKind::Backward(steps) => label_before(symbols, context.unnamed, *steps),
+        ExprKind::Backward(steps) => {
+            let count = (context.unnamed as usize).checked_sub(*steps)?;
+            let index = symbols.defined(Key::Unnamed(count))?;
+            Some(Binding::Defined(index))
+        }
         _ => None,
     }
 }

@@ -15,7 +15,6 @@ ghost use Rattle.symbols65.specs.Views.{table_of};
 use super::attempt::address;
 use super::bindings::{Binding, binding_at, plain_part};
 use crate::table::Symbols;
-use base65::{Op1, Op2};
 use object65::{FormFault, Norm};
 use semantics65::Context;
 use std::alloc::AllocError;
@@ -33,9 +32,9 @@ pub fn folded_form_if_any(form: Result<Norm, FormFault>) -> Result<Option<Norm>,
     }
 }
 
-/// Returns whether an operand means this definition whatever statements follow. It does if the scope
-/// of the use defines a plain name, if the scope of a name with `::` was opened before, and for
-/// cheap labels and unnamed labels before the use.
+/// Returns true only if an operand means this definition whatever statements follow: if the scope of
+/// the use defines a plain name, if the scope of a name with `::` was opened before, and for cheap
+/// labels and unnamed labels before the use.
 fn is_final(symbols: &Symbols, context: Context, operand: &Expr, index: usize) -> bool
     ensures { result ≡ true →
         binding_of (table_of symbols.now) context operand.now ≡ Ok (defined_at index) →

@@ -83,8 +83,8 @@ fn clear_unless(searched: &mut IndexMap<usize, SearchEntry>, keeps: bool)
     }
 }
 
-/// Returns whether each operand keeps its meaning if an undefined key is defined. Each does unless the name of the key
-/// is defined in another scope or imported. Returns false if there are no entries of searches.
+/// Returns true only if each operand keeps its meaning if an undefined key is defined: for the key of a cheap or unnamed
+/// label, and for a name that is neither interned nor imported. Returns false if there are no entries of searches.
 fn keeps_bindings(symbols: &Symbols, key: Key<'_>) -> bool
     ensures { result ≡ true → (d : TableDefinition) → d.key ≡ key_of key.entry →
         KeepsBindings (table_of symbols.now) (with_definition (table_of symbols.now) d) }

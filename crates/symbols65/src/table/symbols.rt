@@ -67,7 +67,7 @@ pub type FormCache = IndexMap<usize, SearchEntry>;
 /// A symbol table.
 #[derive(Drop)]
 pub struct Symbols {
-    /// The allocator of all its parts.
+    /// The allocator of this table. Functions that are given the table use it for all that they allocate.
     pub alloc: Global,
     /// The interned names. A lookup doesn't copy the name.
     pub interned_names: IndexSet<InternedName, Seed>,

@@ -11,5 +11,5 @@ returns-in-Err-clause-stopped g c =
     let o = g.S.Store.files c.args.store.now in
     let last_failure = g.S.Store.last_failure c.args.store.now in
     let job = job_of c.args.job.now in
-    let a = c.fail_before_lines.result in
-    all_laid o last_failure job a (stops_never_so o last_failure job a (as_memory a.result c.fail_before_lines.ensures.fault))
+    let a = c.fail_without_location.result in
+    all_laid o last_failure job a (stops_never_so o last_failure job a (as_memory a.result c.fail_without_location.ensures.fault))

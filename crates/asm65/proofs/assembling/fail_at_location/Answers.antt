@@ -4,13 +4,13 @@ use Rattle.asm65.proofs.ErrorResults.{failed_as, first_as, inside_as, outside_as
 use Rattle.asm65.proofs.assembling.fail_at_location.Goals as goal
 
 pub returns-then-is_system_error-clause-outside : goal.returns-then-is_system_error-clause-outside
-returns-then-is_system_error-clause-outside c = outside_as c.args.fault c.fail_before_lines.result.result c.fail_before_lines.ensures.none c.fail_before_lines.ensures.fault
+returns-then-is_system_error-clause-outside c = outside_as c.args.fault c.fail_without_location.result.result c.fail_without_location.ensures.none c.fail_without_location.ensures.fault
 
 pub returns-then-is_system_error-clause-failed : goal.returns-then-is_system_error-clause-failed
-returns-then-is_system_error-clause-failed c = failed_as c.args.fault c.fail_before_lines.result.result c.fail_before_lines.ensures.fault
+returns-then-is_system_error-clause-failed c = failed_as c.args.fault c.fail_without_location.result.result c.fail_without_location.ensures.fault
 
 pub returns-then-is_system_error-clause-first : goal.returns-then-is_system_error-clause-first
-returns-then-is_system_error-clause-first c = λ failed. first_as c.args.fault c.fail_before_lines.result.result c.fail_before_lines.ensures.fault c.fail_before_lines.ensures.placed
+returns-then-is_system_error-clause-first c = λ failed. first_as c.args.fault c.fail_without_location.result.result c.fail_without_location.ensures.fault c.fail_without_location.ensures.placed
 
 pub returns-clause-failed : goal.returns-clause-failed
 returns-clause-failed c =

@@ -24,7 +24,7 @@ returns-in-Err-FileNotFound-clause-read g c =
     some_then (λ m. Unless (is_store_system_error f) (file_prefix (fmap.get m c.as_str.result.now) 16777217 ≡ Err f)) _ (g.S.Store.files c.args.store.now)
     (λ m h. read_none m (sibling_path c.args.file.now c.args.name.now) c.as_str.result.now 16777217 (ap Some c.as_str.ensures ∙ sym c.in-Some.is ∙ c.in_ok-name.ensures) (subst (λ (e : StoreFault). Unless (is_store_system_error e) (file_prefix (fmap.get m c.as_str.result.now) 16777217 ≡ Err e)) c.in-Err-FileNotFound.field-0-is h)) c.in-Err-FileNotFound.ensures.read
 
-pub returns-clause-no_failure : goal.returns-clause-no_failure
-returns-clause-no_failure g c = λ failed.
+pub returns-clause-within : goal.returns-clause-within
+returns-clause-within g c = λ failed.
     read_failed (g.S.Store.files c.args.store.now) (g.S.Store.last_failure c.read_prefix.new.store) (sibling_path c.args.file.now c.args.name.now) c.as_str.result.now (ap Some c.as_str.ensures ∙ sym c.in-Some.is ∙ c.in_ok-name.ensures)
     (c.in-Err.ensures.failure_offset (search rules))

@@ -22,8 +22,8 @@ use Rattle.symbols65.specs.declared.measuring.trees.Evaluations.{Evaluations}
 
 -- ---- An expression.
 
--- The evaluation of an expression by a symbol table, in a segment of size `own`: its address size; its number or
--- address, if it has one; and, if `is_final`, a form, if given, stays whatever statements follow.
+-- The evaluation of an expression by a symbol table, in a segment of size `own`: its address size, and its number or
+-- address, if it has one. If `is_final`, a stored form is the expression's form whatever statements follow.
 pub record IsEvaluation (y : Symbols) (s : Context) (own : AddressSize) (e : Tree) (v : Evaluation) : Type 0 where
   pub form : option_and_then plain_form v.form ≡ plain_result (norm_of y s e)
   pub stays : v.is_final ≡ true → (f : Form) → v.form ≡ Some f → IsFinalWithin (length y.definitions) y s e f

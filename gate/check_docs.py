@@ -1,5 +1,4 @@
-"""Checks the pages for those who verify or maintain bin65: calls, clauses, modules of definitions, names, files and counts that they cite
-exist, claims are short, and so are paragraphs, also those of pages for users.
+"""Checks the pages for those who verify or maintain bin65: calls, clauses, modules of definitions, names and files that they cite exist.
 
 A row of PROVED has a claim, its calls, their clauses, and the modules of specs/ that define the clauses' terms, under a heading with the
 crate's name. A clause without a name is cited by a text that it contains, in parentheses; 'law' cites all clauses of a law; 'same' repeats
@@ -9,15 +8,10 @@ import glob
 import os
 import re
 
-CLAIM_WORDS = 25
-PARAGRAPH = 600
-# Pages whose citations are checked, and others of which only the paragraphs are.
-PAGES = ("PROVED", "ARCHITECTURE", "DECISIONS", "THEOREM", "one-program")
-OTHERS = ("README", "CONTRIBUTING", "CHANGELOG", *(f"docs/{it}" for it in ("LANGUAGE", "TUTORIAL", "DEBUGGING", "RELEASE", "SCRIPTS", "EDITORS", "MESSAGES", "FORMATS")))
+import reader
 
-CLAUSE = re.compile(r"\b(?:requires|ensures)\s*(\w*)\s*\{")
-FUNCTION = re.compile(r"^( *)(?:pub (?:\([^)]*\) )?)?(?:const )?fn (\w+)")
-OWNER = re.compile(r"^(?:pub )?(?:impl|trait)\b(?:<.*?>(?= ))?.*?(\w+)(?:<[^{]*)?(?:: [\w +]+)? (?:where.*)?\{$")
+PAGES = ("PROVED", "ARCHITECTURE", "DECISIONS", "THEOREM", "one-program")
+
 DEFINED = re.compile(r"^\s*(?:abbrev |unfoldable )?pub (?:record |data )?([^\s:({]+)", re.M)
 USED = re.compile(r"Rattle\.(\w+)\.specs\.([\w.]+?)(?:\.\{| as )")
 MODULE = re.compile(r"(?:(\w+65) )?`((?:Internal/)?[A-Z]\w*)`")
@@ -42,57 +36,21 @@ def without_code(text):
 # ---- Crates.
 
 
-def clauses(signature):
-    """Yields the clauses of a signature as (name, text). The name may be empty."""
-    for match in CLAUSE.finditer(signature):
-        depth, end = 1, match.end()
-        while depth:
-            depth += (signature[end] == "{") - (signature[end] == "}")
-            end += 1
-        yield match[1], signature[match.end() : end - 1]
+@functools.lru_cache(maxsize=None)
+def public_names(root, name):
+    """Returns the names that a library makes public."""
+    face = f"{root}/crates/{name}/src/lib.rt"
+    return set(re.findall(r"\w+", " ".join(re.findall(r"^pub (?:use|mod) [^;]*;", read(face), re.M)))) if os.path.exists(face) else set()
 
 
-def signature_at(lines, at, indent):
-    """Returns the lines of the signature that begins here, up to its body."""
-    depth = 0
-    for end in range(at, len(lines)):
-        line = lines[end]
-        # (a record in a clause has fields that end in a semicolon)
-        depth += line.count("{") - line.count("}")
-        if line.startswith(indent + "{") or (line.endswith(";") and depth == 0) or (end == at and line.endswith("{")):
-            return "\n".join(lines[at : end + 1])
-    return ""
-
-
-def functions(folder):
-    """Yields the functions of a crate as (file, type or trait, name, signature)."""
-    for file in glob.glob(f"{folder}/src/**/*.rt", recursive=True):
-        owner, lines = "", read(file).split("\n")
-        for at, line in enumerate(lines):
-            if match := OWNER.match(line):
-                owner = match[1]
-            elif line == "}":
-                owner = ""
-            if match := FUNCTION.match(line):
-                yield file, owner, match[2], signature_at(lines, at, match[1])
-
-
-class Crate:
-    def __init__(self, root, name):
-        folder = f"{root}/crates/{name}"
-        self.functions = list(functions(folder))
-        face = read(f"{folder}/src/lib.rt") if os.path.exists(f"{folder}/src/lib.rt") else ""
-        self.public = set(re.findall(r"\w+", " ".join(re.findall(r"^pub (?:use|mod) [^;]*;", face, re.M))))
-
-    def calls(self, name):
-        """Returns the functions that a cited call refers to, as (file, signature). Laws are cited without their module."""
-        front, _, last = name.rpartition("::")
-        found = [(file, owner, signature) for file, owner, it, signature in self.functions if it == last]
-        laws = [it for it in found if not front and it[0].endswith("/laws.rt")]
-        if not laws and (front or last) not in self.public:
-            return []
-        return [(file, signature) for file, owner, signature in laws or found
-                if owner == front or (not owner and re.search(rf"/{front}[/.]", file))]
+def calls(root, crate, name):
+    """Returns the functions to which a cited call refers. Laws are cited without their module."""
+    front, _, last = name.rpartition("::")
+    found = [it for it in reader.functions(f"{root}/crates/{crate}") if it.name == last]
+    laws = [it for it in found if not front and it.file.endswith("/laws.rt")]
+    if not laws and (front or last) not in public_names(root, crate):
+        return []
+    return [it for it in laws or found if it.owner == front or (not it.owner and re.search(rf"/{front}[/.]", it.file))]
 
 
 # ---- Modules of definitions.
@@ -137,23 +95,21 @@ def rows(text):
 def stated(found, named):
     """Yields the clauses that a row cites, as (clause, call, text), for the calls that exist."""
     for call, where in found.items():
-        for file, signature in where:
-            if "law" in TICKED.sub("", named) and file.endswith("/laws.rt"):
-                yield "law", call, signature
+        for function in where:
+            if "law" in TICKED.sub("", named) and function.file.endswith("/laws.rt"):
+                yield "law", call, function.signature
     for is_text, name in re.findall(r"(\()?`([^`]+)`", named):
         word = re.compile(rf"(?<!\w){re.escape(name)}(?!\w)")
         for call, where in found.items():
-            for label, text in (it for _, signature in where for it in clauses(signature)):
+            for label, text in (it for function in where for it in function.clauses):
                 if not label and word.search(text) if is_text else label == name:
                     yield name, call, text
 
 
-def why_row(root, crates, crate, cells):
+def why_row(root, crate, cells):
     """Returns why a row is wrong, or None."""
-    claim, calls, named, modules = cells
-    if (words := len(claim.split())) > CLAIM_WORDS:
-        return f"a claim of {words} words"
-    found = {it: crates[crate].calls(it) for it in TICKED.findall(calls)}
+    _, cited, named, modules = cells
+    found = {it: calls(root, crate, it) for it in TICKED.findall(cited)}
     if lost := [it for it, where in found.items() if not where] or (["none is named"] if not found else []):
         return f"no such public call: {lost[0]}"
     there = list(stated(found, named))
@@ -161,7 +117,7 @@ def why_row(root, crates, crate, cells):
         return f"no call of the row has the clause {lost[0]}"
     if idle := [it for it in found if it not in {call for _, call, _ in there}]:
         return f"no clause of the row is one of {idle[0]}"
-    text, files = " ".join(it for _, _, it in there), {file for where in found.values() for file, _ in where}
+    text, files = " ".join(it for _, _, it in there), {it.file for where in found.values() for it in where}
     for other, module in MODULE.findall(modules):
         if not is_near(root, other or crate, module, text, files):
             return f"{other or crate} {module} doesn't exist, or defines no term of these clauses"
@@ -171,16 +127,11 @@ def why_row(root, crates, crate, cells):
 # ---- Pages.
 
 
-def paragraphs(text):
-    """Splits a page without code into paragraphs; a table's row and a list's item are one each."""
-    return re.split(r"\n(?:\s*\n|(?=\s*(?:\||- |\d+\. |#)))", text)
-
-
 def why_public(root, text):
     """Yields the types and calls in the table of crates that aren't public."""
     for cells in (line.split(" | ") for line in ROW.findall(text)):
         if len(cells) == 4 and re.fullmatch(r"\w+65", cells[0]):
-            public = Crate(root, cells[0]).public
+            public = public_names(root, cells[0])
             yield from (f"{cells[0]} has no public {it}" for it in TICKED.findall(cells[2]) if it not in public)
 
 
@@ -216,24 +167,14 @@ def why_named(words, text):
             yield f"no such name: {lost[0]}"
 
 
-def why_long(text):
-    """Yields the paragraphs of a page that are too long."""
-    yield from (f"a paragraph of {len(it)} characters: {it[:60]}" for it in paragraphs(text) if len(it) > PARAGRAPH)
-
-
 def why_page(root, page):
     """Returns why a page is wrong, or None."""
     text = without_code(read(f"{root}/docs/{page}.md"))
-    return "; ".join([*why_long(text), *why_named(words_of_code(root), text), *why_cited(root, text), *why_public(root, text)]) or None
+    return "; ".join([*why_named(words_of_code(root), text), *why_cited(root, text), *why_public(root, text)]) or None
 
 
 def looked_at(root):
     """Yields each row of PROVED and each page, with the reason why it is wrong, or None."""
-    found = list(rows(without_code(read(f"{root}/docs/PROVED.md"))))
-    crates = {it: Crate(root, it) for it in {crate for crate, _ in found}}
-    for crate, cells in found:
-        yield f"PROVED, {crate}: {cells[0]}", why_row(root, crates, crate, cells)
-    for page in PAGES:
-        yield page, why_page(root, page)
-    for page in OTHERS:
-        yield f"paragraphs of {page}", "; ".join(why_long(without_code(read(f"{root}/{page}.md")))) or None
+    for crate, cells in rows(without_code(read(f"{root}/docs/PROVED.md"))):
+        yield f"PROVED, {crate}: {cells[0]}", why_row(root, crate, cells)
+    yield from ((page, why_page(root, page)) for page in PAGES)

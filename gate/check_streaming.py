@@ -7,16 +7,10 @@ LINKER = ("link65",)
 # A one-pass assembler keeps the deferred parts of a statement, but no list of statements.
 ASSEMBLER = ("asm65", "symbols65", "emit65")
 TOKEN = re.compile(r"'\w+\b(?!')|\w+|::|->|=>|\S")
-GHOST_USE = re.compile(r"\bghost use\b[^;]*;")
 TYPES = ("struct", "enum", "union", "type")
 CLOSED_BY = {"{": "}", "(": ")", "[": "]"}
 # Types that contain a single value of a named type: a reference, an option or a result of it, a path, a call, a block.
 ONE = {"Option", "Result"}
-
-
-def tokens_of(code):
-    """Returns the tokens of code without comments and strings; imports of definitions are left out."""
-    return TOKEN.findall(GHOST_USE.sub(" ", code))
 
 
 def aliases(tokens, *names):
@@ -87,8 +81,8 @@ def lists_of(tokens, names):
 
 
 def why_kept(crate, code):
-    """Returns what a crate's code keeps that it may not, or None. The code has no comments and strings."""
-    tokens = tokens_of(code)
+    """Returns what a crate's code keeps that it may not, or None. The code has no comments, strings and clauses."""
+    tokens = TOKEN.findall(code)
     if crate in LINKER:
         named = sorted(aliases(tokens, "Builder", "Object", "read_object") & {*tokens})
         held = holders(tokens, aliases(tokens, "Record", "Item")) or lists_of(tokens, aliases(tokens, "Record", "Item"))

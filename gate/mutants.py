@@ -1,147 +1,306 @@
-"""Chooses the mutants of a gate and tries them: each has to be refused by the prover.
+#!/usr/bin/env python3
+"""Tries mutants, edits that plant a bug: the prover must refuse each.
 
-A gate tries three kinds: those of every gate (every_gate.txt), those of functions that this landing changed, and a share of the others.
-A landing is what was committed in the hours before its last commit, since a session is shorter and its gate runs after it. Each mutant
-has a number below PERIOD by its name, and its turn comes with the commit on main whose number leaves that rest: so each is tried once
-in every PERIOD commits, however many commits a landing has."""
+usage: mutants.py [--anew] [CRATE[/EDIT]..]    those of mutants/ and must-fail/, of these crates (default: of all)
+       mutants.py --changed                    at most ten of functions that the last commits changed, for the gate
+
+`rt must-fail` tries the first, in a copy of the repository, over what the proofs of the crates kept; these are built first. It keeps each
+result on this machine by a checksum of all that it depends on, so an interrupted run goes on where it stopped; --anew tries all again.
+The second are tried by the compiler itself over the libraries that `rt ci` has just built in this checkout: of a crate it checks the
+functions that the mutants change and no others, while `rt must-fail` would prove the whole crate, and each library below it, again.
+Each minute a line tells how far it is; the last line is 'N refused, M not'."""
 import os
 import re
+import shutil
 import signal
 import subprocess
+import sys
 import tempfile
+import threading
 import time
 import zlib
+from concurrent.futures import ThreadPoolExecutor
 
-import batches
-import kit
-import try_mutants
+import reader
+from progress import clock, each_minute, say
 
-PERIOD, HOURS = 1000, 4
-# The most mutants of changed functions that a gate tries; those that it leaves have their turn as the others have.
-MOST_CHANGED = 10
-LIST = f"{kit.ROOT}/gate/every_gate.txt"
+ROOT = reader.ROOT
+# How many mutants one call of `rt must-fail` tries: what it found is kept and told when it ends.
+AT_ONCE = 24
+# A landing is what was committed in the hours before its last commit: a session is shorter, and its gate runs after it.
+HOURS, MOST = 4, 10
+# What a check of a mutant takes at most; what has to be free before one begins beside proofs, and how many seconds it waits for that.
+MEMORY, FREE, LONGEST = 3_000_000_000, 6_000_000_000, 600
+# An error for such a reason says nothing of the contract.
+LACKS_A_NAME = re.compile(r"has no field|is not in scope|has no `|was not admitted|is no name|operand is missing|expected the end|cannot continue")
+PLACE = re.compile(r"^(?:note: )?(?:what antt said .*?: )?(?:\./)?((?:src|proofs)/\S+?):(\d+):\d+: (.*)$", re.M)
+
+
+def free():
+    """Returns the free memory of the machine in bytes."""
+    with open("/proc/meminfo", encoding="utf-8") as it:
+        return 1024 * int(re.search(r"MemAvailable:\s+(\d+)", it.read())[1])
+
+
+def wait_for_memory():
+    """Waits until memory is free for another check, but not for ever: others may use it for longer."""
+    end = time.monotonic() + LONGEST
+    while free() < FREE and time.monotonic() < end:
+        time.sleep(5)
+
+
+def edits_of(crate):
+    """Returns a crate's mutants, the paths of files."""
+    folders = [f"{ROOT}/crates/{crate}/{it}" for it in ("must-fail", "mutants")]
+    return [f"{at}/{name}" for at in folders if os.path.isdir(at) for name in sorted(os.listdir(at)) if not name.endswith(".md")]
+
+
+def name_of(edit):
+    """Returns the name of a mutant, CRATE/EDIT."""
+    return f"{edit.split('/')[-3]}/{os.path.basename(edit).removesuffix('.edit')}"
+
+
+def edited(edit, folder):
+    """Returns the files of a crate that an edit changes, as they are and as it makes them; instead of these why it can't be applied."""
+    texts, path, old = {}, None, None
+    with open(edit, encoding="utf-8") as it:
+        lines = it.read().split("\n")
+    for line in lines:
+        if line.startswith("file: "):
+            path = line[len("file: ") :].strip()
+        elif line.startswith("old: "):
+            old = line[len("old: ") :]
+        elif line.startswith("new:"):
+            if not path or old is None or not os.path.isfile(f"{folder}/{path}"):
+                return None, "a 'new:' line has no file or no 'old:' line before it"
+            if path not in texts:
+                with open(f"{folder}/{path}", encoding="utf-8") as it:
+                    texts[path] = [it.read()] * 2
+            was, now = texts[path]
+            if now.count(old) != 1:
+                return None, f"an 'old:' text is in {path} {now.count(old)} times, and not once"
+            texts[path], old = [was, now.replace(old, line[len("new:") :].removeprefix(" "))], None
+    return (texts, None) if any(was != now for was, now in texts.values()) else (None, "it changes nothing")
+
+
+# ---- All mutants, by `rt must-fail`.
+
+
+def copied(room):
+    """Copies the repository's crates, without their mutants and what was built, and what `rt` reads beside them."""
+    shutil.copytree(f"{ROOT}/crates", f"{room}/crates", ignore=shutil.ignore_patterns("out", "mutants", "must-fail"))
+    for it in filter(lambda it: os.path.isfile(f"{ROOT}/{it}"), ("crates.txt", "HANDLES")):
+        shutil.copy(f"{ROOT}/{it}", room)
+    # (it is the top of a repository)
+    os.mkdir(f"{room}/.git")
+
+
+def is_refused(said):
+    """Returns whether `rt must-fail` says of a mutant that a proof refuses it; not a limit of the prover, nor the borrow checker alone."""
+    return said.startswith(("refused, as it must be: ", "refused, as it must be (only because a proof file"))
+
+
+def tried(room, crate, edits, flags):
+    """Tries edits of a crate in a copy of the repository, and returns what `rt must-fail` says of each."""
+    folder = f"{room}/crates/{crate}/must-fail"
+    shutil.rmtree(folder, ignore_errors=True)
+    os.makedirs(folder)
+    for it in edits:
+        shutil.copy(it, folder)
+    # (by its own estimate of memory `rt` would try only two or three of a large crate at a time)
+    lanes = str(max(1, min(len(os.sched_getaffinity(0)), free() // MEMORY)))
+    ran = subprocess.run(["rt", "must-fail", *flags, crate], cwd=room, env={"RT_JOBS": lanes, **os.environ}, stdin=subprocess.DEVNULL,
+                         stdout=subprocess.PIPE, stderr=subprocess.STDOUT, text=True, errors="replace", check=False)
+    said = dict(re.findall(r"^rt: must-fail \w+/(\S+\.edit): (.*)$", ran.stdout, re.M))
+    last = " / ".join(ran.stdout.rstrip().split("\n")[-3:])
+    return {it: said.get(os.path.basename(it), f"it was not tried: {last}") for it in edits}
+
+
+def chosen(words):
+    """Returns the mutants that the arguments name by crate; an argument that names none ends the run."""
+    every = {crate: edits_of(crate) for crate in reader.crates()}
+    names = {name_of(it) for edits in every.values() for it in edits}
+    for it in words:
+        if it not in names and not every.get(it):
+            sys.exit(f"no mutant is called {it}")
+    found = {crate: [it for it in edits if not words or crate in words or name_of(it) in words] for crate, edits in every.items()}
+    return {crate: edits for crate, edits in found.items() if edits}
+
+
+def try_all(words, flags):
+    """Tries the mutants that the arguments name, and returns how many are refused, and why others aren't by their names."""
+    every = chosen(words)
+    count, done, why, now, ended = sum(map(len, every.values())), 0, {}, "", threading.Event()
+    if subprocess.run([sys.executable, f"{ROOT}/gate/prove.py", *every], check=False).returncode:
+        return 0, {crate: "it is not proved as it is, so its mutants were not tried" for crate in every}
+    told = lambda: f"{done} of {count} mutants tried, {len(why)} not refused; now {now}"
+    threading.Thread(target=each_minute, args=(ended, told), daemon=True).start()
+    with tempfile.TemporaryDirectory(prefix="mutants-") as room:
+        copied(room)
+        for crate, edits in every.items():
+            for at in range(0, len(edits), AT_ONCE):
+                part = edits[at : at + AT_ONCE]
+                now = f"{crate} {at + 1} to {at + len(part)} of {len(edits)}"
+                for edit, said in tried(room, crate, part, flags).items():
+                    print(f"{name_of(edit)}: {said[:200]}")
+                    why.update({} if is_refused(said) else {name_of(edit): said})
+                done += len(part)
+                say(f"{now} tried; {done} of {count}, {len(why)} not refused")
+    ended.set()
+    return count - len(why), why
+
+
+# ---- Those of changed functions, by the compiler.
 
 
 def git(*words):
     """Returns what git prints, or nothing if it fails."""
-    ran = subprocess.run(["git", *words], cwd=kit.ROOT, capture_output=True, text=True, errors="replace")
+    ran = subprocess.run(["git", *words], cwd=ROOT, capture_output=True, text=True, errors="replace", check=False)
     return ran.stdout.strip() if ran.returncode == 0 else ""
 
 
-def landing():
-    """Returns the number of the last commit, and how many commits this landing has."""
-    last, date = git("rev-list", "--count", "HEAD"), git("show", "-s", "--format=%ct", "HEAD")
-    if not last or not date:
-        return 0, 0
-    recent = git("rev-list", "--count", f"--since={int(date) - HOURS * 3600}", "HEAD")
-    return int(last), int(recent or 0)
-
-
-def every_gate():
-    """Returns the mutants of every gate, as CRATE/NAME."""
-    with open(LIST, encoding="utf-8") as it:
-        return [line.strip() for line in it if line.strip() and not line.startswith("#")]
-
-
-def number_of(name):
-    return zlib.crc32(name.encode()) % PERIOD
-
-
-def has_turn(name, last, commits):
-    """Returns whether one of a landing's commits, of which this is the last number, has the number of this mutant."""
-    return (last - number_of(name)) % PERIOD < commits
-
-
-def name_of(crate, edit):
-    return f"{crate.name}/{os.path.basename(edit).removesuffix('.edit')}"
-
-
-def changed_lines(commits):
-    """Returns the lines of each source file that the last commits changed, by its path in the repository, counted from 0."""
+def changed_lines():
+    """Returns the lines of each source file that the landing changed, counted from 0, by its path in the repository."""
+    date = git("show", "-s", "--format=%ct", "HEAD")
+    before = date and git("rev-list", "-1", "--first-parent", f"--before={int(date) - HOURS * 3600}", "HEAD")
     found, path = {}, None
-    text = git("diff", "--unified=0", "--no-color", f"HEAD~{commits}", "HEAD", "--", "crates/*/src/*.rt") if commits else ""
+    text = git("diff", "--unified=0", "--no-color", before, "HEAD", "--", "crates/*/src/*.rt") if before else ""
     for line in text.split("\n"):
         if line.startswith("+++ "):
             path = line[6:] if line.startswith("+++ b/") else None
         at = re.match(r"@@ -\S+ \+(\d+)(?:,(\d+))? @@", line)
         if at and path:
-            first, count = int(at[1]) - 1, int(at[2] or 1)
-            found.setdefault(path, set()).update(range(first, first + max(count, 1)))
+            first = int(at[1]) - 1
+            found.setdefault(path, set()).update(range(first, first + max(int(at[2] or 1), 1)))
     return found
 
 
-def changed_functions(crate, lines):
-    """Returns the functions of a crate in which one of these lines is."""
-    found = set()
-    for path, numbers in lines.items():
-        inside = os.path.relpath(f"{kit.ROOT}/{path}", crate.folder)
-        if inside.startswith("..") or not os.path.isfile(f"{crate.folder}/{inside}"):
-            continue
-        text = batches.text_of(crate, inside).split("\n")
-        for it in batches.functions_of(inside, text, batches.homes_of(crate.folder)):
-            if numbers.intersection(range(it.first, it.last + 1)):
-                found.add(it.name)
+def functions_of(edit, folder):
+    """Returns the functions in whose bodies all changes of an edit are, by their paths; nothing if it changes something else, too."""
+    found, texts = {}, edited(edit, folder)[0] or {}
+    for path, (was, now) in texts.items():
+        was, now = was.split("\n"), now.split("\n")
+        inside = [it for it in reader.functions(folder) if it.file == f"{folder}/{path}" and it.body is not None]
+        for number in [at for at, line in enumerate(now) if len(now) == len(was) and line != was[at]] or [-1]:
+            holds = next((it for it in inside if it.body < number < it.last), None)
+            if not holds:
+                return {}
+            found[holds.path] = holds
     return found
 
 
-def chosen(rt, crates):
-    """Returns the mutants of this gate by crate, and how many of each kind there are."""
-    last, commits = landing()
-    named, lines = {*every_gate()}, changed_lines(commits)
-    every, changed, share = [], [], []
-    for crate in crates:
-        functions = changed_functions(crate, lines)
-        for edit in try_mutants.edits_of(crate, [], try_mutants.FOLDERS[:1]):
-            name = name_of(crate, edit)
-            if name in named:
-                every.append((crate, edit))
-            elif functions and not functions.isdisjoint(batches.Try(rt, crate, edit).functions):
-                changed.append((crate, edit))
-            elif has_turn(name, last, commits):
-                share.append((crate, edit))
-    # (others of them with each landing)
-    changed.sort(key=lambda it: (number_of(name_of(*it)) - last) % PERIOD)
-    found = {}
-    for crate, edit in [*every, *changed[:MOST_CHANGED], *share]:
-        found.setdefault(crate, []).append(edit)
-    return found, (len(every), min(len(changed), MOST_CHANGED), len(share))
+def changed(lines):
+    """Returns at most MOST mutants of functions that have one of these lines, each with the functions that it changes; others for another commit."""
+    found, head = [], git("rev-parse", "HEAD")
+    for crate in {path.split("/")[1] for path in lines} & {*reader.crates(ROOT)}:
+        folder = f"{ROOT}/crates/{crate}"
+        names = {it.path for it in reader.functions(folder)
+                 if not lines.get(os.path.relpath(it.file, ROOT), set()).isdisjoint(range(it.first, it.last + 1))}
+        tries = {it: functions_of(it, folder) for it in edits_of(crate)}
+        found += [(edit, functions) for edit, functions in tries.items() if not names.isdisjoint(functions)]
+    return sorted(found, key=lambda it: zlib.crc32(f"{head} {name_of(it[0])}".encode()))[:MOST]
 
 
-def names_of(rt, crate, edits):
-    """Returns the functions that these mutants change and, if one changes something else, such as a constant, the modules that it changes; nothing
-    if that is the root module, since then the whole crate has to be checked."""
-    found = set()
-    for edit in edits:
-        functions = batches.Try(rt, crate, edit).functions
-        texts = {} if functions else rt.read_edit(edit, crate.folder)[0] or {}
-        modules = ["::".join(batches.module_of(it)) for it in texts]
-        if "" in modules:
-            return []
-        found.update(functions or modules)
-    return sorted(found)
+def link(source, to):
+    """Gives a proof that was kept a second name, since a check replaces such a file and never changes it; another file is copied."""
+    try:
+        os.link(source, to) if source.endswith(".oantt") or "/out/rlib/" in source else shutil.copy2(source, to)
+    except OSError:
+        shutil.copy2(source, to)
 
 
-def is_proved(rt, crate, edits, jobs, kept):
-    """Proves what these mutants change as it is, keeps what was found in a folder, and returns whether all is proved."""
-    names = names_of(rt, crate, edits)
-    for lanes in (jobs, 1):
-        ran = rt.checked(crate, {}, ["--jobs", str(lanes), *(word for it in names for word in ("--only", it))], kept)
-        if ran.returncode != -signal.SIGKILL:
-            # (else it was most likely for memory)
-            break
-    counted = re.search(r"^only=(\d+) proved=(\d+)$", ran.stdout, re.M)
-    return ran.returncode == 0 and (not names or bool(counted) and counted[1] == counted[2])
+class Compiler:
+    """Checks functions of crates by the compiler, over the libraries that were built in this checkout."""
+
+    def __init__(self, room):
+        self.room, self.crates, kit = room, reader.crates(), reader.kit()
+        self.front = [f"{kit}/bin/rattle", "check", "--antt-project", f"{kit}/rattle/logic/antt-project.json", "--logic-built", f"{kit}/logic_built"]
+        self.rlibs = f"{kit}/rlibs"
+        for it in self.crates:
+            if os.path.isdir(f"{ROOT}/crates/{it}/out/rlib/{it}.rlib"):
+                shutil.copytree(f"{ROOT}/crates/{it}/out/rlib/{it}.rlib", f"{room}/rlib/{it}.rlib", copy_function=link)
+
+    def check(self, crate, texts, functions, kept):
+        """Checks these functions of a crate, with texts in place of its own, and returns the status and what was printed."""
+        names = [it if it in self.crates else f"of the kit {it}" for it in self.crates[crate]]
+        libraries = [("std", f"{self.rlibs}/std.rlib")]
+        libraries += [(it.rpartition(" ")[2], f"{self.rlibs if ' ' in it else self.room + '/rlib'}/{it.rpartition(' ')[2]}.rlib") for it in names]
+        words = [*self.front, "--crate-name", crate, "src/lib.rt", "--links", f"{crate}=", "--jobs", "1", "--incremental", kept]
+        words += [word for name, at in libraries for word in ("--extern", f"{name}={at}")]
+        words += ["-L", f"dependency={self.rlibs}", "-L", f"dependency={self.room}/rlib", *(word for it in sorted(functions) for word in ("--only", it))]
+        with tempfile.TemporaryDirectory(dir=self.room) as folder:
+            for part in filter(lambda it: os.path.isdir(f"{ROOT}/crates/{crate}/{it}"), ("src", "specs", "proofs")):
+                shutil.copytree(f"{ROOT}/crates/{crate}/{part}", f"{folder}/{part}")
+            for path, text in texts.items():
+                with open(f"{folder}/{path}", "w", encoding="utf-8") as it:
+                    it.write(text)
+            for _ in range(2):
+                wait_for_memory()
+                ran = subprocess.run(words, cwd=folder, stdin=subprocess.DEVNULL, stdout=subprocess.PIPE, stderr=subprocess.STDOUT, text=True, errors="replace", check=False)
+                if ran.returncode != -signal.SIGKILL:
+                    # (else it was most likely for memory)
+                    break
+        return ran.returncode, ran.stdout.rstrip("\n")
 
 
-def not_refused(rt, crate, edits, jobs):
-    """Tries mutants of a crate over proofs of the functions that they change, and returns a reason for each that isn't refused."""
-    begun = time.time()
-    with tempfile.TemporaryDirectory(prefix="mutants-") as kept:
-        if not is_proved(rt, crate, edits, jobs, kept):
-            return [f"{crate.name}: the functions that its mutants change are not proved as they are, so none was tried"]
-        before = try_mutants.listing(kept)
-        refused = try_mutants.refused(rt, crate, edits, kept, jobs)
-        if try_mutants.listing(kept) != before:
-            return [f"{crate.name}: what the proof of the functions that its mutants change kept was changed, so none counts as refused"]
-    kit.say(f"{crate.name}: {len(refused)} of {len(edits)} mutants refused ({kit.minutes(time.time() - begun)})")
-    return [f"{name_of(crate, it)}: NOT REFUSED: the crate is still proved with this mutant" for it in edits if it not in refused]
+def refusal(crate, functions, said):
+    """Returns an error of a changed function that isn't proved, in its lines or in its own proof, among what a check said; None if there is none."""
+    states = dict(re.findall(rf"^fn {crate}::(\S+): (.*)$", said, re.M))
+    for path, function in functions.items():
+        for name in (it for it in states if it == path or it.endswith(f"::{path}")):
+            own, state = f"proofs/{name.replace('::', '/')}/", states[name]
+            if not re.match("not proved|no proof: expected answers", state) or "it calls" in state:
+                continue
+            for file, line, error in PLACE.findall(said):
+                is_inside = function.file.endswith(f"/{crate}/{file}") and function.first < int(line) <= function.last + 1
+                if (is_inside or file.startswith(own)) and not LACKS_A_NAME.search(error):
+                    return f"{file}:{line}: {error}"
+    return None
+
+
+def try_of(compiler, crate, edits, workers):
+    """Tries mutants of a crate, each with the functions that it changes, and returns what was found of each: whether it is refused, and why."""
+    kept, folder = f"{compiler.room}/{crate}", f"{ROOT}/crates/{crate}"
+    functions = {name: it for _, own in edits for name, it in own.items()}
+    status, said = compiler.check(crate, {}, functions, kept)
+    counted = re.fullmatch(r"only=(\d+) proved=(\d+)", said.split("\n")[-1])
+    if status or not counted or counted[1] != counted[2]:
+        return {edit: (False, f"its functions are not proved as they are: {said[-300:]}") for edit, _ in edits}
+
+    def one(found):
+        edit, own = found
+        with tempfile.TemporaryDirectory(dir=compiler.room) as over:
+            shutil.copytree(kept, f"{over}/kept", copy_function=link)
+            texts = {path: now for path, (_, now) in edited(edit, folder)[0].items()}
+            status, said = compiler.check(crate, texts, own, f"{over}/kept")
+        why = refusal(crate, own, said) if status == 1 and re.search(r"^only=\d+ proved=\d+\Z", said, re.M) else None
+        return edit, (bool(why), why or f"NOT REFUSED (status {status}): {' / '.join(said.split(chr(10))[-3:])}")
+
+    return dict(workers.map(one, edits))
+
+
+def try_changed():
+    """Tries mutants of changed functions, and returns how many are refused, and why others aren't by their names."""
+    os.nice(5)
+    tries, begun, why = changed(changed_lines()), time.time(), {}
+    say(f"{len(tries)} mutants of functions that were changed in the {HOURS} hours before the last commit")
+    with tempfile.TemporaryDirectory(prefix="mutants-") as room, ThreadPoolExecutor(2) as workers:
+        compiler = Compiler(room)
+        for crate in dict.fromkeys(name_of(edit).partition("/")[0] for edit, _ in tries):
+            for edit, (refused, text) in try_of(compiler, crate, [it for it in tries if name_of(it[0]).startswith(f"{crate}/")], workers).items():
+                say(f"{name_of(edit)}: {'refused' if refused else 'NOT REFUSED'}: {text[:200]} ({clock(time.time() - begun)})")
+                why.update({} if refused else {name_of(edit): text})
+    return len(tries) - len(why), why
+
+
+def main(words):
+    flags = [it for it in words if it == "--anew"]
+    refused, why = try_changed() if words == ["--changed"] else try_all([it for it in words if it not in flags], flags)
+    for name, text in why.items():
+        print(f"FAILED: {name}: {text[:600]}")
+    print(f"{refused} refused, {len(why)} not")
+    return 1 if why or not refused and words != ["--changed"] else 0
+
+
+if __name__ == "__main__":
+    sys.exit(main(sys.argv[1:]))

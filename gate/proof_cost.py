@@ -7,14 +7,14 @@ import os
 import re
 import sys
 
-import kit
+import reader
 
 DECLARATION = re.compile(rb'"name":"([^"]+)","notes":.*?"steps":\[(\d+),(\d+),\d+\]', re.S)
 
 
 def records(crate):
     """Yields, for each file of the crate's proofs, its name and the record that a check kept."""
-    room = f"{crate.folder}/out/incremental"
+    room = f"{reader.ROOT}/crates/{crate}/out/incremental"
     for folder in sorted(os.listdir(room)) if os.path.isdir(room) else []:
         kept = f"{room}/{folder}/records"
         for name in sorted(os.listdir(kept)) if os.path.isdir(kept) else []:
@@ -30,11 +30,10 @@ def goals(crate):
 
 
 def main(words):
-    crate = next((it for it in kit.crates(kit.load()) if words and it.name == words[0]), None)
-    if not crate:
+    if not words or words[0] not in reader.crates():
         sys.exit(__doc__)
     count = int(words[1]) if len(words) > 1 else 20
-    every = sorted(goals(crate), reverse=True)
+    every = sorted(goals(words[0]), reverse=True)
     files = {}
     for steps, _, file in every:
         files[file] = files.get(file, 0) + steps

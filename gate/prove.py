@@ -3,182 +3,194 @@
 
 usage: prove.py [CRATE..]    these libraries and those they depend on (default: the program, and those it depends on)
 Each minute it prints how far it is, and at the end how long each crate took or, if one failed, the first thing that the prover said. What a
-crate's proof printed is in its out/prove.log. If no file changed since the program was built, it does nothing."""
+crate's proof printed is in its out/prove.log. If no file changed since the program was built, it does nothing.
+
+It builds libraries with the code of `rt` itself: two calls of `rt lib` don't run at the same time, since each locks the crates below its
+own, and `rt all check` gives each crate one process and begins them in the order of crates.txt."""
 import copy
 import hashlib
+import importlib.machinery
+import importlib.util
 import os
 import subprocess
 import sys
 import threading
 import time
+from concurrent.futures import FIRST_COMPLETED, Future, wait
 
-import kit
-import lanes
-import reasons
+import reader
+from progress import each_minute, first_reason, say, table
 
-PROGRAM = f"{kit.ROOT}/crates/bin65/out/bin65"
+ROOT = reader.ROOT
+PROGRAM = f"{ROOT}/crates/bin65/out/bin65"
 SUM = f"{PROGRAM}.sum"
+# A proof with two processes takes about 5 GB at most, a minute or so after it began.
+MEMORY, WARM_UP = 5_000_000_000, 60
+# A crate whose chain of crates is shorter than the longest one has a lower priority: a step of niceness for each twelfth by which it is shorter.
+STEPS, MOST_NICE = 12, 5
+
+
+def load():
+    """Returns the toolchain's command `rt` as a module. What another checkout on this machine proved of the same text is taken over."""
+    sys.dont_write_bytecode = True
+    loader = importlib.machinery.SourceFileLoader("rt", f"{reader.kit()}/bin/rt")
+    rt = importlib.util.module_from_spec(importlib.util.spec_from_loader("rt", loader))
+    sys.modules["rt"] = rt
+    loader.exec_module(rt)
+    rt.rtlib.stop = rt.stop
+    rt.rtlib.guarded()
+    rt.share_work(True)
+    return rt
 
 
 def sum_of(files, begun=b""):
     """Returns a checksum of files, with their names."""
     found = hashlib.sha256(begun)
     for file in filter(os.path.isfile, files):
-        found.update(f"{os.path.relpath(file, kit.ROOT)}\0".encode())
+        found.update(f"{os.path.relpath(file, ROOT)}\0".encode())
         with open(file, "rb") as it:
             found.update(it.read() + b"\0")
     return found.hexdigest()
 
 
-def sum_of_sources(rt):
-    """Returns a checksum of all that the program is made of."""
-    version = subprocess.run(["rt", "version"], capture_output=True, check=True).stdout
-    return sum_of([f"{kit.ROOT}/crates.txt", *(f for it in kit.crates(rt) for f in sorted(rt.rtlib.files_of(it.folder)))], version)
-
-
-def why_refused(rt, crate, said):
-    """Returns what the gate would refuse in what a proof printed, though all is proved; None if there is nothing."""
-    if rt.rtlib.EMPTY.search(said):
-        return "no call can meet the contract of a function"
-    if rt.rtlib.chose_a_term(said, True):
-        return "a tactic chose a term that a contract may read"
-    if rt.rtlib.CATCHES_ALL.search(said):
-        return "a pattern matches every value where a constructor was probably meant"
-    if rt.rtlib.swallows_text(said):
-        return "a macro call may hide text that only looks like code"
-    if any(crate.says_search(*it) for it in rt.rtlib.FILLED_IN.findall(said)):
-        return f"search: {rt.rtlib.NO_TACTIC}"
-    return None
-
-
 def log_of(name):
-    return f"{kit.ROOT}/crates/{name}/out/prove.log"
+    return f"{ROOT}/crates/{name}/out/prove.log"
 
 
-def prove(rt, crate, jobs):
-    """Builds a library, and returns None, or why the gate would refuse it."""
-    os.makedirs(f"{crate.folder}/out", exist_ok=True)
+def lines_of(name):
+    """Returns the lines of a crate's log."""
+    try:
+        with open(log_of(name), errors="replace") as it:
+            return it.read().split("\n")
+    except OSError:
+        return []
+
+
+def prove(crate, jobs):
+    """Builds a library, and returns why it isn't proved, or None."""
     crate = copy.copy(crate)
+    os.makedirs(f"{crate.folder}/out", exist_ok=True)
     with open(log_of(crate.name), "w", errors="replace") as crate.out:
         try:
-            is_proved = not crate.build_rlib(["--jobs", str(jobs), "--empty-contracts"], anew=False)
+            if not crate.build_rlib(["--jobs", str(jobs)], anew=False):
+                return None
         except SystemExit:
-            is_proved = False
-    said = rt.rtlib.text_of(log_of(crate.name)) or ""
-    if not is_proved:
-        return reasons.first_reason(said.split("\n"))
-    why = why_refused(rt, crate, said)
-    if why:
-        os.remove(f"{crate.folder}/out/rlib/stamp")
-    return why
+            pass
+    return first_reason(lines_of(crate.name))
 
 
 def far(name):
     """Returns how many functions of a crate are proved, as its log says last."""
-    said = [line for line in kit.lines_of(log_of(name)) if line.startswith("so far: ")]
+    said = [line for line in lines_of(name) if line.startswith("so far: ")]
     return f" ({said[-1][len('so far: '):].partition(';')[0].replace(' checked', '')})" if said else ""
 
 
 class Proofs:
-    """The proofs of crates, lowest first, and how long each took."""
+    """The proofs of crates, lowest first: those of the longest chains begin first. It keeps how long each took, and why one failed."""
 
     def __init__(self, rt, crates, proved):
         self.rt, self.crates, self.proved, self.processors = rt, crates, proved, rt.processors()
-        self.running, self.took, self.why = [], {}, {}
-        self.begun, self.ended = time.time(), threading.Event()
+        self.running, self.begun, self.took, self.why = {}, {}, {}, {}
+        self.before, self.after = {}, dict.fromkeys(crates, 0)
+        sizes = {it: sum(map(os.path.getsize, reader.sources(it.folder))) * (it not in proved) for it in crates}
+        for it in crates:
+            self.before[it] = max((self.before[low] + sizes[low] for low in it.below()), default=0)
+        for it in reversed(crates):
+            self.after[it] += sizes[it]
+            for low in it.below():
+                self.after[low] = max(self.after[low], self.after[it])
 
-    def prove(self, crate, jobs):
-        """Proves a crate, unless it is proved or another one failed."""
-        if self.why:
-            return
-        if crate not in self.proved and not crate.is_built():
-            begun = time.time()
-            self.running.append(crate)
-            why = prove(self.rt, crate, jobs)
-            self.running.remove(crate)
-            self.took[crate.name] = time.time() - begun
-            if why:
-                self.why[crate.name] = why
-                return
-        self.proved.add(crate)
+    def start(self, crate, jobs):
+        """Proves a crate in a thread of its own, whose priority the processes that it starts have."""
+        longest, done = max(map(sum, zip(self.before.values(), self.after.values())), default=1), Future()
+
+        def run():
+            try:
+                os.nice(min(MOST_NICE, (longest - self.before[crate] - self.after[crate]) * STEPS // max(longest, 1)))
+                done.set_result(prove(crate, jobs))
+            except BaseException as error:  # pylint: disable=broad-except
+                done.set_exception(error)
+
+        self.running[done], self.begun[crate] = crate, time.monotonic()
+        threading.Thread(target=run, daemon=True).start()
+
+    def has_memory(self):
+        """Returns whether another proof has memory, also once those that began lately have taken theirs."""
+        fresh = sum(time.monotonic() - self.begun[it] < WARM_UP for it in self.running.values())
+        return self.rt.free() > MEMORY * (1 + fresh)
 
     def run(self):
-        """Proves the crates, each once those below it are proved, and returns whether all are."""
-        tasks = {}
-        for it in self.crates:
-            sources = [] if it in self.proved else [file for file in self.rt.rtlib.files_of(it.folder) if file.endswith(".rt")]
-            tasks[it] = lanes.Task(tuple(it.below()), sum(map(os.path.getsize, sources)), lambda given, jobs, it=it: self.prove(it, jobs))
-        lanes.run(tasks, self.processors, self.rt.free)
+        """Proves the crates, each once those below it are proved, until one fails, and returns whether all are."""
+        left = sorted((it for it in self.crates if it not in self.proved), key=lambda it: -self.after[it])
+        while left and not self.why or self.running:
+            ready = [it for it in left if self.proved.issuperset(it.below())] if not self.why else []
+            jobs = min(self.processors, 4 if len(ready) == 1 and not self.running else 2)
+            for it in ready:
+                if not self.running or len(self.running) < self.processors and self.has_memory():
+                    left.remove(it)
+                    self.start(it, jobs)
+            for done in wait([*self.running], timeout=20, return_when=FIRST_COMPLETED).done:
+                crate = self.running.pop(done)
+                self.took[crate.name] = time.monotonic() - self.begun[crate]
+                if done.result():
+                    self.why[crate.name] = done.result()
+                else:
+                    self.proved.add(crate)
         return not self.why
 
-    def tell(self):
-        while not self.ended.wait(60):
-            now = ", ".join(f"{it.name}{far(it.name)}" for it in [*self.running])
-            kit.say(f"{kit.minutes(time.time() - self.begun)}: {len(self.proved)} of {len(self.crates)} crates proved; now {now or 'the program'}")
+    def progress(self):
+        now = ", ".join(f"{it.name}{far(it.name)}" for it in [*self.running.values()])
+        return f"{len(self.proved)} of {len(self.crates)} crates proved; now {now or 'the program'}"
+
+    def build(self):
+        """Builds the program, and returns whether it is there."""
+        begun, folder = time.monotonic(), f"{ROOT}/crates/bin65"
+        os.makedirs(f"{folder}/out", exist_ok=True)
+        # (with no arguments the program prints 'bad arguments', which is no failure of the build)
+        with open(log_of("bin65"), "w") as log:
+            subprocess.run(["rt", "run"], cwd=folder, stdin=subprocess.DEVNULL, stdout=log, stderr=subprocess.STDOUT, check=False)
+        self.took["bin65"] = time.monotonic() - begun
+        if not os.path.isfile(PROGRAM):
+            self.why["bin65"] = first_reason(lines_of("bin65"))
+        return os.path.isfile(PROGRAM)
 
 
-def built(crates):
-    """Returns those of the crates that earlier runs proved with all that they depend on."""
-    found = set()
-    for it in crates:
-        if {*it.below()} <= found and it.is_built():
-            found.add(it)
-    return found
-
-
-def build(proofs):
-    """Proves and builds the program, and returns whether it is there."""
-    begun = time.time()
-    folder = f"{kit.ROOT}/crates/bin65"
-    os.makedirs(f"{folder}/out", exist_ok=True)
-    # (with no arguments the program prints 'bad arguments', which is no failure of the build)
-    with open(log_of("bin65"), "w") as log:
-        subprocess.run(["rt", "run"], cwd=folder, stdin=subprocess.DEVNULL, stdout=log, stderr=subprocess.STDOUT)
-    proofs.took["bin65"] = time.time() - begun
-    if not os.path.isfile(PROGRAM):
-        proofs.why["bin65"] = reasons.first_reason(kit.lines_of(log_of("bin65")))
-    return os.path.isfile(PROGRAM)
-
-
-def chosen(rt, names):
-    """Returns the libraries that these, or the program, depend on, lowest first; None if a name is unknown."""
-    crates = kit.crates(rt)
+def chosen(crates, names):
+    """Returns the libraries that these, or the program, depend on, lowest first."""
     unknown = [name for name in names if not any(it.name == name and not it.is_program for it in crates)]
     if unknown:
-        kit.say(f"{unknown[0]} is no library of crates.txt")
-        return None
+        sys.exit(f"{unknown[0]} is no library of crates.txt")
     asked = [it for it in crates if it.name in names or not names and it.is_program]
     return [it for it in crates if not it.is_program and (it in asked or any(it in that.below() for that in asked))]
 
 
 def main(names):
-    rt = kit.load()
-    rt.rtlib.guarded()
-    if hasattr(rt, "share_work"):
-        # What another checkout on this machine proved of the same text is taken over, and what it kept is begun with.
-        rt.share_work(True)
-    sources = None if names else sum_of_sources(rt)
+    rt = load()
+    os.chdir(ROOT)
+    every = sorted(rt.rtlib.crates_below(ROOT), key=lambda it: len(it.below()))
+    version = subprocess.run(["rt", "version"], capture_output=True, check=True).stdout
+    sources = sum_of([f"{ROOT}/crates.txt", *(file for it in every for file in sorted(rt.rtlib.files_of(it.folder)))], version)
     if not names and os.path.isfile(PROGRAM):
         if rt.rtlib.text_of(SUM) == sources + sum_of([PROGRAM]):
             return 0
         os.remove(PROGRAM)
-    crates = chosen(rt, names)
-    if crates is None:
-        return 2
-    held = rt.rtlib.lock(kit.crates(rt))
-    proofs = Proofs(rt, crates, built(crates))
-    if len(proofs.proved) < len(crates):
-        kit.say(f"{len(crates) - len(proofs.proved)} crates to prove on {proofs.processors} processors. Later runs prove only what changed.")
-    threading.Thread(target=proofs.tell, daemon=True).start()
+    crates, held, proved = chosen(every, names), rt.rtlib.lock(every), set()
+    for it in crates:
+        if proved.issuperset(it.below()) and it.is_built():
+            proved.add(it)
+    proofs, ended = Proofs(rt, crates, proved), threading.Event()
+    if len(proved) < len(crates):
+        say(f"{len(crates) - len(proved)} crates to prove on {proofs.processors} processors. Later runs prove only what changed.")
+    threading.Thread(target=each_minute, args=(ended, proofs.progress), daemon=True).start()
     is_proved = proofs.run()
     for it in held:
         os.close(it)
-    is_done = is_proved and (bool(names) or build(proofs))
-    proofs.ended.set()
+    is_done = is_proved and (bool(names) or proofs.build())
+    ended.set()
     if proofs.took:
-        kit.table("How long each part took:", proofs.took.items())
+        table("How long each part took:", proofs.took.items())
     for name, why in proofs.why.items():
-        kit.say(f"{name}: NOT PROVED: {why[:600]} ({os.path.relpath(log_of(name), kit.ROOT)} has the rest)")
+        say(f"{name}: NOT PROVED: {why[:600]} ({os.path.relpath(log_of(name), ROOT)} has the rest)")
     if is_done and not names:
         # Of the files as they were: what changed meanwhile isn't in the program.
         with open(SUM, "w") as it:

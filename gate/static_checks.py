@@ -1,59 +1,51 @@
 #!/usr/bin/env python3
 """Checks texts before anything is proved: the layout of code, what the linker's and the assembler's types hold, whether each mutant can be
-applied, whether the citations of the maintainers' pages exist, the words of definitions and comments, and whether a file contains text of an
-installed cc65's. Takes half a minute.
+applied, whether what the maintainers' pages cite exists, and whether a file contains text of an installed cc65's. Takes half a minute.
 
 usage: static_checks.py
-The last line is 'N passed, M failed': one for each crate, its words, each mutant, claim and page."""
+The last line is 'N passed, M failed': one for each crate, mutant, claim and page, and one for the texts of cc65's."""
+import glob
 import os
-import re
+import subprocess
 import sys
 
 import check_docs
 import check_streaming
-import kit
 import mutants
 import provenance
-import wording
-
-FOLDERS = ("must-fail", "mutants")
+import reader
 
 
-def why_stopped(rt, crate, crates):
-    """Returns why the gate would reject the crate's text, or None."""
-    try:
-        rt.rtlib.stop_on_links(crate.folder)
-        rt.rtlib.stop_on_unread(crate.folder, crates)
-        rt.rtlib.stop_on_text(crate, "verdict")
-        rt.stop_on_words(crate)
-    except SystemExit:
-        return "its text is refused"
-    code = rt.rtlib.code_of(crate.folder)
-    if re.search(rt.RENAMES, code) or re.search(rt.IGNORED, code):
-        return "it renames std, or ignores a test"
-    if any(re.search(words, code) for words in rt.REACHES.values()):
-        return "it names what only a handle reaches"
-    return "run rt fmt in the crate's folder" if rt.rtlib.fmt(crate.folder, "--check", sys.stdout) else None
+def in_disorder(root):
+    """Returns the files of crates that aren't in the toolchain's layout."""
+    files = [it for part in ("src", "specs", "proofs") for end in ("rt", "antt")
+             for it in glob.glob(f"{root}/crates/*/{part}/**/*.{end}", recursive=True)]
+    ran = subprocess.run([f"{reader.kit()}/bin/rattle", "fmt", "--check", *files], capture_output=True, text=True, check=False)
+    found = [line.removesuffix(" is not in the layout") for line in (ran.stdout + ran.stderr).split("\n") if line.endswith(" is not in the layout")]
+    return found or ([f"rattle fmt ended with status {ran.returncode}"] if ran.returncode else [])
+
+
+def looked_at(root):
+    """Yields each thing that is checked, and why it is wrong, or None."""
+    yield from check_docs.looked_at(root)
+    yield from provenance.looked_at(root)
+    yield "layout of code", "run rt fmt: " + ", ".join(found[:5]) if (found := in_disorder(root)) else None
+    for crate in reader.crates(root):
+        folder = f"{root}/crates/{crate}"
+        yield crate, check_streaming.why_kept(crate, reader.code_of(folder))
+        edits = mutants.edits_of(crate)
+        if len({os.path.basename(it) for it in edits}) < len(edits):
+            yield f"{crate}: mutants", "two have the same name"
+        yield from ((os.path.relpath(it, root), mutants.edited(it, folder)[1] if it.endswith(".edit") else "it is no edit") for it in edits)
 
 
 def main():
-    rt = kit.load()
-    rt.rtlib.guarded()
-    crates = kit.crates(rt)
-    faults = [*check_docs.looked_at(kit.ROOT), *provenance.looked_at(kit.ROOT), *wording.looked_at(kit.ROOT)]
-    for crate in crates:
-        faults.append((crate.name, why_stopped(rt, crate, crates) or check_streaming.why_kept(crate.name, rt.rtlib.code_of(crate.folder))))
-        for folder in FOLDERS:
-            place = f"{crate.folder}/{folder}"
-            edits = sorted(os.listdir(place)) if os.path.isdir(place) else []
-            faults += [(f"{crate.name}/{folder}/{it}", rt.read_edit(f"{place}/{it}", crate.folder)[1]) for it in edits if it.endswith(".edit")]
-    edits = {name.replace("/mutants/", "/").removesuffix(".edit") for name, _ in faults}
-    faults += [(f"gate/every_gate.txt: {it}", None if it in edits else "no mutant has this name") for it in mutants.every_gate()]
-    for name, why in faults:
+    checked = list(looked_at(reader.ROOT))
+    for name, why in checked:
         if why:
             print(f"{name}: {why}")
-    failed = sum(bool(why) for _, why in faults)
-    print(f"{len(faults) - failed} passed, {failed} failed")
+    failed = sum(bool(why) for _, why in checked)
+    print(f"{len(checked) - failed} passed, {failed} failed")
     return 1 if failed else 0
 
 

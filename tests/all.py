@@ -1,10 +1,10 @@
 #!/usr/bin/env python3
-"""The merge gate: every proof, mutant and test of the crates, and beside them first the checks of texts, and later, once the program is built,
-its tests on real files.
+"""The merge gate: `rt ci`, which repeats every proof and runs the tests of crates; beside it first the checks of texts, and once the program is
+built, its tests on real files and the mutants of functions that this landing changed.
 
 usage: all.py    ALL_LANES is how many scripts run at a time (default: half the number of processors).
-The lines before the last say which part failed and why; the last line is 'N passed, M failed'. What it printed is kept in
-$XDG_CACHE_HOME/bin65/gate.txt (default: ~/.cache/bin65/gate.txt), so that the times of the last run can be looked up."""
+Each minute a line says how far the proofs are. The lines before the last say which part failed and why; the last line is
+'N passed, M failed'."""
 import hashlib
 import os
 import re
@@ -15,13 +15,16 @@ import time
 from concurrent.futures import ThreadPoolExecutor
 
 ROOT = os.path.dirname(os.path.dirname(os.path.realpath(__file__)))
+sys.path.insert(0, f"{ROOT}/gate")
+sys.dont_write_bytecode = True
+import reader  # noqa: E402
+from progress import clock, each_minute, first_reason, say, table  # noqa: E402
+
 PROGRAM = f"{ROOT}/crates/bin65/out/bin65"
-COUNTS = re.compile(r"(\d+) passed, (\d+) failed")
+# The last line of a part: also that of gate/mutants.py, for which it is no failure that there is none to try.
+COUNTS = re.compile(r"(\d+) (passed, (\d+) failed|refused, (\d+) not)")
 # The lines of a failed part that describe its failure.
 FAILURE = re.compile(r"FAILED|failed:|NOT |not proved|Error|error|: expected", re.I)
-
-# What `rt ci` prints once the program is built: the tests' proofs take minutes more.
-BUILT = re.compile(r"\S+ bin65 proved")
 
 # These need no program and take a minute together.
 TEXTS = [
@@ -39,32 +42,14 @@ TEXTS = [
 SCRIPTS = [
     "hostile", "large", "workbench_port", "workbench_random", "workbench_trees", "workbench_idioms", "io_faults", "alloc_faults", "fuzz",
     "one_program", "cases", "disk", "sums", "version1",
-    "migrating", "differences", "cc65_scripts", "tutorial", "language", "messages", "editors", "make_try", "makefile", "machines", "second", "labels",
+    "migrating", "differences", "cc65_scripts", "tutorial", "language", "messages", "editors", "makefile", "machines", "second", "labels",
     "workbench_list", "workbench_labels", "workbench_debug", "workbench_deps", "workbench_size", "workbench_bad", "workbench_check",
-    "workbench_faults", "workbench_lexer", "packaging", "release", "bench",
+    "workbench_faults", "workbench_lexer", "packaging", "release",
 ]
 EXAMPLES = ["first", "programs", "library", "sizes"]
 # It also needs the program of tests_calls65, which `rt ci` may build last.
 LAST = ["measured"]
-
-
-class Kept:
-    """Standard output that is also written to a file; the file is left out if it can't be written."""
-
-    def __init__(self, out):
-        self.out, folder = out, os.path.join(os.environ.get("XDG_CACHE_HOME") or os.path.expanduser("~/.cache"), "bin65")
-        try:
-            os.makedirs(folder, exist_ok=True)
-            self.copy = open(os.path.join(folder, "gate.txt"), "w", encoding="utf-8", buffering=1)
-        except OSError:
-            self.copy = open(os.devnull, "w", encoding="utf-8")
-
-    def write(self, text):
-        self.copy.write(text)
-        return self.out.write(text)
-
-    def flush(self):
-        self.out.flush()
+MUTANTS = ("mutants of changed functions", ["python3", "gate/mutants.py", "--changed"])
 
 
 PRINTING = threading.Lock()
@@ -84,31 +69,32 @@ class Part:
         self.name, self.words, self.lines, self.seconds = name, words, [], 0.0
         self.passed, self.failed = 0, 1
 
-    def run(self, each=None):
-        """Runs the part, hands each line to `each`, if given, and counts by the last line; a part that says no counts passes or fails as a whole."""
+    def read(self, line):
+        """Reads a line that the part printed."""
+        self.lines.append(line)
+
+    def run(self):
+        """Runs the part and counts by its last line; a part that says no counts passes or fails as a whole."""
         begun = time.monotonic()
         how = {"cwd": ROOT, "stdin": subprocess.DEVNULL, "stdout": subprocess.PIPE, "stderr": subprocess.STDOUT, "errors": "replace"}
         with subprocess.Popen(self.words, **how) as ran:
             for line in map(str.rstrip, ran.stdout):
-                self.lines.append(line)
-                if each and not COUNTS.fullmatch(line):
-                    each(line)
+                self.read(line)
         self.seconds = time.monotonic() - begun
         counts = [it for it in map(COUNTS.fullmatch, self.lines) if it]
         if counts:
-            self.passed, self.failed = int(counts[-1][1]), int(counts[-1][2])
+            self.passed, self.failed = int(counts[-1][1]), int(counts[-1][3] or counts[-1][4])
         elif self.words[0] == "sh":
             self.passed, self.failed = int(ran.returncode == 0), int(ran.returncode != 0)
-        if not self.failed and (ran.returncode or not self.passed):
+        if not self.failed and (ran.returncode or not self.passed and not counts[-1][4]):
             # (one that tried nothing has failed)
             self.failed = 1
         return self
 
     def told(self):
         """Prints that it ended, with what it printed if it failed."""
-        minutes = f"{int(self.seconds) // 60}:{int(self.seconds) % 60:02d}"
         lines = [f"    {it}" for it in self.lines] if self.failed else []
-        show("\n".join([f"{minutes:>7}  {self.name}: {self.passed} passed, {self.failed} failed", *lines]))
+        show("\n".join([f"{clock(self.seconds):>7}  {self.name}: {self.passed} passed, {self.failed} failed", *lines]))
 
     def why(self):
         """Returns the first lines that say why it failed, or else its last ones."""
@@ -116,16 +102,64 @@ class Part:
         return [it[:500] for it in ([it for it in said if FAILURE.search(it)][:3] or said[-3:])]
 
 
+class Proofs(Part):
+    """`rt ci`: it prints the lines that are about a crate, a mutant or a test, and at once why one isn't proved."""
+
+    ENDED = re.compile(r"rt: (\w+)(: its tests are)? (proved|NOT PROVED|is kept)\b")
+    # Its lines about a mutant, a test or a run that failed.
+    FAILED = re.compile(r"rt: (?!FAILED).*(FAILED|NOT REFUSED|NOT TRIED|BAD EDIT|was stopped by|ended with status|had not ended|differ first at)")
+
+    def __init__(self, is_built):
+        super().__init__("rt ci", ["rt", "ci"])
+        self.is_built, self.block, self.reasons, self.ended, self.begun = is_built, [], [], {}, time.monotonic()
+        self.crates = reader.crates()
+
+    def read(self, line):
+        """Shows a line if it is one of `rt` itself, and why a crate or a mutant failed."""
+        self.lines.append(line)
+        self.block = [line] if line.startswith("== ") else [*self.block, line]
+        found, why = self.ENDED.match(line), None
+        if found and found[3] == "NOT PROVED":
+            why = f"{found[1]}{found[2] or ''}: not proved: {first_reason(self.block[1:-1])}"
+        elif not found and self.FAILED.match(line):
+            why = line.removeprefix("rt: ")
+        if line.startswith("rt: "):
+            show(f"  {time.strftime('%H:%M:%S')} {line.removeprefix('rt: ')}")
+        if why:
+            self.reasons.append(why)
+            show(f"  why: {why[:600]}")
+        if found:
+            self.block = []
+        if found and not found[2] and not why:
+            self.ended[found[1]] = time.monotonic() - self.begun
+            if found[1] == "bin65":
+                self.is_built()
+
+    def progress(self):
+        """Returns how many crates are proved, and which could be next: all those below them are."""
+        ready = [it for it in self.crates if it not in self.ended and reader.below(it, self.crates) <= {*self.ended}]
+        return f"{len(self.ended)} of {len(self.crates)} crates proved; now or next {', '.join(ready) or 'tests'}"
+
+    def run(self):
+        ended = threading.Event()
+        threading.Thread(target=each_minute, args=(ended, self.progress), daemon=True).start()
+        super().run()
+        ended.set()
+        self.lines = [f"FAILED: {it}" for it in self.reasons] or self.lines[-20:]
+        table("Minutes after which each crate was proved:", self.ended.items())
+        return self
+
+
 class Beside:
-    """The parts that run beside the proofs, several at a time."""
+    """The parts that run beside the proofs, several at a time; the mutants have a lane of their own, since they use what `rt ci` has built."""
 
     def __init__(self, lanes):
-        self.pool, self.parts = ThreadPoolExecutor(lanes), []
+        self.pool, self.parts, self.mutants = ThreadPoolExecutor(lanes), [], ThreadPoolExecutor(1)
 
-    def start(self, parts):
+    def start(self, parts, pool=None):
         for it in parts:
             self.parts.append(it)
-            self.pool.submit(self.end, it)
+            (pool or self.pool).submit(self.end, it)
 
     def end(self, part):
         """Runs a part and prints how it ended. A part that can't be run has failed."""
@@ -136,16 +170,16 @@ class Beside:
         part.told()
 
     def start_scripts(self):
-        """Starts the scripts that run the program, if it is built and they haven't been started."""
+        """Starts what needs the program and what was built below it, if the program is built and they haven't been started."""
         if len(self.parts) == len(TEXTS) and os.path.isfile(PROGRAM):
+            self.start([Part(*MUTANTS)], self.mutants)
             self.start([*map(script, SCRIPTS), Part("program", ["bash", "tests/program.sh", PROGRAM])])
             self.start([Part(f"example/{it}", ["sh", f"example/{it}.sh", PROGRAM]) for it in EXAMPLES])
 
-    def read(self, line):
-        """Prints a line of the proofs, and starts the scripts if it says that the program is built."""
-        show(f"  {line}")
-        if BUILT.fullmatch(line):
-            self.start_scripts()
+    def wait(self):
+        """Waits until all parts have ended."""
+        self.pool.shutdown()
+        self.mutants.shutdown()
 
 
 def script(name):
@@ -153,20 +187,18 @@ def script(name):
 
 
 def main():
-    sys.stdout = Kept(sys.stdout)
     # (a make that a test calls is a user's own: one that knows itself below another says which folders it enters)
     for it in ("MAKEFLAGS", "MAKELEVEL", "MFLAGS"):
         os.environ.pop(it, None)
     begun, processors = time.monotonic(), len(os.sched_getaffinity(0))
     beside = Beside(int(os.environ.get("ALL_LANES", 0)) or max(1, processors // 2))
     beside.start([Part(*it) for it in TEXTS])
-    proofs = Part("rt ci and mutants", ["python3", "gate/ci.py"]).run(beside.read)
-    proofs.lines = [it for it in proofs.lines if it.startswith("FAILED")] or proofs.lines[-20:]
+    proofs = Proofs(beside.start_scripts).run()
     proofs.told()
     is_built = os.path.isfile(PROGRAM)
     beside.start_scripts()
     beside.start([script(it) for it in LAST if is_built])
-    beside.pool.shutdown()
+    beside.wait()
     parts = [*beside.parts, proofs]
     if is_built:
         with open(PROGRAM, "rb") as it:
@@ -175,10 +207,10 @@ def main():
         missing = Part("the scripts", [])
         missing.lines = ["FAILED: none was run, since rt ci built no program"]
         parts.append(missing)
-    minutes = int(time.monotonic() - begun) // 60
-    print(f"The gate took {minutes} minutes on {processors} processors; the longest parts:")
+    used = os.times()
+    say(f"The gate took {clock(time.monotonic() - begun)} on {processors} processors, {clock(used.children_user + used.children_system)} of these; the longest parts:")
     for it in sorted(parts, key=lambda it: -it.seconds)[:8]:
-        print(f"{int(it.seconds) // 60:>7}:{int(it.seconds) % 60:02d}  {it.name}")
+        print(f"{clock(it.seconds):>10}  {it.name}")
     for it in filter(lambda it: it.failed, parts):
         print(f"{it.name} failed:", *it.why(), sep="\n  ")
     failed = sum(it.failed for it in parts)

@@ -25,10 +25,10 @@ example: program
 test:
 	@python3 tests/all.py
 
-# Tries the mutants of mutants/: all, those of a crate (CRATE=asm65), or one (CRATE=asm65/NAME). Those that an earlier run on this
-# machine found refused, over the same files, aren't tried again.
+# Tries all mutants, those of a crate (CRATE=asm65), or one (CRATE=asm65/NAME). Those that an earlier run on this machine tried, over the
+# same files, aren't tried again.
 mutants:
-	@python3 gate/try_mutants.py $(CRATE)
+	@python3 gate/mutants.py $(CRATE)
 
 bench: program
 	@python3 bench/run.py $(abspath $(PROGRAM))

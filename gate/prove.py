@@ -5,8 +5,8 @@ usage: prove.py [CRATE..]    these libraries and those they depend on (default: 
 Each minute it prints how far it is, and at the end how long each crate took or, if one failed, the first thing that the prover said. What a
 crate's proof printed is in its out/prove.log. If no file changed since the program was built, it does nothing.
 
-It builds libraries with the code of `rt` itself: two calls of `rt lib` don't run at the same time, since each locks the crates below its
-own, and `rt all check` gives each crate one process and begins them in the order of crates.txt."""
+It uses the code of `rt` itself: two calls of `rt lib` don't run at the same time, since each locks the crates below its own, and `rt all
+check` gives each crate one process and a processor also to crates that wait for others."""
 import copy
 import hashlib
 import importlib.machinery
@@ -16,7 +16,6 @@ import subprocess
 import sys
 import threading
 import time
-from concurrent.futures import FIRST_COMPLETED, Future, wait
 
 import reader
 from progress import each_minute, first_reason, say, table
@@ -24,10 +23,8 @@ from progress import each_minute, first_reason, say, table
 ROOT = reader.ROOT
 PROGRAM = f"{ROOT}/crates/bin65/out/bin65"
 SUM = f"{PROGRAM}.sum"
-# A proof with two processes takes about 5 GB at most, a minute or so after it began.
-MEMORY, WARM_UP = 5_000_000_000, 60
-# A crate whose chain of crates is shorter than the longest one has a lower priority: a step of niceness for each twelfth by which it is shorter.
-STEPS, MOST_NICE = 12, 5
+# What a proof takes, by which `rt` decides how many run at a time; in rare cases it takes 6 GB.
+MEMORY = 4_000_000_000
 
 
 def load():
@@ -86,60 +83,37 @@ def far(name):
 
 
 class Proofs:
-    """The proofs of crates, lowest first: those of the longest chains begin first. It keeps how long each took, and why one failed."""
+    """The proofs of crates, lowest first: it keeps which are proved, how long each took, and why one failed."""
 
     def __init__(self, rt, crates, proved):
-        self.rt, self.crates, self.proved, self.processors = rt, crates, proved, rt.processors()
-        self.running, self.begun, self.took, self.why = {}, {}, {}, {}
-        self.before, self.after = {}, dict.fromkeys(crates, 0)
-        sizes = {it: sum(map(os.path.getsize, reader.sources(it.folder))) * (it not in proved) for it in crates}
-        for it in crates:
-            self.before[it] = max((self.before[low] + sizes[low] for low in it.below()), default=0)
-        for it in reversed(crates):
-            self.after[it] += sizes[it]
-            for low in it.below():
-                self.after[low] = max(self.after[low], self.after[it])
+        self.rt, self.crates, self.proved, self.running, self.took, self.why = rt, crates, proved, [], {}, {}
 
-    def start(self, crate, jobs):
-        """Proves a crate in a thread of its own, whose priority the processes that it starts have."""
-        longest, done = max(map(sum, zip(self.before.values(), self.after.values())), default=1), Future()
-
-        def run():
-            try:
-                os.nice(min(MOST_NICE, (longest - self.before[crate] - self.after[crate]) * STEPS // max(longest, 1)))
-                done.set_result(prove(crate, jobs))
-            except BaseException as error:  # pylint: disable=broad-except
-                done.set_exception(error)
-
-        self.running[done], self.begun[crate] = crate, time.monotonic()
-        threading.Thread(target=run, daemon=True).start()
-
-    def has_memory(self):
-        """Returns whether another proof has memory, also once those that began lately have taken theirs."""
-        fresh = sum(time.monotonic() - self.begun[it] < WARM_UP for it in self.running.values())
-        return self.rt.free() > MEMORY * (1 + fresh)
+    def prove(self, crate, jobs):
+        """Proves a crate, unless it is proved or another one failed."""
+        if self.why or crate in self.proved:
+            return
+        begun = time.monotonic()
+        self.running.append(crate.name)
+        why = prove(crate, jobs)
+        self.running.remove(crate.name)
+        self.took[crate.name] = time.monotonic() - begun
+        if why:
+            self.why[crate.name] = why
+        else:
+            self.proved.add(crate)
 
     def run(self):
-        """Proves the crates, each once those below it are proved, until one fails, and returns whether all are."""
-        left = sorted((it for it in self.crates if it not in self.proved), key=lambda it: -self.after[it])
-        while left and not self.why or self.running:
-            ready = [it for it in left if self.proved.issuperset(it.below())] if not self.why else []
-            jobs = min(self.processors, 4 if len(ready) == 1 and not self.running else 2)
-            for it in ready:
-                if not self.running or len(self.running) < self.processors and self.has_memory():
-                    left.remove(it)
-                    self.start(it, jobs)
-            for done in wait([*self.running], timeout=20, return_when=FIRST_COMPLETED).done:
-                crate = self.running.pop(done)
-                self.took[crate.name] = time.monotonic() - self.begun[crate]
-                if done.result():
-                    self.why[crate.name] = done.result()
-                else:
-                    self.proved.add(crate)
+        """Proves the crates, each once those below it are proved, those of the longest chain first, and returns whether all are."""
+        tasks = {}
+        for it in self.crates:
+            size = 0 if it in self.proved else sum(map(os.path.getsize, reader.sources(it.folder)))
+            waits = [(low.name, "proof") for low in it.below()]
+            tasks[it.name, "proof"] = (waits, size, MEMORY, lambda given, jobs, it=it: self.prove(it, jobs))
+        self.rt.in_lanes(tasks)
         return not self.why
 
     def progress(self):
-        now = ", ".join(f"{it.name}{far(it.name)}" for it in [*self.running.values()])
+        now = ", ".join(f"{it}{far(it)}" for it in [*self.running])
         return f"{len(self.proved)} of {len(self.crates)} crates proved; now {now or 'the program'}"
 
     def build(self):
@@ -180,7 +154,7 @@ def main(names):
             proved.add(it)
     proofs, ended = Proofs(rt, crates, proved), threading.Event()
     if len(proved) < len(crates):
-        say(f"{len(crates) - len(proved)} crates to prove on {proofs.processors} processors. Later runs prove only what changed.")
+        say(f"{len(crates) - len(proved)} crates to prove on {rt.processors()} processors. Later runs prove only what changed.")
     threading.Thread(target=each_minute, args=(ended, proofs.progress), daemon=True).start()
     is_proved = proofs.run()
     for it in held:

@@ -1,7 +1,6 @@
 #!/usr/bin/env python3
-"""Checks that each link of a page leads to a file of the repository and, where it names one, to a heading; that the README has at most 130 lines;
-that tests/README.md has a row for each script of tests/; that the picture of the crates is what its script draws; and that no file contains
-the marks of an unfinished merge.
+"""Checks that each link of a page leads to a file of the repository and, where it names one, to a heading; that the picture of the crates is
+what its script draws; and that no file contains the marks of an unfinished merge.
 
 usage: links.py. The last line is 'N passed, M failed'."""
 import glob
@@ -59,12 +58,6 @@ def unmerged():
 
 def main():
     faults = {page: list(wrong(pages.ROOT, page)) for page in pages_of(pages.ROOT)}
-    if (lines := len(pages.read("README.md").splitlines())) > 130:
-        faults["README.md"].append(f"README.md has {lines} lines")
-    listed = re.findall(r"^\| (`.*?`) \|", pages.read("tests/README.md"), re.M)
-    named = {it.rstrip("/") for row in listed for it in re.findall(r"`([^`]+)`", row)}
-    there = {os.path.basename(it) for pattern in ("*.py", "*.sh", "*.c") for it in glob.glob(f"{pages.ROOT}/tests/{pattern}")}
-    faults["tests/README.md"] += [f"tests/README.md has no row for {it}" for it in sorted(there - named)]
     drawn = subprocess.run([sys.executable, f"{pages.ROOT}/docs/tables/make_picture.py", "--print"], capture_output=True, text=True, check=False)
     if drawn.stdout != pages.read("docs/screens/crates.svg"):
         faults["docs/ARCHITECTURE.md"].append("docs/screens/crates.svg isn't what docs/tables/make_picture.py draws from crates.txt")

@@ -1,8 +1,8 @@
 """Checks the pages for those who verify or maintain bin65: calls, clauses, modules of definitions, names and files that they cite exist.
 
-A row of PROVED has a claim, its calls, their clauses, and the modules of specs/ that define the clauses' terms, under a heading with the
-crate's name. A clause without a name is cited by a text that it contains, in parentheses; 'law' cites all clauses of a law; 'same' repeats
-the calls of the row before."""
+A row of PROVED has a claim, its calls, their clauses, and the modules of specs/ that define the clauses' terms, under a heading
+with the crate's name. A clause without a name is cited by a text that it contains, in parentheses; 'law' cites all clauses of a
+law; 'same' repeats the calls of the row before."""
 import functools
 import glob
 import os
@@ -12,8 +12,6 @@ import reader
 
 PAGES = ("PROVED", "ARCHITECTURE", "DECISIONS", "THEOREM", "one-program")
 
-DEFINED = re.compile(r"^\s*(?:abbrev |unfoldable )?pub (?:record |data )?([^\s:({]+)", re.M)
-USED = re.compile(r"Rattle\.(\w+)\.specs\.([\w.]+?)(?:\.\{| as )")
 MODULE = re.compile(r"(?:(\w+65) )?`((?:Internal/)?[A-Z]\w*)`")
 CITED = re.compile(r"\b(\w+65) ((?:`(?:Internal/)?[A-Z]\w*`(?:, | and )?)+)")
 PATH = re.compile(r"(?:crates(?!/NAME)|tests|gate|example|docs|bench|man|\w+65)(?:/[\w.-]+)+")
@@ -33,14 +31,12 @@ def without_code(text):
     return re.sub(r"^```.*?^```$", "", text, flags=re.M | re.S)
 
 
-# ---- Crates.
-
-
 @functools.lru_cache(maxsize=None)
 def public_names(root, name):
     """Returns the names that a library makes public."""
     face = f"{root}/crates/{name}/src/lib.rt"
-    return set(re.findall(r"\w+", " ".join(re.findall(r"^pub (?:use|mod) [^;]*;", read(face), re.M)))) if os.path.exists(face) else set()
+    items = re.findall(r"^pub (?:use|mod) [^;]*;", read(face) if os.path.exists(face) else "", re.M)
+    return set(re.findall(r"\w+", " ".join(items)))
 
 
 def calls(root, crate, name):
@@ -53,30 +49,8 @@ def calls(root, crate, name):
     return [it for it in laws or found if it.owner == front or (not it.owner and re.search(rf"/{front}[/.]", it.file))]
 
 
-# ---- Modules of definitions.
-
-
 def module_file(root, crate, module):
     return f"{root}/crates/{crate}/specs/{module}.antt"
-
-
-def uses(file):
-    """Returns the modules that a file imports, as (crate, module)."""
-    return {(crate, module.replace(".", "/")) for crate, module in USED.findall(read(file))}
-
-
-def defines(root, crate, module, text):
-    """Returns whether a module defines a word of the text."""
-    file = module_file(root, crate, module)
-    return os.path.exists(file) and not set(DEFINED.findall(read(file))).isdisjoint(re.findall(r"[\w-]+", text))
-
-
-def is_near(root, crate, module, text, files):
-    """Returns whether a module defines a word of these clauses, or is imported by a module that does."""
-    if defines(root, crate, module, text):
-        return True
-    used = set().union(*map(uses, files))
-    return any((crate, module) in uses(module_file(root, *it)) for it in used if defines(root, *it, text))
 
 
 # ---- The rows of PROVED.
@@ -93,17 +67,17 @@ def rows(text):
 
 
 def stated(found, named):
-    """Yields the clauses that a row cites, as (clause, call, text), for the calls that exist."""
+    """Yields the clauses that a row cites, as (clause, call), for the calls that exist."""
     for call, where in found.items():
         for function in where:
             if "law" in TICKED.sub("", named) and function.file.endswith("/laws.rt"):
-                yield "law", call, function.signature
+                yield "law", call
     for is_text, name in re.findall(r"(\()?`([^`]+)`", named):
         word = re.compile(rf"(?<!\w){re.escape(name)}(?!\w)")
         for call, where in found.items():
             for label, text in (it for function in where for it in function.clauses):
                 if not label and word.search(text) if is_text else label == name:
-                    yield name, call, text
+                    yield name, call
 
 
 def why_row(root, crate, cells):
@@ -113,15 +87,12 @@ def why_row(root, crate, cells):
     if lost := [it for it, where in found.items() if not where] or (["none is named"] if not found else []):
         return f"no such public call: {lost[0]}"
     there = list(stated(found, named))
-    if lost := sorted({*TICKED.findall(named)} - {clause for clause, _, _ in there}):
+    if lost := sorted({*TICKED.findall(named)} - {clause for clause, _ in there}):
         return f"no call of the row has the clause {lost[0]}"
-    if idle := [it for it in found if it not in {call for _, call, _ in there}]:
+    if idle := [it for it in found if it not in {call for _, call in there}]:
         return f"no clause of the row is one of {idle[0]}"
-    text, files = " ".join(it for _, _, it in there), {it.file for where in found.values() for it in where}
-    for other, module in MODULE.findall(modules):
-        if not is_near(root, other or crate, module, text, files):
-            return f"{other or crate} {module} doesn't exist, or defines no term of these clauses"
-    return None
+    lost = [(other or crate, it) for other, it in MODULE.findall(modules) if not os.path.exists(module_file(root, other or crate, it))]
+    return f"no such module: {' '.join(lost[0])}" if lost else None
 
 
 # ---- Pages.

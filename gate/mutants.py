@@ -86,13 +86,19 @@ def edited(edit, folder):
 # ---- All mutants, by `rt must-fail`.
 
 
-def copied(room):
-    """Copies the repository's crates, without their mutants and what was built, and what `rt` reads beside them."""
+def proved_copy(room, crates):
+    """Proves these crates, copies the repository without its mutants, and returns why a crate isn't proved there, or None. `rt` takes over in the
+    copy what was proved of the same text, so this takes seconds."""
+    if subprocess.run([sys.executable, f"{ROOT}/gate/prove.py", *crates], check=False).returncode:
+        return "it is not proved as it is, so its mutants were not tried"
     shutil.copytree(f"{ROOT}/crates", f"{room}/crates", ignore=shutil.ignore_patterns("out", "mutants", "must-fail"))
+    shutil.copytree(f"{ROOT}/gate", f"{room}/gate")
     for it in filter(lambda it: os.path.isfile(f"{ROOT}/{it}"), ("crates.txt", "HANDLES")):
         shutil.copy(f"{ROOT}/{it}", room)
     # (it is the top of a repository)
     os.mkdir(f"{room}/.git")
+    ran = subprocess.run([sys.executable, f"{room}/gate/prove.py", *crates], stdout=subprocess.DEVNULL, check=False)
+    return "its files were changed meanwhile, so its mutants were not tried" if ran.returncode else None
 
 
 def is_refused(said):
@@ -131,12 +137,12 @@ def try_all(words, flags):
     """Tries the mutants that the arguments name, and returns how many are refused, and why others aren't by their names."""
     every = chosen(words)
     count, done, why, now, ended = sum(map(len, every.values())), 0, {}, "", threading.Event()
-    if subprocess.run([sys.executable, f"{ROOT}/gate/prove.py", *every], check=False).returncode:
-        return 0, {crate: "it is not proved as it is, so its mutants were not tried" for crate in every}
     told = lambda: f"{done} of {count} mutants tried, {len(why)} not refused; now {now}"
     threading.Thread(target=each_minute, args=(ended, told), daemon=True).start()
     with tempfile.TemporaryDirectory(prefix="mutants-") as room:
-        copied(room)
+        lacking = proved_copy(room, every)
+        if lacking:
+            return 0, dict.fromkeys(every, lacking)
         for crate, edits in every.items():
             for at in range(0, len(edits), AT_ONCE):
                 part = edits[at : at + AT_ONCE]
@@ -213,21 +219,22 @@ class Compiler:
     """Checks functions of crates by the compiler, over the libraries that were built in this checkout."""
 
     def __init__(self, room):
-        self.room, self.crates, kit = room, reader.crates(), reader.kit()
-        self.front = [f"{kit}/bin/rattle", "check", "--antt-project", f"{kit}/rattle/logic/antt-project.json", "--logic-built", f"{kit}/logic_built"]
-        self.rlibs = f"{kit}/rlibs"
+        self.room, self.crates = room, reader.crates()
         for it in self.crates:
             if os.path.isdir(f"{ROOT}/crates/{it}/out/rlib/{it}.rlib"):
                 shutil.copytree(f"{ROOT}/crates/{it}/out/rlib/{it}.rlib", f"{room}/rlib/{it}.rlib", copy_function=link)
 
+    def words(self, crate, functions, kept):
+        """Returns the command that checks these functions of a crate, and keeps their proofs in a folder."""
+        kit, own = reader.kit(), f"{self.room}/rlib"
+        libraries = {"std": f"{kit}/rlibs", **{it: own if it in self.crates else f"{kit}/rlibs" for it in self.crates[crate]}}
+        return [f"{kit}/bin/rattle", "check", "--crate-name", crate, "src/lib.rt", "--links", f"{crate}=", "--jobs", "1", "--incremental", kept,
+                "--antt-project", f"{kit}/rattle/logic/antt-project.json", "--logic-built", f"{kit}/logic_built",
+                *(word for name, at in libraries.items() for word in ("--extern", f"{name}={at}/{name}.rlib")),
+                "-L", f"dependency={kit}/rlibs", "-L", f"dependency={own}", *(word for it in sorted(functions) for word in ("--only", it))]
+
     def check(self, crate, texts, functions, kept):
         """Checks these functions of a crate, with texts in place of its own, and returns the status and what was printed."""
-        names = [it if it in self.crates else f"of the kit {it}" for it in self.crates[crate]]
-        libraries = [("std", f"{self.rlibs}/std.rlib")]
-        libraries += [(it.rpartition(" ")[2], f"{self.rlibs if ' ' in it else self.room + '/rlib'}/{it.rpartition(' ')[2]}.rlib") for it in names]
-        words = [*self.front, "--crate-name", crate, "src/lib.rt", "--links", f"{crate}=", "--jobs", "1", "--incremental", kept]
-        words += [word for name, at in libraries for word in ("--extern", f"{name}={at}")]
-        words += ["-L", f"dependency={self.rlibs}", "-L", f"dependency={self.room}/rlib", *(word for it in sorted(functions) for word in ("--only", it))]
         with tempfile.TemporaryDirectory(dir=self.room) as folder:
             for part in filter(lambda it: os.path.isdir(f"{ROOT}/crates/{crate}/{it}"), ("src", "specs", "proofs")):
                 shutil.copytree(f"{ROOT}/crates/{crate}/{part}", f"{folder}/{part}")
@@ -236,7 +243,8 @@ class Compiler:
                     it.write(text)
             for _ in range(2):
                 wait_for_memory()
-                ran = subprocess.run(words, cwd=folder, stdin=subprocess.DEVNULL, stdout=subprocess.PIPE, stderr=subprocess.STDOUT, text=True, errors="replace", check=False)
+                how = {"stdin": subprocess.DEVNULL, "stdout": subprocess.PIPE, "stderr": subprocess.STDOUT, "text": True, "errors": "replace"}
+                ran = subprocess.run(self.words(crate, functions, kept), cwd=folder, check=False, **how)
                 if ran.returncode != -signal.SIGKILL:
                     # (else it was most likely for memory)
                     break

@@ -3,6 +3,7 @@
 
 usage: proof_cost.py CRATE [COUNT]    after `gate/prove.py CRATE`, or `rt check` in its folder; prints COUNT goals and files (default: 20)
 Kept steps of functions that have changed since are counted too, until crates/CRATE/out/incremental is removed."""
+import glob
 import os
 import re
 import sys
@@ -12,21 +13,14 @@ import reader
 DECLARATION = re.compile(rb'"name":"([^"]+)","notes":.*?"steps":\[(\d+),(\d+),\d+\]', re.S)
 
 
-def records(crate):
-    """Yields, for each file of the crate's proofs, its name and the record that a check kept."""
-    room = f"{reader.ROOT}/crates/{crate}/out/incremental"
-    for folder in sorted(os.listdir(room)) if os.path.isdir(room) else []:
-        kept = f"{room}/{folder}/records"
-        for name in sorted(os.listdir(kept)) if os.path.isdir(kept) else []:
-            with open(f"{kept}/{name}", "rb") as it:
-                yield name.partition("-proofs.")[2].removesuffix(".decls.oantt"), it.read()
-
-
 def goals(crate):
-    """Yields the steps of each declaration, its name and its file."""
-    for file, text in records(crate):
-        for found in DECLARATION.finditer(text) if file else ():
-            yield int(found[2]) + int(found[3]), found[1].decode(), file
+    """Yields the steps of each declaration that a check of the crate kept, its name and its file."""
+    for record in glob.glob(f"{reader.ROOT}/crates/{crate}/out/incremental/*/records/*"):
+        file = os.path.basename(record).partition("-proofs.")[2].removesuffix(".decls.oantt")
+        if file:
+            with open(record, "rb") as it:
+                found = DECLARATION.finditer(it.read())
+            yield from ((int(it[2]) + int(it[3]), it[1].decode(), file) for it in found)
 
 
 def main(words):

@@ -15,9 +15,9 @@ CLOSED_BY = {"{": "}", "(": ")", "[": "]"}
 
 
 class Function(NamedTuple):
-    """A function: its file, the type or trait that has it ('' if none does), its name, the path by which a check names it (of a method its
-    end), its lines from the first attribute on, the line at which its body begins (None: it has none), its signature, and its clauses as
-    (name, text)."""
+    """A function: its file, the type or trait that has it ('' if none does), its name, the path by which a check names it (of a
+    method its end), its lines from the first attribute on, the line at which its body begins (None: it has none), and its clauses
+    as (name, text)."""
 
     file: str
     owner: str
@@ -26,7 +26,6 @@ class Function(NamedTuple):
     first: int
     body: int
     last: int
-    signature: str
     clauses: list
 
 
@@ -138,7 +137,7 @@ def functions_in(file, text, tokens):
     for at, (line, start, _, kind, word) in enumerate(tokens[:-1]):
         if kind != "Code":
             continue
-        if word in ("impl", "trait") and at >= until and tokens[at + 1][3] == "Code" and lines[line].startswith(("impl", "pub trait", "trait")):
+        if word in ("impl", "trait") and at >= until and lines[line].startswith(("impl", "pub trait", "trait")):
             begin = next_of(tokens, at, "{")
             owner, path = owner_of(" ".join(text[start : tokens[begin][1]].decode().split()))
             until = end_of_block(tokens, begin)
@@ -151,9 +150,9 @@ def functions_in(file, text, tokens):
         first = line
         while first > 0 and lines[first - 1].lstrip().startswith(("///", "#[")):
             first -= 1
-        name, signature = tokens[at + 1][4], text[start : tokens[begin][1]].decode()
-        yield Function(file, owner, name, f"{path}::{name}" if path else name, first, tokens[begin][0] if end > begin else None,
-                       tokens[end][0], signature, list(clauses_of(text, tokens[at:begin])))
+        name, body = tokens[at + 1][4], tokens[begin][0] if end > begin else None
+        clauses = list(clauses_of(text, tokens[at:begin]))
+        yield Function(file, owner, name, f"{path}::{name}" if path else name, first, body, tokens[end][0], clauses)
 
 
 @functools.lru_cache(maxsize=None)

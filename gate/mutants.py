@@ -1,13 +1,13 @@
 #!/usr/bin/env python3
 """Tries mutants, edits that plant a bug: the prover must refuse each.
 
-usage: mutants.py [--anew] [CRATE[/EDIT]..]    those of mutants/ and must-fail/, of these crates (default: of all)
-       mutants.py --changed                    at most ten of functions that the last commits changed, for the gate
+usage: mutants.py [CRATE[/EDIT]..]    those of mutants/ and must-fail/, of these crates (default: of all)
+       mutants.py --changed           at most ten of functions that the last commits changed, for the gate
 
 `rt must-fail` tries the first, in a copy of the repository, over what the proofs of the crates kept; these are built first. It keeps each
-result on this machine by a checksum of all that it depends on, so an interrupted run goes on where it stopped; --anew tries all again.
-The second are tried by the compiler itself over the libraries that `rt ci` has just built in this checkout: of a crate it checks the
-functions that the mutants change and no others, while `rt must-fail` would prove the whole crate, and each library below it, again.
+result on this machine by a checksum of all that it depends on, so an interrupted run goes on where it stopped. The second are tried by the
+compiler itself over the libraries that `rt ci` has just built in this checkout: it checks the functions that the mutants change and no
+others, while `rt must-fail` would prove the whole crate, and each library below it, again.
 Each minute a line tells how far it is; the last line is 'N refused, M not'."""
 import os
 import re
@@ -22,18 +22,20 @@ import zlib
 from concurrent.futures import ThreadPoolExecutor
 
 import reader
-from progress import clock, each_minute, say
+from progress import each_minute, say
 
 ROOT = reader.ROOT
 # How many mutants one call of `rt must-fail` tries: what it found is kept and told when it ends.
 AT_ONCE = 24
 # A landing is what was committed in the hours before its last commit: a session is shorter, and its gate runs after it.
 HOURS, MOST = 4, 10
-# What a check of a mutant takes at most; what has to be free before one begins beside proofs, and how many seconds it waits for that.
-MEMORY, FREE, LONGEST = 3_000_000_000, 6_000_000_000, 600
+# What a check of a mutant takes at most, and what has to be free before one begins beside proofs.
+MEMORY, FREE = 3_000_000_000, 6_000_000_000
 # An error for such a reason says nothing of the contract.
-LACKS_A_NAME = re.compile(r"has no field|is not in scope|has no `|was not admitted|is no name|operand is missing|expected the end|cannot continue")
+LACKS_A_NAME = re.compile(
+    r"has no field|is not in scope|has no `|was not admitted|is no name|operand is missing|expected the end|cannot continue")
 PLACE = re.compile(r"^(?:note: )?(?:what antt said .*?: )?(?:\./)?((?:src|proofs)/\S+?):(\d+):\d+: (.*)$", re.M)
+PIPED = {"stdin": subprocess.DEVNULL, "stdout": subprocess.PIPE, "stderr": subprocess.STDOUT, "text": True, "errors": "replace", "check": False}
 
 
 def free():
@@ -42,55 +44,19 @@ def free():
         return 1024 * int(re.search(r"MemAvailable:\s+(\d+)", it.read())[1])
 
 
-def wait_for_memory():
-    """Waits until memory is free for another check, but not for ever: others may use it for longer."""
-    end = time.monotonic() + LONGEST
-    while free() < FREE and time.monotonic() < end:
-        time.sleep(5)
-
-
-def edits_of(crate):
-    """Returns a crate's mutants, the paths of files."""
-    folders = [f"{ROOT}/crates/{crate}/{it}" for it in ("must-fail", "mutants")]
-    return [f"{at}/{name}" for at in folders if os.path.isdir(at) for name in sorted(os.listdir(at)) if not name.endswith(".md")]
-
-
 def name_of(edit):
     """Returns the name of a mutant, CRATE/EDIT."""
     return f"{edit.split('/')[-3]}/{os.path.basename(edit).removesuffix('.edit')}"
-
-
-def edited(edit, folder):
-    """Returns the files of a crate that an edit changes, as they are and as it makes them; instead of these why it can't be applied."""
-    texts, path, old = {}, None, None
-    with open(edit, encoding="utf-8") as it:
-        lines = it.read().split("\n")
-    for line in lines:
-        if line.startswith("file: "):
-            path = line[len("file: ") :].strip()
-        elif line.startswith("old: "):
-            old = line[len("old: ") :]
-        elif line.startswith("new:"):
-            if not path or old is None or not os.path.isfile(f"{folder}/{path}"):
-                return None, "a 'new:' line has no file or no 'old:' line before it"
-            if path not in texts:
-                with open(f"{folder}/{path}", encoding="utf-8") as it:
-                    texts[path] = [it.read()] * 2
-            was, now = texts[path]
-            if now.count(old) != 1:
-                return None, f"an 'old:' text is in {path} {now.count(old)} times, and not once"
-            texts[path], old = [was, now.replace(old, line[len("new:") :].removeprefix(" "))], None
-    return (texts, None) if any(was != now for was, now in texts.values()) else (None, "it changes nothing")
 
 
 # ---- All mutants, by `rt must-fail`.
 
 
 def proved_copy(room, crates):
-    """Proves these crates, copies the repository without its mutants, and returns why a crate isn't proved there, or None. `rt` takes over in the
-    copy what was proved of the same text, so this takes seconds."""
+    """Proves these crates, copies the repository without its mutants, and returns why a crate isn't proved there, or None. `rt` takes over
+    in the copy what was proved of the same text, so this takes seconds."""
     if subprocess.run([sys.executable, f"{ROOT}/gate/prove.py", *crates], check=False).returncode:
-        return "it is not proved as it is, so its mutants were not tried"
+        return "its crate is not proved as it is, so it was not tried"
     shutil.copytree(f"{ROOT}/crates", f"{room}/crates", ignore=shutil.ignore_patterns("out", "mutants", "must-fail"))
     shutil.copytree(f"{ROOT}/gate", f"{room}/gate")
     for it in filter(lambda it: os.path.isfile(f"{ROOT}/{it}"), ("crates.txt", "HANDLES")):
@@ -98,7 +64,7 @@ def proved_copy(room, crates):
     # (it is the top of a repository)
     os.mkdir(f"{room}/.git")
     ran = subprocess.run([sys.executable, f"{room}/gate/prove.py", *crates], stdout=subprocess.DEVNULL, check=False)
-    return "its files were changed meanwhile, so its mutants were not tried" if ran.returncode else None
+    return "files were changed meanwhile, so it was not tried" if ran.returncode else None
 
 
 def is_refused(said):
@@ -106,7 +72,7 @@ def is_refused(said):
     return said.startswith(("refused, as it must be: ", "refused, as it must be (only because a proof file"))
 
 
-def tried(room, crate, edits, flags):
+def tried(room, crate, edits):
     """Tries edits of a crate in a copy of the repository, and returns what `rt must-fail` says of each."""
     folder = f"{room}/crates/{crate}/must-fail"
     shutil.rmtree(folder, ignore_errors=True)
@@ -115,8 +81,7 @@ def tried(room, crate, edits, flags):
         shutil.copy(it, folder)
     # (by its own estimate of memory `rt` would try only two or three of a large crate at a time)
     lanes = str(max(1, min(len(os.sched_getaffinity(0)), free() // MEMORY)))
-    ran = subprocess.run(["rt", "must-fail", *flags, crate], cwd=room, env={"RT_JOBS": lanes, **os.environ}, stdin=subprocess.DEVNULL,
-                         stdout=subprocess.PIPE, stderr=subprocess.STDOUT, text=True, errors="replace", check=False)
+    ran = subprocess.run(["rt", "must-fail", crate], cwd=room, env={"RT_JOBS": lanes, **os.environ}, **PIPED)
     said = dict(re.findall(r"^rt: must-fail \w+/(\S+\.edit): (.*)$", ran.stdout, re.M))
     last = " / ".join(ran.stdout.rstrip().split("\n")[-3:])
     return {it: said.get(os.path.basename(it), f"it was not tried: {last}") for it in edits}
@@ -124,7 +89,7 @@ def tried(room, crate, edits, flags):
 
 def chosen(words):
     """Returns the mutants that the arguments name by crate; an argument that names none ends the run."""
-    every = {crate: edits_of(crate) for crate in reader.crates()}
+    every = {crate: reader.edits_of(f"{ROOT}/crates/{crate}") for crate in reader.crates()}
     names = {name_of(it) for edits in every.values() for it in edits}
     for it in words:
         if it not in names and not every.get(it):
@@ -133,27 +98,22 @@ def chosen(words):
     return {crate: edits for crate, edits in found.items() if edits}
 
 
-def try_all(words, flags):
-    """Tries the mutants that the arguments name, and returns how many are refused, and why others aren't by their names."""
-    every = chosen(words)
-    count, done, why, now, ended = sum(map(len, every.values())), 0, {}, "", threading.Event()
-    told = lambda: f"{done} of {count} mutants tried, {len(why)} not refused; now {now}"
-    threading.Thread(target=each_minute, args=(ended, told), daemon=True).start()
+def try_all(words):
+    """Tries the mutants that the arguments name, and returns what was found of each: whether it is refused, and why."""
+    every, found, ended = chosen(words), {}, threading.Event()
+    parts = [(crate, edits[at : at + AT_ONCE]) for crate, edits in every.items() for at in range(0, len(edits), AT_ONCE)]
     with tempfile.TemporaryDirectory(prefix="mutants-") as room:
         lacking = proved_copy(room, every)
         if lacking:
-            return 0, dict.fromkeys(every, lacking)
-        for crate, edits in every.items():
-            for at in range(0, len(edits), AT_ONCE):
-                part = edits[at : at + AT_ONCE]
-                now = f"{crate} {at + 1} to {at + len(part)} of {len(edits)}"
-                for edit, said in tried(room, crate, part, flags).items():
-                    print(f"{name_of(edit)}: {said[:200]}")
-                    why.update({} if is_refused(said) else {name_of(edit): said})
-                done += len(part)
-                say(f"{now} tried; {done} of {count}, {len(why)} not refused")
+            return {edit: (False, lacking) for _, part in parts for edit in part}
+        told = lambda: f"{len(found)} of {sum(map(len, every.values()))} mutants tried; now from {name_of(part[0])} on"
+        part = parts[0][1]
+        threading.Thread(target=each_minute, args=(ended, told), daemon=True).start()
+        for crate, part in parts:
+            found.update((edit, (is_refused(said), said)) for edit, said in tried(room, crate, part).items())
+            print("\n".join(f"{name_of(edit)}: {found[edit][1][:200]}" for edit in part), flush=True)
     ended.set()
-    return count - len(why), why
+    return found
 
 
 # ---- Those of changed functions, by the compiler.
@@ -183,7 +143,7 @@ def changed_lines():
 
 def functions_of(edit, folder):
     """Returns the functions in whose bodies all changes of an edit are, by their paths; nothing if it changes something else, too."""
-    found, texts = {}, edited(edit, folder)[0] or {}
+    found, texts = {}, reader.edited(edit, folder)[0] or {}
     for path, (was, now) in texts.items():
         was, now = was.split("\n"), now.split("\n")
         inside = [it for it in reader.functions(folder) if it.file == f"{folder}/{path}" and it.body is not None]
@@ -196,19 +156,20 @@ def functions_of(edit, folder):
 
 
 def changed(lines):
-    """Returns at most MOST mutants of functions that have one of these lines, each with the functions that it changes; others for another commit."""
+    """Returns at most MOST mutants of functions that have one of these lines, each with the functions that it changes; others for another
+    commit."""
     found, head = [], git("rev-parse", "HEAD")
     for crate in {path.split("/")[1] for path in lines} & {*reader.crates(ROOT)}:
         folder = f"{ROOT}/crates/{crate}"
         names = {it.path for it in reader.functions(folder)
                  if not lines.get(os.path.relpath(it.file, ROOT), set()).isdisjoint(range(it.first, it.last + 1))}
-        tries = {it: functions_of(it, folder) for it in edits_of(crate)}
+        tries = {it: functions_of(it, folder) for it in reader.edits_of(folder)}
         found += [(edit, functions) for edit, functions in tries.items() if not names.isdisjoint(functions)]
     return sorted(found, key=lambda it: zlib.crc32(f"{head} {name_of(it[0])}".encode()))[:MOST]
 
 
 def link(source, to):
-    """Gives a proof that was kept a second name, since a check replaces such a file and never changes it; another file is copied."""
+    """Gives a proof or a library a second name, since a check replaces such a file and never changes it; another file is copied."""
     try:
         os.link(source, to) if source.endswith(".oantt") or "/out/rlib/" in source else shutil.copy2(source, to)
     except OSError:
@@ -219,7 +180,8 @@ class Compiler:
     """Checks functions of crates by the compiler, over the libraries that were built in this checkout."""
 
     def __init__(self, room):
-        self.room, self.crates = room, reader.crates()
+        # (until `end` a check waits for memory: proofs may run beside it)
+        self.room, self.crates, self.end = room, reader.crates(), time.monotonic() + 900
         for it in self.crates:
             if os.path.isdir(f"{ROOT}/crates/{it}/out/rlib/{it}.rlib"):
                 shutil.copytree(f"{ROOT}/crates/{it}/out/rlib/{it}.rlib", f"{room}/rlib/{it}.rlib", copy_function=link)
@@ -228,8 +190,8 @@ class Compiler:
         """Returns the command that checks these functions of a crate, and keeps their proofs in a folder."""
         kit, own = reader.kit(), f"{self.room}/rlib"
         libraries = {"std": f"{kit}/rlibs", **{it: own if it in self.crates else f"{kit}/rlibs" for it in self.crates[crate]}}
-        return [f"{kit}/bin/rattle", "check", "--crate-name", crate, "src/lib.rt", "--links", f"{crate}=", "--jobs", "1", "--incremental", kept,
-                "--antt-project", f"{kit}/rattle/logic/antt-project.json", "--logic-built", f"{kit}/logic_built",
+        return [f"{kit}/bin/rattle", "check", "--crate-name", crate, "src/lib.rt", "--links", f"{crate}=", "--jobs", "1",
+                "--antt-project", f"{kit}/rattle/logic/antt-project.json", "--logic-built", f"{kit}/logic_built", "--incremental", kept,
                 *(word for name, at in libraries.items() for word in ("--extern", f"{name}={at}/{name}.rlib")),
                 "-L", f"dependency={kit}/rlibs", "-L", f"dependency={own}", *(word for it in sorted(functions) for word in ("--only", it))]
 
@@ -242,36 +204,35 @@ class Compiler:
                 with open(f"{folder}/{path}", "w", encoding="utf-8") as it:
                     it.write(text)
             for _ in range(2):
-                wait_for_memory()
-                how = {"stdin": subprocess.DEVNULL, "stdout": subprocess.PIPE, "stderr": subprocess.STDOUT, "text": True, "errors": "replace"}
-                ran = subprocess.run(self.words(crate, functions, kept), cwd=folder, check=False, **how)
+                while free() < FREE and time.monotonic() < self.end:
+                    time.sleep(5)
+                ran = subprocess.run(self.words(crate, functions, kept), cwd=folder, **PIPED)
                 if ran.returncode != -signal.SIGKILL:
                     # (else it was most likely for memory)
                     break
         return ran.returncode, ran.stdout.rstrip("\n")
 
 
-def refusal(crate, functions, said):
-    """Returns an error of a changed function that isn't proved, in its lines or in its own proof, among what a check said; None if there is none."""
-    states = dict(re.findall(rf"^fn {crate}::(\S+): (.*)$", said, re.M))
-    for path, function in functions.items():
-        for name in (it for it in states if it == path or it.endswith(f"::{path}")):
-            own, state = f"proofs/{name.replace('::', '/')}/", states[name]
-            if not re.match("not proved|no proof: expected answers", state) or "it calls" in state:
-                continue
-            for file, line, error in PLACE.findall(said):
-                is_inside = function.file.endswith(f"/{crate}/{file}") and function.first < int(line) <= function.last + 1
-                if (is_inside or file.startswith(own)) and not LACKS_A_NAME.search(error):
-                    return f"{file}:{line}: {error}"
-    return None
+def refusal(status, said):
+    """Returns an error by which a check refuses a mutant; None if it proves all that it was asked for, or tells no more than that a name was
+    lost, that the text can't be read or that the borrow checker doesn't cover it."""
+    counted = re.search(r"^only=(\d+) proved=(\d+)\Z", said, re.M)
+    is_refused = status == 1 and counted and int(counted[2]) < int(counted[1])
+    if not is_refused or not re.search(r"^fn \S+: (not proved|no proof: expected answers)", said, re.M):
+        return None
+    return next((f"{file}:{line}: {error}" for file, line, error in PLACE.findall(said) if not LACKS_A_NAME.search(error)), None)
 
 
-def try_of(compiler, crate, edits, workers):
-    """Tries mutants of a crate, each with the functions that it changes, and returns what was found of each: whether it is refused, and why."""
+def tried_alone(compiler, crate, edits):
+    """Tries mutants of a crate, each with the functions that it changes, and returns what was found of each: whether it is refused, and
+    why. The proof of a function uses the contracts of others and never their bodies, so only these functions are checked."""
     kept, folder = f"{compiler.room}/{crate}", f"{ROOT}/crates/{crate}"
-    functions = {name: it for _, own in edits for name, it in own.items()}
-    status, said = compiler.check(crate, {}, functions, kept)
-    counted = re.fullmatch(r"only=(\d+) proved=(\d+)", said.split("\n")[-1])
+    # (status 2: a check names a function otherwise)
+    for asked in (lambda own: {*own}, lambda own: {reader.module_of(it.file) for it in own.values()}):
+        status, said = compiler.check(crate, {}, set().union(*(asked(own) for _, own in edits)), kept)
+        if status != 2:
+            break
+    counted = re.search(r"^only=(\d+) proved=(\d+)\Z", said, re.M)
     if status or not counted or counted[1] != counted[2]:
         return {edit: (False, f"its functions are not proved as they are: {said[-300:]}") for edit, _ in edits}
 
@@ -279,35 +240,36 @@ def try_of(compiler, crate, edits, workers):
         edit, own = found
         with tempfile.TemporaryDirectory(dir=compiler.room) as over:
             shutil.copytree(kept, f"{over}/kept", copy_function=link)
-            texts = {path: now for path, (_, now) in edited(edit, folder)[0].items()}
-            status, said = compiler.check(crate, texts, own, f"{over}/kept")
-        why = refusal(crate, own, said) if status == 1 and re.search(r"^only=\d+ proved=\d+\Z", said, re.M) else None
-        return edit, (bool(why), why or f"NOT REFUSED (status {status}): {' / '.join(said.split(chr(10))[-3:])}")
+            texts = {path: now for path, (_, now) in reader.edited(edit, folder)[0].items()}
+            status, said = compiler.check(crate, texts, asked(own), f"{over}/kept")
+        why, last = refusal(status, said), " / ".join(said.split("\n")[-3:])
+        return edit, (bool(why), why or f"NOT REFUSED: its check ended with status {status}: {last}")
 
-    return dict(workers.map(one, edits))
+    with ThreadPoolExecutor(2) as workers:
+        return dict(workers.map(one, edits))
 
 
 def try_changed():
-    """Tries mutants of changed functions, and returns how many are refused, and why others aren't by their names."""
+    """Tries mutants of changed functions, and returns what was found of each: whether it is refused, and why."""
     os.nice(5)
-    tries, begun, why = changed(changed_lines()), time.time(), {}
-    say(f"{len(tries)} mutants of functions that were changed in the {HOURS} hours before the last commit")
-    with tempfile.TemporaryDirectory(prefix="mutants-") as room, ThreadPoolExecutor(2) as workers:
-        compiler = Compiler(room)
-        for crate in dict.fromkeys(name_of(edit).partition("/")[0] for edit, _ in tries):
-            for edit, (refused, text) in try_of(compiler, crate, [it for it in tries if name_of(it[0]).startswith(f"{crate}/")], workers).items():
-                say(f"{name_of(edit)}: {'refused' if refused else 'NOT REFUSED'}: {text[:200]} ({clock(time.time() - begun)})")
-                why.update({} if refused else {name_of(edit): text})
-    return len(tries) - len(why), why
+    found = {}
+    with tempfile.TemporaryDirectory(prefix="mutants-") as room:
+        # (`rt ci` may put back what was built before, once it ends)
+        compiler, tries = Compiler(room), changed(changed_lines())
+        say(f"{len(tries)} mutants of functions that were changed in the {HOURS} hours before the last commit")
+        for crate in sorted({name_of(edit).partition("/")[0] for edit, _ in tries}):
+            found.update(tried_alone(compiler, crate, [it for it in tries if name_of(it[0]).startswith(f"{crate}/")]))
+            say(f"{crate}: {len(found)} of {len(tries)} tried")
+    return found
 
 
 def main(words):
-    flags = [it for it in words if it == "--anew"]
-    refused, why = try_changed() if words == ["--changed"] else try_all([it for it in words if it not in flags], flags)
-    for name, text in why.items():
-        print(f"FAILED: {name}: {text[:600]}")
-    print(f"{refused} refused, {len(why)} not")
-    return 1 if why or not refused and words != ["--changed"] else 0
+    found = try_changed() if words == ["--changed"] else try_all(words)
+    why = {name_of(edit): said for edit, (refused, said) in found.items() if not refused}
+    for name, said in why.items():
+        print(f"FAILED: {name}: {said[:600]}")
+    print(f"{len(found) - len(why)} refused, {len(why)} not")
+    return 1 if why else 0
 
 
 if __name__ == "__main__":

@@ -25,8 +25,6 @@ PROGRAM = f"{ROOT}/crates/bin65/out/bin65"
 SUM = f"{PROGRAM}.sum"
 # What a proof takes, by which `rt` decides how many run at a time; in rare cases it takes 6 GB.
 MEMORY = 4_000_000_000
-
-
 def load():
     """Returns the toolchain's command `rt` as a module. What another checkout on this machine proved of the same text is taken over."""
     sys.dont_write_bytecode = True
@@ -51,22 +49,21 @@ def sum_of(files, begun=b""):
 
 
 def log_of(name):
+    """Returns the file that has what a crate's proof printed, and makes its folder."""
+    os.makedirs(f"{ROOT}/crates/{name}/out", exist_ok=True)
     return f"{ROOT}/crates/{name}/out/prove.log"
 
 
 def lines_of(name):
-    """Returns the lines of a crate's log."""
-    try:
-        with open(log_of(name), errors="replace") as it:
-            return it.read().split("\n")
-    except OSError:
-        return []
+    """Returns the lines that a crate's proof has printed."""
+    with open(log_of(name), "a+", errors="replace") as it:
+        it.seek(0)
+        return it.read().split("\n")
 
 
 def prove(crate, jobs):
     """Builds a library, and returns why it isn't proved, or None."""
     crate = copy.copy(crate)
-    os.makedirs(f"{crate.folder}/out", exist_ok=True)
     with open(log_of(crate.name), "w", errors="replace") as crate.out:
         try:
             if not crate.build_rlib(["--jobs", str(jobs)], anew=False):
@@ -118,11 +115,10 @@ class Proofs:
 
     def build(self):
         """Builds the program, and returns whether it is there."""
-        begun, folder = time.monotonic(), f"{ROOT}/crates/bin65"
-        os.makedirs(f"{folder}/out", exist_ok=True)
+        begun = time.monotonic()
         # (with no arguments the program prints 'bad arguments', which is no failure of the build)
         with open(log_of("bin65"), "w") as log:
-            subprocess.run(["rt", "run"], cwd=folder, stdin=subprocess.DEVNULL, stdout=log, stderr=subprocess.STDOUT, check=False)
+            subprocess.run(["rt", "run"], cwd=f"{ROOT}/crates/bin65", stdin=subprocess.DEVNULL, stdout=log, stderr=log, check=False)
         self.took["bin65"] = time.monotonic() - begun
         if not os.path.isfile(PROGRAM):
             self.why["bin65"] = first_reason(lines_of("bin65"))
@@ -134,7 +130,7 @@ def chosen(crates, names):
     unknown = [name for name in names if not any(it.name == name and not it.is_program for it in crates)]
     if unknown:
         sys.exit(f"{unknown[0]} is no library of crates.txt")
-    asked = [it for it in crates if it.name in names or not names and it.is_program]
+    asked = [it for it in crates if (it.name in names if names else it.name == "bin65")]
     return [it for it in crates if not it.is_program and (it in asked or any(it in that.below() for that in asked))]
 
 

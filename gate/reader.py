@@ -1,4 +1,4 @@
-"""Reads the repository's crates: what each depends on, and by the tokens that the toolchain prints, their functions and their code."""
+"""Reads the repository's crates: what each depends on, its mutants, and by the tokens that the toolchain prints, its functions and its code."""
 import functools
 import glob
 import json
@@ -10,8 +10,8 @@ from typing import NamedTuple
 ROOT = os.path.dirname(os.path.dirname(os.path.realpath(__file__)))
 ROW = re.compile(r'^(\d+) (\d+) (\d+) (\w+) (".*")$')
 # The type or trait whose functions a block has: `impl Type`, `impl Trait<With> for Type`, `trait Type`.
-IMPL = re.compile(r"impl(?:<.*?>)? (?:(?P<of>[\w:]+)(?:<(?P<with>[\w:]+).*>)? for )?(?P<type>[\w:]+)")
-CLOSED_BY = {"{": "}", "(": ")", "[": "]"}
+IMPL = re.compile(r"impl(?:<(?P<own>.*?)>)? (?:(?P<of>[\w:]+)(?:<(?P<with>.*)>)? for )?(?P<type>[\w:]+)")
+
 
 
 class Function(NamedTuple):
@@ -117,11 +117,14 @@ def clauses_of(text, tokens):
 
 
 def owner_of(header):
-    """Returns the type or trait that a block is about, and how a check names it: by the type, and the trait with its parameter."""
+    """Returns the type or trait that a block is about, and how a check names it: by the type, the trait, and what this is given."""
     found = IMPL.match(header)
-    words = [found["type"], found["of"] or "", found["with"] or ""] if found else [re.search(r"trait (\w+)", header)[1]]
-    words = [it.rpartition("::")[2] for it in words]
-    return words[0], words[0] if words[1:2] == ["Drop"] else "".join(words)
+    if not found:
+        return re.search(r"trait (\w+)", header)[1], re.search(r"trait (\w+)", header)[1]
+    own = {it.removeprefix("const ").partition(":")[0].strip() for it in (found["own"] or "").split(",")}
+    given = [it for it in re.findall(r"(?<!')\b[A-Za-z_][\w:]*", found["with"] or "") if it not in own]
+    words = [it.rpartition("::")[2] for it in (found["type"], found["of"] or "", *given)]
+    return words[0], words[0] if words[1] == "Drop" else "".join(words)
 
 
 def module_of(file):
@@ -159,3 +162,31 @@ def functions_in(file, text, tokens):
 def functions(folder):
     """Returns the functions of a crate."""
     return [it for file, (text, tokens) in tokens_of(sources(folder)).items() for it in functions_in(file, text, tokens)]
+
+
+def edits_of(folder):
+    """Returns the files of a crate's mutants."""
+    return sorted(glob.glob(f"{folder}/must-fail/*.edit")) + sorted(glob.glob(f"{folder}/mutants/*.edit"))
+
+
+def edited(edit, folder):
+    """Returns the files of a crate that an edit changes, as they are and as it makes them; instead of these why it can't be applied."""
+    texts, path, old = {}, None, None
+    with open(edit, encoding="utf-8") as it:
+        lines = it.read().split("\n")
+    for line in lines:
+        if line.startswith("file: "):
+            path = line[len("file: ") :].strip()
+        elif line.startswith("old: "):
+            old = line[len("old: ") :]
+        elif line.startswith("new:"):
+            if not path or old is None or not os.path.isfile(f"{folder}/{path}"):
+                return None, "a 'new:' line has no file or no 'old:' line before it"
+            if path not in texts:
+                with open(f"{folder}/{path}", encoding="utf-8") as it:
+                    texts[path] = [it.read()] * 2
+            was, now = texts[path]
+            if now.count(old) != 1:
+                return None, f"an 'old:' text is in {path} {now.count(old)} times, and not once"
+            texts[path], old = [was, now.replace(old, line[len("new:") :].removeprefix(" "))], None
+    return (texts, None) if any(was != now for was, now in texts.values()) else (None, "it changes nothing")

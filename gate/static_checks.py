@@ -11,7 +11,6 @@ import sys
 
 import check_docs
 import check_streaming
-import mutants
 import provenance
 import reader
 
@@ -33,10 +32,11 @@ def looked_at(root):
     for crate in reader.crates(root):
         folder = f"{root}/crates/{crate}"
         yield crate, check_streaming.why_kept(crate, reader.code_of(folder))
-        edits = mutants.edits_of(crate)
-        if len({os.path.basename(it) for it in edits}) < len(edits):
-            yield f"{crate}: mutants", "two have the same name"
-        yield from ((os.path.relpath(it, root), mutants.edited(it, folder)[1] if it.endswith(".edit") else "it is no edit") for it in edits)
+        edits = reader.edits_of(folder)
+        others = [it for it in glob.glob(f"{folder}/mutants/*") + glob.glob(f"{folder}/must-fail/*") if not it.endswith((".edit", ".md"))]
+        if others or len({os.path.basename(it) for it in edits}) < len(edits):
+            yield f"{crate}: mutants", f"{others[0]} is no edit" if others else "two have the same name"
+        yield from ((os.path.relpath(it, root), reader.edited(it, folder)[1]) for it in edits)
 
 
 def main():

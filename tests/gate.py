@@ -42,8 +42,8 @@ impl<T> Counter<T> {
     }
 }
 
-impl<T: Drop> From<AllocFailed<T>> for Counter<T> {
-    fn from(e: AllocFailed<T>) -> Counter<T> {
+impl<T: Drop> From<AllocFailed<T, LIMIT>> for Counter<T> {
+    fn from(e: AllocFailed<T, LIMIT>) -> Counter<T> {
         Counter { n: LIMIT }
     }
 }
@@ -91,7 +91,7 @@ def reading(tree):
     one, two = found.get("counts::next"), found.get("Counter::twice")
     lines = SOURCE.split("\n")
     return {
-        "functions": [*found] == ["counts::next", "Counter::twice", "CounterFromAllocFailed::from"],
+        "functions": [*found] == ["counts::next", "Counter::twice", "CounterFromAllocFailedLIMIT::from"],
         "lines": (lines[one.first], lines[one.body], lines[one.last]) == ("/// One more: fn none() { }.", "{", "}"),
         "clauses": [(name, text.strip()) for name, text in one.clauses] == [("", "n < 9"), ("added", "result ≡ n + 1")],
         "a clause with a record": len(two.clauses) == 1 and two.clauses[0][1].strip().endswith("}"),
@@ -103,30 +103,28 @@ def reading(tree):
 
 def edits(tree):
     """Checks which edits can be applied, and which functions they change."""
-    why = {name: mutants.edited(tree.edit(name), tree.folder)[1] for name in EDITS}
+    why = {name: reader.edited(tree.edit(name), tree.folder)[1] for name in EDITS}
     own = {name: [*mutants.functions_of(tree.edit(name), tree.folder)] for name in EDITS}
     return {
         "edits that can't be applied": {name for name, it in why.items() if it} == {"not_there", "twice_there"},
         "functions of edits": own == {name: it[2] for name, it in EDITS.items()},
-        "the text that an edit makes": "    n + 2\n" in mutants.edited(tree.edit("adds_two"), tree.folder)[0]["src/counts.rt"][1],
+        "the text that an edit makes": "    n + 2\n" in reader.edited(tree.edit("adds_two"), tree.folder)[0]["src/counts.rt"][1],
     }
 
 
-def refusals(tree):
+def refusals():
     """Checks when a mutant counts as refused."""
-    one = mutants.functions_of(tree.edit("adds_two"), tree.folder)
-    two = mutants.functions_of(tree.edit("once"), tree.folder)
-    says = lambda place, state, function="counts::next": f"{place}\nfn made::{function}: {state}\nonly=1 proved=0"
+    says = lambda place, state, count="only=1 proved=0": f"{place}\nfn made::counts::next: {state}\n{count}"
+    place, lost = "src/counts.rt:11:5: it is not proved", "./proofs/counts/next/Answers.antt:3:1: error: `c` has no field `n`"
     rows = (
-        ("in its lines", one, True, says("src/counts.rt:11:5: it is not proved", "not proved")),
-        ("in its own proof", one, True, says("note: ./proofs/counts/next/Answers.antt:3:1: error: no", "not proved")),
-        ("a method, by its type's module", two, True, says("src/counts.rt:20:9: it is not proved", "not proved", "kinds::Counter::twice")),
-        ("still proved", one, False, says("src/counts.rt:11:5: a note", "proved")),
-        ("in other lines", one, False, says("src/counts.rt:20:9: it is not proved", "not proved")),
-        ("of another function", one, False, says("src/counts.rt:11:5: it is not proved", "not proved", "counts::other")),
-        ("nothing found", one, False, says("", "not proved")),
-        ("it calls one that isn't proved", one, False, says("src/counts.rt:11:5: it", "no proof: it calls `made::a`, which is not proved")),
-        ("a name that was lost", one, False, says("./proofs/counts/next/Answers.antt:3:1: error: `c` has no field `n`", "not proved")),
+        ("in code", True, 1, says(place, "not proved")),
+        ("in a proof", True, 1, says("note: ./proofs/counts/next/Answers.antt:3:1: error: no", "no proof: expected answers")),
+        ("still proved", False, 0, says("src/counts.rt:11:5: a note", "proved", "only=1 proved=1")),
+        ("not covered by the borrow checker", False, 1, says(place, "no proof: the borrow checker doesn't cover it")),
+        ("without an error", False, 1, says("", "not proved")),
+        ("a name that was lost", False, 1, says(lost, "not proved")),
+        ("not read", False, 1, "error[parse]: no"),
+        ("no verdict", False, 3, says(place, "could not tell")),
     )
     said = (
         ("by a goal", True, "refused, as it must be: src/one.rt:3:1: error: no proof"),
@@ -137,7 +135,7 @@ def refusals(tree):
         ("not read", False, "BAD EDIT: the prover cannot read the edited text"),
     )
     return {
-        **{f"refused: {name}": bool(mutants.refusal("made", functions, text)) is refused for name, functions, refused, text in rows},
+        **{f"refused: {name}": bool(mutants.refusal(status, text)) is refused for name, refused, status, text in rows},
         **{f"rt must-fail: {name}": mutants.is_refused(text) is refused for name, refused, text in said},
     }
 
@@ -249,10 +247,10 @@ def citations(tree):
 
 
 def main():
-    checks = {**failures(), **starts()}
+    checks = {**refusals(), **failures(), **starts()}
     with tempfile.TemporaryDirectory() as room:
         tree = Tree(room)
-        for part in (reading, edits, refusals, landing, citations):
+        for part in (reading, edits, landing, citations):
             checks |= part(tree)
     return results.report(checks)
 

@@ -29,9 +29,7 @@ FAILURE = re.compile(r"FAILED|failed:|NOT |not proved|Error|error|: expected", r
 # These need no program and take a minute together.
 TEXTS = [
     ("texts and layout", ["python3", "gate/static_checks.py"]),
-    ("what the code keeps", ["python3", "tests/check_streaming.py"]),
     ("the tools of the gate", ["python3", "tests/gate.py"]),
-    ("texts of others", ["python3", "tests/provenance.py"]),
     ("the renaming tool", ["python3", "tests/rename.py"]),
     ("links of pages", ["python3", "tests/links.py"]),
     ("types of work65", ["python3", "tests/workbench_types.py"]),
@@ -208,7 +206,8 @@ def main():
         missing.lines = ["FAILED: none was run, since rt ci built no program"]
         parts.append(missing)
     used = os.times()
-    say(f"The gate took {clock(time.monotonic() - begun)} on {processors} processors, {clock(used.children_user + used.children_system)} of these; the longest parts:")
+    say(f"The gate took {clock(time.monotonic() - begun)} on {processors} processors, and "
+        f"{clock(used.children_user + used.children_system)} of one; the longest parts:")
     for it in sorted(parts, key=lambda it: -it.seconds)[:8]:
         print(f"{clock(it.seconds):>10}  {it.name}")
     for it in filter(lambda it: it.failed, parts):

@@ -1,5 +1,5 @@
-"""Checks in the code what no contract can state, since contracts describe contents only: the linker builds no object of a module, none of its types
-keeps a record, and the assembler has no list of statements. tests/measured.py measures their memory."""
+"""Checks in the code what no contract can state, since contracts describe contents only: the linker builds no object of a module, none of
+its types keeps a record, and the assembler has no list of statements. tests/measured.py measures their memory."""
 import re
 
 # A linker that receives records one by one builds no object of a module, and keeps none of its records or items.
@@ -36,7 +36,7 @@ def end_of_group(tokens, at):
 
 
 def types_in(tokens):
-    """Returns the types that the code declares: the name, and the tokens of the declaration, fields of proofs included."""
+    """Returns the types that the code declares: the name, and the tokens of the declaration."""
     found = []
     for at, word in enumerate(tokens[:-1]):
         if word in TYPES and re.match(r"[A-Za-z_]\w*$", tokens[at + 1]):
@@ -60,8 +60,8 @@ def holders(tokens, names):
 
 
 def lists_of(tokens, names):
-    """Returns the first type in the code that holds several of these values: any generic type, array, slice or tuple around the name but an option
-    or a result."""
+    """Returns the first type in the code that holds several of these values: any generic type, array, slice or tuple around the name but
+    an option or a result."""
     opened = []
     for at, word in enumerate(tokens):
         if word in ("<", "[", "("):
@@ -86,7 +86,9 @@ def why_kept(crate, code):
     if crate in LINKER:
         named = sorted(aliases(tokens, "Builder", "Object", "read_object") & {*tokens})
         held = holders(tokens, aliases(tokens, "Record", "Item")) or lists_of(tokens, aliases(tokens, "Record", "Item"))
-        return f"the linker makes a module's object: it names {', '.join(named)}" if named else f"the linker keeps records: {held}" if held else None
+        if named:
+            return f"the linker makes a module's object: it names {', '.join(named)}"
+        return f"the linker keeps records: {held}" if held else None
     if crate in ASSEMBLER:
         names = aliases(tokens, "Statement")
         held = holders(tokens, names) or lists_of(tokens, names)

@@ -102,12 +102,12 @@ def try_all(words):
     """Tries the mutants that the arguments name, and returns what was found of each: whether it is refused, and why."""
     every, found, ended = chosen(words), {}, threading.Event()
     parts = [(crate, edits[at : at + AT_ONCE]) for crate, edits in every.items() for at in range(0, len(edits), AT_ONCE)]
+    part = parts[0][1] if parts else []
     with tempfile.TemporaryDirectory(prefix="mutants-") as room:
-        lacking = proved_copy(room, every)
+        lacking = proved_copy(room, every) if parts else None
         if lacking:
             return {edit: (False, lacking) for _, part in parts for edit in part}
         told = lambda: f"{len(found)} of {sum(map(len, every.values()))} mutants tried; now from {name_of(part[0])} on"
-        part = parts[0][1]
         threading.Thread(target=each_minute, args=(ended, told), daemon=True).start()
         for crate, part in parts:
             found.update((edit, (is_refused(said), said)) for edit, said in tried(room, crate, part).items())

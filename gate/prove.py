@@ -38,13 +38,12 @@ def load():
     return rt
 
 
-def sum_of(files, begun=b""):
+def sum_of(files):
     """Returns a checksum of files, with their names."""
-    found = hashlib.sha256(begun)
-    for file in filter(os.path.isfile, files):
-        found.update(f"{os.path.relpath(file, ROOT)}\0".encode())
+    found = hashlib.sha256()
+    for file in files:
         with open(file, "rb") as it:
-            found.update(it.read() + b"\0")
+            found.update(f"{os.path.relpath(file, ROOT)}\0".encode() + it.read() + b"\0")
     return found.hexdigest()
 
 
@@ -138,8 +137,7 @@ def main(names):
     rt = load()
     os.chdir(ROOT)
     every = sorted(rt.rtlib.crates_below(ROOT), key=lambda it: len(it.below()))
-    version = subprocess.run(["rt", "version"], capture_output=True, check=True).stdout
-    sources = sum_of([f"{ROOT}/crates.txt", *(file for it in every for file in sorted(rt.rtlib.files_of(it.folder)))], version)
+    sources = sum_of([f"{reader.kit()}/KIT-ID", f"{ROOT}/crates.txt", *(file for it in every for file in sorted(rt.rtlib.files_of(it.folder)))])
     if not names and os.path.isfile(PROGRAM):
         if rt.rtlib.text_of(SUM) == sources + sum_of([PROGRAM]):
             return 0

@@ -107,9 +107,9 @@ class Proofs(Part):
     # Its lines about a mutant, a test or a run that failed.
     FAILED = re.compile(r"rt: (?!FAILED).*(FAILED|NOT REFUSED|NOT TRIED|BAD EDIT|was stopped by|ended with status|had not ended|differ first at)")
 
-    def __init__(self, is_built):
+    def __init__(self, when_built):
         super().__init__("rt ci", ["rt", "ci"])
-        self.is_built, self.block, self.reasons, self.ended, self.begun = is_built, [], [], {}, time.monotonic()
+        self.when_built, self.block, self.reasons, self.ended, self.begun = when_built, [], [], {}, time.monotonic()
         self.crates = reader.crates()
 
     def read(self, line):
@@ -131,7 +131,7 @@ class Proofs(Part):
         if found and not found[2] and not why:
             self.ended[found[1]] = time.monotonic() - self.begun
             if found[1] == "bin65":
-                self.is_built()
+                self.when_built()
 
     def progress(self):
         """Returns how many crates are proved, and which could be next: all those below them are."""

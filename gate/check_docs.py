@@ -1,8 +1,9 @@
-"""Checks the pages for those who verify or maintain bin65: calls, clauses, modules of definitions, names and files that they cite exist.
+"""Checks the pages for those who verify or maintain bin65: calls, clauses, modules of definitions, names and files that they
+cite exist.
 
-A row of PROVED has a claim, its calls, their clauses, and the modules of specs/ that define the clauses' terms, under a heading
-with the crate's name. A clause without a name is cited by a text that it contains, in parentheses; 'law' cites all clauses of a
-law; 'same' repeats the calls of the row before."""
+A row of PROVED has a claim, its calls, their clauses, and the modules of specs/ that define the clauses' terms, under a
+heading with the crate's name. A clause without a name is cited by a text that it contains, in parentheses; 'law' cites all
+clauses of a law; 'same' repeats the calls of the row before."""
 import functools
 import glob
 import os
@@ -91,7 +92,8 @@ def why_row(root, crate, cells):
         return f"no call of the row has the clause {lost[0]}"
     if idle := [it for it in found if it not in {call for _, call in there}]:
         return f"no clause of the row is one of {idle[0]}"
-    lost = [(other or crate, it) for other, it in MODULE.findall(modules) if not os.path.exists(module_file(root, other or crate, it))]
+    named = [(other or crate, it) for other, it in MODULE.findall(modules)]
+    lost = [it for it in named if not os.path.exists(module_file(root, *it))]
     return f"no such module: {' '.join(lost[0])}" if lost else None
 
 

@@ -1,5 +1,6 @@
-"""Checks in the code what no contract can state, since contracts describe contents only: the linker builds no object of a module, none of
-its types keeps a record, and the assembler has no list of statements. tests/measured.py measures their memory."""
+"""Checks in the code what no contract can state, since contracts describe contents only: the linker builds no object of a
+module, none of its types keeps a record, and the assembler has no list of statements. tests/measured.py measures their
+memory."""
 import re
 
 # A linker that receives records one by one builds no object of a module, and keeps none of its records or items.
@@ -60,8 +61,8 @@ def holders(tokens, names):
 
 
 def lists_of(tokens, names):
-    """Returns the first type in the code that holds several of these values: any generic type, array, slice or tuple around the name but
-    an option or a result."""
+    """Returns the first type in the code that holds several of these values: any generic type, array, slice or tuple around
+    the name but an option or a result."""
     opened = []
     for at, word in enumerate(tokens):
         if word in ("<", "[", "("):

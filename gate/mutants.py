@@ -4,10 +4,11 @@
 usage: mutants.py [CRATE[/EDIT]..]    those of mutants/ and must-fail/, of these crates (default: of all)
        mutants.py --changed           at most ten of functions that the last commits changed, for the gate
 
-`rt must-fail` tries the first, in a copy of the repository, over what the proofs of the crates kept; these are built first. It keeps each
-result on this machine by a checksum of all that it depends on, so an interrupted run goes on where it stopped. The second are tried by the
-compiler itself over the libraries that `rt ci` has just built in this checkout: it checks the functions that the mutants change and no
-others, while `rt must-fail` would prove the whole crate, and each library below it, again.
+`rt must-fail` tries the first, in a copy of the repository, over what the proofs of the crates kept; these are built first.
+It keeps each result on this machine by a checksum of all that it depends on, so an interrupted run goes on where it stopped.
+The second are tried by the compiler itself over the libraries that `rt ci` has just built in this checkout: it checks the
+functions that the mutants change and no others, while `rt must-fail` would prove the whole crate, and each library below it,
+again.
 Each minute a line tells how far it is; the last line is 'N refused, M not'."""
 import os
 import re
@@ -29,13 +30,13 @@ ROOT = reader.ROOT
 AT_ONCE = 24
 # A landing is what was committed in the hours before its last commit: a session is shorter, and its gate runs after it.
 HOURS, MOST = 4, 10
-# What a check of a mutant takes at most, and what has to be free before one begins beside proofs.
-MEMORY, FREE = 3_000_000_000, 6_000_000_000
+# How much memory has to be free before a check of a mutant begins beside proofs.
+FREE = 6_000_000_000
 # An error for such a reason says nothing of the contract.
 LACKS_A_NAME = re.compile(
     r"has no field|is not in scope|has no `|was not admitted|is no name|operand is missing|expected the end|cannot continue")
 PLACE = re.compile(r"^(?:note: )?(?:what antt said .*?: )?(?:\./)?((?:src|proofs)/\S+?):(\d+):\d+: (.*)$", re.M)
-PIPED = {"stdin": subprocess.DEVNULL, "stdout": subprocess.PIPE, "stderr": subprocess.STDOUT, "text": True, "errors": "replace", "check": False}
+PIPED = {"stdin": subprocess.DEVNULL, "stdout": subprocess.PIPE, "stderr": subprocess.STDOUT, "text": True, "errors": "replace"}
 
 
 def free():
@@ -53,8 +54,8 @@ def name_of(edit):
 
 
 def proved_copy(room, crates):
-    """Proves these crates, copies the repository without its mutants, and returns why a crate isn't proved there, or None. `rt` takes over
-    in the copy what was proved of the same text, so this takes seconds."""
+    """Proves these crates, copies the repository without its mutants, and returns why a crate isn't proved there, or None.
+    `rt` takes over in the copy what was proved of the same text, so this takes seconds."""
     if subprocess.run([sys.executable, f"{ROOT}/gate/prove.py", *crates], check=False).returncode:
         return "its crate is not proved as it is, so it was not tried"
     shutil.copytree(f"{ROOT}/crates", f"{room}/crates", ignore=shutil.ignore_patterns("out", "mutants", "must-fail"))
@@ -68,7 +69,8 @@ def proved_copy(room, crates):
 
 
 def is_refused(said):
-    """Returns whether `rt must-fail` says of a mutant that a proof refuses it; not a limit of the prover, nor the borrow checker alone."""
+    """Returns whether `rt must-fail` says of a mutant that a proof refuses it; not a limit of the prover, nor the borrow
+    checker alone."""
     return said.startswith(("refused, as it must be: ", "refused, as it must be (only because a proof file"))
 
 
@@ -79,9 +81,7 @@ def tried(room, crate, edits):
     os.makedirs(folder)
     for it in edits:
         shutil.copy(it, folder)
-    # (by its own estimate of memory `rt` would try only two or three of a large crate at a time)
-    lanes = str(max(1, min(len(os.sched_getaffinity(0)), free() // MEMORY)))
-    ran = subprocess.run(["rt", "must-fail", crate], cwd=room, env={"RT_JOBS": lanes, **os.environ}, **PIPED)
+    ran = subprocess.run(["rt", "must-fail", crate], cwd=room, check=False, **PIPED)
     said = dict(re.findall(r"^rt: must-fail \w+/(\S+\.edit): (.*)$", ran.stdout, re.M))
     last = " / ".join(ran.stdout.rstrip().split("\n")[-3:])
     return {it: said.get(os.path.basename(it), f"it was not tried: {last}") for it in edits}
@@ -142,7 +142,8 @@ def changed_lines():
 
 
 def functions_of(edit, folder):
-    """Returns the functions in whose bodies all changes of an edit are, by their paths; nothing if it changes something else, too."""
+    """Returns the functions in whose bodies all changes of an edit are, by their paths; nothing if it changes something else,
+    too."""
     found, texts = {}, reader.edited(edit, folder)[0] or {}
     for path, (was, now) in texts.items():
         was, now = was.split("\n"), now.split("\n")
@@ -156,8 +157,8 @@ def functions_of(edit, folder):
 
 
 def changed(lines):
-    """Returns at most MOST mutants of functions that have one of these lines, each with the functions that it changes; others for another
-    commit."""
+    """Returns at most MOST mutants of functions that have one of these lines, each with the functions that it changes; others
+    for another commit."""
     found, head = [], git("rev-parse", "HEAD")
     for crate in {path.split("/")[1] for path in lines} & {*reader.crates(ROOT)}:
         folder = f"{ROOT}/crates/{crate}"
@@ -169,7 +170,8 @@ def changed(lines):
 
 
 def link(source, to):
-    """Gives a proof or a library a second name, since a check replaces such a file and never changes it; another file is copied."""
+    """Gives a proof or a library a second name, since a check replaces such a file and never changes it; another file is
+    copied."""
     try:
         os.link(source, to) if source.endswith(".oantt") or "/out/rlib/" in source else shutil.copy2(source, to)
     except OSError:
@@ -191,9 +193,10 @@ class Compiler:
         kit, own = reader.kit(), f"{self.room}/rlib"
         libraries = {"std": f"{kit}/rlibs", **{it: own if it in self.crates else f"{kit}/rlibs" for it in self.crates[crate]}}
         return [f"{kit}/bin/rattle", "check", "--crate-name", crate, "src/lib.rt", "--links", f"{crate}=", "--jobs", "1",
-                "--antt-project", f"{kit}/rattle/logic/antt-project.json", "--logic-built", f"{kit}/logic_built", "--incremental", kept,
+                "--antt-project", f"{kit}/rattle/logic/antt-project.json", "--logic-built", f"{kit}/logic_built",
                 *(word for name, at in libraries.items() for word in ("--extern", f"{name}={at}/{name}.rlib")),
-                "-L", f"dependency={kit}/rlibs", "-L", f"dependency={own}", *(word for it in sorted(functions) for word in ("--only", it))]
+                "-L", f"dependency={kit}/rlibs", "-L", f"dependency={own}", "--incremental", kept,
+                *(word for it in sorted(functions) for word in ("--only", it))]
 
     def check(self, crate, texts, functions, kept):
         """Checks these functions of a crate, with texts in place of its own, and returns the status and what was printed."""
@@ -206,7 +209,7 @@ class Compiler:
             for _ in range(2):
                 while free() < FREE and time.monotonic() < self.end:
                     time.sleep(5)
-                ran = subprocess.run(self.words(crate, functions, kept), cwd=folder, **PIPED)
+                ran = subprocess.run(self.words(crate, functions, kept), cwd=folder, check=False, **PIPED)
                 if ran.returncode != -signal.SIGKILL:
                     # (else it was most likely for memory)
                     break
@@ -214,8 +217,8 @@ class Compiler:
 
 
 def refusal(status, said):
-    """Returns an error by which a check refuses a mutant; None if it proves all that it was asked for, or tells no more than that a name was
-    lost, that the text can't be read or that the borrow checker doesn't cover it."""
+    """Returns an error by which a check refuses a mutant; None if it proves all that it was asked for, or tells no more than
+    that a name was lost, that the text can't be read or that the borrow checker doesn't cover it."""
     counted = re.search(r"^only=(\d+) proved=(\d+)\Z", said, re.M)
     is_refused = status == 1 and counted and int(counted[2]) < int(counted[1])
     if not is_refused or not re.search(r"^fn \S+: (not proved|no proof: expected answers)", said, re.M):
@@ -224,8 +227,9 @@ def refusal(status, said):
 
 
 def tried_alone(compiler, crate, edits):
-    """Tries mutants of a crate, each with the functions that it changes, and returns what was found of each: whether it is refused, and
-    why. The proof of a function uses the contracts of others and never their bodies, so only these functions are checked."""
+    """Tries mutants of a crate, each with the functions that it changes, and returns what was found of each: whether it is
+    refused, and why. The proof of a function uses the contracts of others and never their bodies, so only these functions
+    are checked."""
     kept, folder = f"{compiler.room}/{crate}", f"{ROOT}/crates/{crate}"
     # (status 2: a check names a function otherwise)
     for asked in (lambda own: {*own}, lambda own: {reader.module_of(it.file) for it in own.values()}):

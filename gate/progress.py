@@ -32,8 +32,8 @@ def each_minute(ended, text):
 
 
 def first_reason(lines):
-    """Returns why a check failed by what it printed: its first error at a place, or else the first note at one, with the first function that
-    isn't proved; if there is neither, the last lines."""
+    """Returns why a check failed by what it printed: its first error at a place, or else the first note at one, with the
+    first function that isn't proved; if there is neither, the last lines."""
     lines = [it for it in map(str.rstrip, lines) if it]
     places = [it for it in lines if PLACE.match(it)]
     said = next((it for it in places if ": error" in it), None) or next(iter(places), None)

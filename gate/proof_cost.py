@@ -1,7 +1,7 @@
 #!/usr/bin/env python3
-"""Prints which goals of a crate's proof take longest, by the number of steps that its last checks kept. A million steps are about a second.
+"""Prints which goals of a crate's proof take longest, by the steps that its last checks kept: a million are about a second.
 
-usage: proof_cost.py CRATE [COUNT]    after `gate/prove.py CRATE`, or `rt check` in its folder; prints COUNT goals and files (default: 20)
+usage: proof_cost.py CRATE [COUNT]    after `gate/prove.py CRATE`, or `rt check` in its folder; COUNT goals and files (20)
 Kept steps of functions that have changed since are counted too, until crates/CRATE/out/incremental is removed."""
 import glob
 import os

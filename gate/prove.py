@@ -2,11 +2,12 @@
 """Proves what isn't proved yet and builds the program: crates that don't depend on each other side by side.
 
 usage: prove.py [CRATE..]    these libraries and those they depend on (default: the program, and those it depends on)
-Each minute it prints how far it is, and at the end how long each crate took or, if one failed, the first thing that the prover said. What a
-crate's proof printed is in its out/prove.log. If no file changed since the program was built, it does nothing.
+Each minute it prints how far it is, and at the end how long each crate took or, if one failed, the first thing that the
+prover said. What a crate's proof printed is in its out/prove.log. If no file changed since the program was built, it does
+nothing.
 
-It uses the code of `rt` itself: two calls of `rt lib` don't run at the same time, since each locks the crates below its own, and `rt all
-check` gives each crate one process and a processor also to crates that wait for others."""
+It uses the code of `rt` itself: two calls of `rt lib` don't run at the same time, since each locks the crates below its own,
+and `rt all check` gives each crate one process and a processor also to crates that wait for others."""
 import copy
 import hashlib
 import importlib.machinery
@@ -26,7 +27,8 @@ SUM = f"{PROGRAM}.sum"
 # What a proof takes, by which `rt` decides how many run at a time; in rare cases it takes 6 GB.
 MEMORY = 4_000_000_000
 def load():
-    """Returns the toolchain's command `rt` as a module. What another checkout on this machine proved of the same text is taken over."""
+    """Returns the toolchain's command `rt` as a module. What another checkout on this machine proved of the same text is
+    taken over."""
     sys.dont_write_bytecode = True
     loader = importlib.machinery.SourceFileLoader("rt", f"{reader.kit()}/bin/rt")
     rt = importlib.util.module_from_spec(importlib.util.spec_from_loader("rt", loader))
@@ -79,7 +81,7 @@ def far(name):
 
 
 class Proofs:
-    """The proofs of crates, lowest first: it keeps which are proved, how long each took, and why one failed."""
+    """The proofs of crates, lowest first: which are proved, how long each took, and why one failed."""
 
     def __init__(self, rt, crates, proved):
         self.rt, self.crates, self.proved, self.running, self.took, self.why = rt, crates, proved, [], {}, {}
@@ -99,7 +101,8 @@ class Proofs:
             self.proved.add(crate)
 
     def run(self):
-        """Proves the crates, each once those below it are proved, those of the longest chain first, and returns whether all are."""
+        """Proves the crates, each once those below it are proved, those of the longest chain first, and returns whether all
+        are."""
         tasks = {}
         for it in self.crates:
             size = 0 if it in self.proved else sum(map(os.path.getsize, reader.sources(it.folder)))
@@ -117,7 +120,8 @@ class Proofs:
         begun = time.monotonic()
         # (with no arguments the program prints 'bad arguments', which is no failure of the build)
         with open(log_of("bin65"), "w") as log:
-            subprocess.run(["rt", "run"], cwd=f"{ROOT}/crates/bin65", stdin=subprocess.DEVNULL, stdout=log, stderr=log, check=False)
+            how = {"stdin": subprocess.DEVNULL, "stdout": log, "stderr": log, "check": False}
+            subprocess.run(["rt", "run"], cwd=f"{ROOT}/crates/bin65", **how)
         self.took["bin65"] = time.monotonic() - begun
         if not os.path.isfile(PROGRAM):
             self.why["bin65"] = first_reason(lines_of("bin65"))
@@ -126,9 +130,9 @@ class Proofs:
 
 def chosen(crates, names):
     """Returns the libraries that these, or the program, depend on, lowest first."""
-    unknown = [name for name in names if not any(it.name == name and not it.is_program for it in crates)]
+    unknown = {*names} - {it.name for it in crates if not it.is_program}
     if unknown:
-        sys.exit(f"{unknown[0]} is no library of crates.txt")
+        sys.exit(f"no library of crates.txt: {', '.join(sorted(unknown))}")
     asked = [it for it in crates if (it.name in names if names else it.name == "bin65")]
     return [it for it in crates if not it.is_program and (it in asked or any(it in that.below() for that in asked))]
 
@@ -137,7 +141,8 @@ def main(names):
     rt = load()
     os.chdir(ROOT)
     every = sorted(rt.rtlib.crates_below(ROOT), key=lambda it: len(it.below()))
-    sources = sum_of([f"{reader.kit()}/KIT-ID", f"{ROOT}/crates.txt", *(file for it in every for file in sorted(rt.rtlib.files_of(it.folder)))])
+    files = [file for it in every for file in sorted(rt.rtlib.files_of(it.folder))]
+    sources = sum_of([f"{reader.kit()}/KIT-ID", f"{ROOT}/crates.txt", *files])
     if not names and os.path.isfile(PROGRAM):
         if rt.rtlib.text_of(SUM) == sources + sum_of([PROGRAM]):
             return 0

@@ -1,5 +1,6 @@
-"""Checks that no file contains text of cc65's: six or more of its lines, of at least 30 bytes each, that also occur in one file of an installed
-cc65. Addresses are facts and may be the same; sentences and code may not. Runs of blanks count as one."""
+"""Checks that no file contains text of cc65's: six or more of its lines, of at least 30 bytes each, that also occur in one
+file of an installed cc65. Addresses are facts and may be the same; sentences and code may not. Runs of blanks count as
+one."""
 import os
 import subprocess
 
@@ -45,7 +46,8 @@ def files_of(root):
 
 
 def looked_at(root, folder=CC65):
-    """Yields one result for all files: what was compared, and why it is wrong, or None. Yields nothing if cc65 isn't installed."""
+    """Yields one result for all files: what was compared, and why it is wrong, or None. Yields nothing if cc65 isn't
+    installed."""
     if not os.path.isdir(folder):
         print(f"cc65 isn't here: no file is compared with those of {folder}")
         return

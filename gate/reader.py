@@ -1,4 +1,5 @@
-"""Reads the repository's crates: what each depends on, its mutants, and by the tokens that the toolchain prints, its functions and its code."""
+"""Reads the repository's crates: what each depends on, its mutants, and by the tokens that the toolchain prints, its
+functions and its code."""
 import functools
 import glob
 import json
@@ -15,9 +16,9 @@ IMPL = re.compile(r"impl(?:<(?P<own>.*?)>)? (?:(?P<of>[\w:]+)(?:<(?P<with>.*)>)?
 
 
 class Function(NamedTuple):
-    """A function: its file, the type or trait that has it ('' if none does), its name, the path by which a check names it (of a
-    method its end), its lines from the first attribute on, the line at which its body begins (None: it has none), and its clauses
-    as (name, text)."""
+    """A function: its file, the type or trait that has it ('' if none does), its name, the path by which a check names it (of
+    a method its end), its lines from the first attribute on, the line at which its body begins (None: it has none), and
+    its clauses as (name, text)."""
 
     file: str
     owner: str
@@ -117,7 +118,8 @@ def clauses_of(text, tokens):
 
 
 def owner_of(header):
-    """Returns the type or trait that a block is about, and how a check names it: by the type, the trait, and what this is given."""
+    """Returns the type or trait that a block is about, and how a check names it: by the type, the trait, and what this is
+    given."""
     found = IMPL.match(header)
     if not found:
         return re.search(r"trait (\w+)", header)[1], re.search(r"trait (\w+)", header)[1]
@@ -170,7 +172,8 @@ def edits_of(folder):
 
 
 def edited(edit, folder):
-    """Returns the files of a crate that an edit changes, as they are and as it makes them; instead of these why it can't be applied."""
+    """Returns the files of a crate that an edit changes, as they are and as it makes them; instead of these why it can't be
+    applied."""
     texts, path, old = {}, None, None
     with open(edit, encoding="utf-8") as it:
         lines = it.read().split("\n")

@@ -1,11 +1,13 @@
 #!/usr/bin/env python3
-"""Checks texts before anything is proved: the layout of code, what the linker's and the assembler's types hold, whether each mutant can be
-applied, whether what the maintainers' pages cite exists, and whether a file contains text of an installed cc65's. Takes half a minute.
+"""Checks texts before anything is proved: the layout of code, what the linker's and the assembler's types hold, whether each
+mutant can be applied, whether what the maintainers' pages cite exists, and whether a file contains text of an installed
+cc65's. Takes half a minute.
 
 usage: static_checks.py
 The last line is 'N passed, M failed': one for each crate, mutant, claim and page, and one for the texts of cc65's."""
 import glob
 import os
+import re
 import subprocess
 import sys
 
@@ -20,7 +22,7 @@ def in_disorder(root):
     files = [it for part in ("src", "specs", "proofs") for end in ("rt", "antt")
              for it in glob.glob(f"{root}/crates/*/{part}/**/*.{end}", recursive=True)]
     ran = subprocess.run([f"{reader.kit()}/bin/rattle", "fmt", "--check", *files], capture_output=True, text=True, check=False)
-    found = [line.removesuffix(" is not in the layout") for line in (ran.stdout + ran.stderr).split("\n") if line.endswith(" is not in the layout")]
+    found = re.findall(r"^(.*) is not in the layout$", ran.stdout + ran.stderr, re.M)
     return found or ([f"rattle fmt ended with status {ran.returncode}"] if ran.returncode else [])
 
 
@@ -33,7 +35,8 @@ def looked_at(root):
         folder = f"{root}/crates/{crate}"
         yield crate, check_streaming.why_kept(crate, reader.code_of(folder))
         edits = reader.edits_of(folder)
-        others = [it for it in glob.glob(f"{folder}/mutants/*") + glob.glob(f"{folder}/must-fail/*") if not it.endswith((".edit", ".md"))]
+        there = glob.glob(f"{folder}/mutants/*") + glob.glob(f"{folder}/must-fail/*")
+        others = [it for it in there if not it.endswith((".edit", ".md"))]
         if others or len({os.path.basename(it) for it in edits}) < len(edits):
             yield f"{crate}: mutants", f"{others[0]} is no edit" if others else "two have the same name"
         yield from ((os.path.relpath(it, root), reader.edited(it, folder)[1]) for it in edits)

@@ -1,10 +1,10 @@
 #!/usr/bin/env python3
-"""The merge gate: `rt ci`, which repeats every proof and runs the tests of crates; beside it first the checks of texts, and once the program is
-built, its tests on real files and the mutants of functions that this landing changed.
+"""The merge gate: `rt ci`, which repeats every proof and runs the tests of crates; beside it first the checks of texts, and
+once the program is built, its tests on real files and the mutants of functions that this landing changed.
 
 usage: all.py    ALL_LANES is how many scripts run at a time (default: half the number of processors).
-Each minute a line says how far the proofs are. The lines before the last say which part failed and why; the last line is
-'N passed, M failed'."""
+Each minute a line says how far the proofs are. The lines before the last say which part failed and why; the last line is 'N
+passed, M failed'."""
 import hashlib
 import os
 import re
@@ -38,11 +38,11 @@ TEXTS = [
 ]
 # With the program that `rt ci` builds, the longest first.
 SCRIPTS = [
-    "hostile", "large", "workbench_port", "workbench_random", "workbench_trees", "workbench_idioms", "io_faults", "alloc_faults", "fuzz",
-    "one_program", "cases", "disk", "sums", "version1",
-    "migrating", "differences", "cc65_scripts", "tutorial", "language", "messages", "editors", "makefile", "machines", "second", "labels",
-    "workbench_list", "workbench_labels", "workbench_debug", "workbench_deps", "workbench_size", "workbench_bad", "workbench_check",
-    "workbench_faults", "workbench_lexer", "packaging", "release",
+    "hostile", "large", "workbench_port", "workbench_random", "workbench_trees", "workbench_idioms", "io_faults", "alloc_faults",
+    "fuzz", "one_program", "cases", "disk", "sums", "version1",
+    "migrating", "differences", "cc65_scripts", "tutorial", "language", "messages", "editors", "makefile", "machines", "second",
+    "labels", "workbench_list", "workbench_labels", "workbench_debug", "workbench_deps", "workbench_size", "workbench_bad",
+    "workbench_check", "workbench_faults", "workbench_lexer", "packaging", "release",
 ]
 EXAMPLES = ["first", "programs", "library", "sizes"]
 # It also needs the program of tests_calls65, which `rt ci` may build last.
@@ -74,8 +74,8 @@ class Part:
     def run(self):
         """Runs the part and counts by its last line; a part that says no counts passes or fails as a whole."""
         begun = time.monotonic()
-        how = {"cwd": ROOT, "stdin": subprocess.DEVNULL, "stdout": subprocess.PIPE, "stderr": subprocess.STDOUT, "errors": "replace"}
-        with subprocess.Popen(self.words, **how) as ran:
+        how = {"stdin": subprocess.DEVNULL, "stdout": subprocess.PIPE, "stderr": subprocess.STDOUT, "errors": "replace"}
+        with subprocess.Popen(self.words, cwd=ROOT, **how) as ran:
             for line in map(str.rstrip, ran.stdout):
                 self.read(line)
         self.seconds = time.monotonic() - begun
@@ -105,7 +105,8 @@ class Proofs(Part):
 
     ENDED = re.compile(r"rt: (\w+)(: its tests are)? (proved|NOT PROVED|is kept)\b")
     # Its lines about a mutant, a test or a run that failed.
-    FAILED = re.compile(r"rt: (?!FAILED).*(FAILED|NOT REFUSED|NOT TRIED|BAD EDIT|was stopped by|ended with status|had not ended|differ first at)")
+    FAILED = re.compile(
+        r"rt: (?!FAILED).*(FAILED|NOT REFUSED|NOT TRIED|BAD EDIT|was stopped by|ended with status|had not ended|differ first at)")
 
     def __init__(self, when_built):
         super().__init__("rt ci", ["rt", "ci"])
@@ -149,7 +150,8 @@ class Proofs(Part):
 
 
 class Beside:
-    """The parts that run beside the proofs, several at a time; the mutants have a lane of their own, since they use what `rt ci` has built."""
+    """The parts that run beside the proofs, several at a time; the mutants have a lane of their own, since they use what `rt
+    ci` has built."""
 
     def __init__(self, lanes):
         self.pool, self.parts, self.mutants = ThreadPoolExecutor(lanes), [], ThreadPoolExecutor(1)

@@ -1,7 +1,7 @@
 #!/usr/bin/env python3
-"""Tests the tools of the gate, without proving anything: how they read code (gate/reader.py), when a mutant counts as refused and which a
-gate tries (gate/mutants.py), what a failed gate prints and when its parts start (tests/all.py), and what the checks of texts refuse:
-citations (gate/check_docs.py), types that keep too much (gate/check_streaming.py), lines of cc65's (gate/provenance.py).
+"""Tests the tools of the gate, without proving anything: how they read code (gate/reader.py), when a mutant counts as refused
+and which a gate tries (gate/mutants.py), what a failed gate prints and when its parts start (tests/all.py), and what the checks
+of texts refuse: citations (gate/check_docs.py), types that keep too much (gate/check_streaming.py), lines of cc65's (gate/provenance.py).
 
 usage: gate.py. The last line is 'N passed, M failed'."""
 import contextlib
@@ -102,7 +102,8 @@ def reading(tree):
         "a clause with a record": len(two.clauses) == 1 and two.clauses[0][1].strip().endswith("}"),
         "owners": [it.owner for it in found.values()] == ["", "Counter", "Counter"],
         "code": "One more" not in (code := reader.code_of(tree.folder)) and "≡" not in code and "n + 1" in code,
-        "crates": reader.crates(tree.root) == {"made": ["arrayvec"], "high": ["made"]} and reader.below("high", reader.crates(tree.root)) == {"made"},
+        "crates": (crates := reader.crates(tree.root)) == {"made": ["arrayvec"], "high": ["made"]},
+        "crates below": reader.below("high", crates) == {"made"},
     }
 
 
@@ -147,6 +148,7 @@ def refusals():
 
 def landing(tree):
     """Checks which mutants the gate tries: those of functions that were changed within hours before the last commit."""
+    one = mutants.functions_of(tree.edits["adds_two"], tree.folder)
     tried = lambda: [(mutants.name_of(edit), [*functions]) for edit, functions in mutants.changed(mutants.changed_lines())]
     was, mutants.ROOT = mutants.ROOT, tree.root
     try:
@@ -159,7 +161,7 @@ def landing(tree):
         found = tried()
     finally:
         mutants.ROOT = was
-    return {"no earlier commit": none == [], "changed back": same == [], "changed": found == [("made/adds_two", ["counts::next"])]}
+    return {"no earlier commit": none == [], "changed back": same == [], "changed": found == [("made/adds_two", [*one])]}
 
 
 # The output of `rt ci` for a crate that isn't proved, and for other failures.
@@ -186,11 +188,13 @@ def failures():
     with contextlib.redirect_stdout(io.StringIO()) as shown:
         for line in NOT_PROVED:
             proofs.read(line)
-        texts = ("print('note: x'); print('FAILED: a.rt:1:1: no'); print('3 passed, 1 failed'); exit(1)", "print('0 passed, 0 failed')",
-                 "print('9 passed, 0 failed'); exit(3)", "print('0 refused, 0 not')", "print('4 refused, 1 not'); exit(1)")
+        texts = ("print('note: x'); print('FAILED: a.rt:1:1: no'); print('3 passed, 1 failed'); exit(1)",
+                 "print('0 passed, 0 failed')", "print('9 passed, 0 failed'); exit(3)",
+                 "print('0 refused, 0 not')", "print('4 refused, 1 not'); exit(1)")
         parts = [gate.Part("made", ["python3", "-c", text]).run() for text in texts]
         parts[0].told()
-    why = "link65: not proved: ./src/linker.rt:230:9: error: the clause `files` is not proved; fn link65::linker::Linker::finish: not proved"
+    why = ("link65: not proved: ./src/linker.rt:230:9: error: the clause `files` is not proved; "
+           "fn link65::linker::Linker::finish: not proved")
     return {
         "the prover's first error": proofs.reasons[0] == why and f"why: {why}" in shown.getvalue(),
         "what depends on it": proofs.reasons[1].startswith("ld65: not proved"),
@@ -220,7 +224,7 @@ def starts():
     run = {*gate.SCRIPTS, *gate.LAST, *(words[1].removeprefix("tests/").removesuffix(".py") for _, words in gate.TEXTS)}
     return {
         "no script without a program": before == len(gate.TEXTS),
-        "scripts start once": len(started) == len(gate.TEXTS) + 2 + len(gate.SCRIPTS) + len(gate.EXAMPLES) and gate.MUTANTS[0] in started,
+        "scripts start once": len(started) == before + 2 + len(gate.SCRIPTS) + len(gate.EXAMPLES) and gate.MUTANTS[0] in started,
         "each script is run": counting <= run and len(counting) > 30,
     }
 
@@ -237,7 +241,7 @@ def citations(tree):
         "a call that isn't there": row("counts::after", "`added`") == "no such public call: counts::after",
         "a clause that isn't there": row("counts::next", "`taken`") == "no call of the row has the clause taken",
         "a text that no clause has": row("counts::next", "(`other`)") == "no call of the row has the clause other",
-        "a file that isn't in the layout": [it.rpartition("/")[2] for it in static_checks.in_disorder(tree.root)] == ["counts.rt"],
+        "a file that isn't in the layout": list(map(os.path.basename, static_checks.in_disorder(tree.root))) == ["counts.rt"],
     }
 
 
@@ -279,14 +283,15 @@ ASSEMBLERS = {
 
 
 def kept():
-    """Checks that types that hold what they may not are refused where they are added to a crate's code, and that the crates are not. What no
-    type shows is measured (tests/measured.py)."""
+    """Checks that types that hold what they may not are refused where they are added to a crate's code, and that the crates are
+    not. What no type shows is measured (tests/measured.py)."""
     crates = check_streaming.LINKER + check_streaming.ASSEMBLER
     code = {it: reader.code_of(f"{reader.ROOT}/crates/{it}") for it in crates}
     why = lambda crate, text: check_streaming.why_kept(crate, f"{code[crate]} {text}")
     return {
         **{f"{it} as it is": len(code[it]) > 1000 and why(it, "") is None for it in crates},
-        **{f"{it}: {name}": why(it, text) is not None for it, rows in (("link65", LINKERS), ("asm65", ASSEMBLERS)) for name, text in rows.items()},
+        **{f"link65: {name}": why("link65", text) is not None for name, text in LINKERS.items()},
+        **{f"asm65: {name}": why("asm65", text) is not None for name, text in ASSEMBLERS.items()},
     }
 
 

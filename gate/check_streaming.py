@@ -8,56 +8,32 @@ LINKER = ("link65",)
 # A one-pass assembler keeps the deferred parts of a statement, but no list of statements.
 ASSEMBLER = ("asm65", "symbols65", "emit65")
 TOKEN = re.compile(r"'\w+\b(?!')|\w+|::|->|=>|\S")
-TYPES = ("struct", "enum", "union", "type")
-CLOSED_BY = {"{": "}", "(": ")", "[": "]"}
+# A declared type: its name, and what it holds, up to a semicolon outside of brackets or through its braces.
+DECLARED = re.compile(r"\b(?:struct|enum|union|type)\s+([A-Za-z_]\w*)"
+                      r"((?:[^;{(\[]|\((?:[^()]|\([^()]*\))*\)|\[[^\[\]]*\])*(?:\{(?:[^{}]|\{[^{}]*\})*\})?)")
+CLOSED_BY = {"(": ")", "[": "]"}
 # Types that contain a single value of a named type: a reference, an option or a result of it, a path, a call, a block.
 ONE = {"Option", "Result"}
 
 
-def aliases(tokens, *names):
-    """Returns these names, and what imports and `type` items call them."""
-    found = set(names)
-    for at, word in enumerate(tokens[:-2]):
-        if word in found and tokens[at + 1] == "as":
-            found.add(tokens[at + 2])
-    for name, words in types_in(tokens):
-        if words[:1] == ["="] and found & {*words}:
-            found.add(name)
-    return found
-
-
-def end_of_group(tokens, at):
-    """Returns the index after the bracket that closes the one at this index."""
-    opened, depth = tokens[at], 0
-    for index in range(at, len(tokens)):
-        depth += (tokens[index] == opened) - (tokens[index] == CLOSED_BY[opened])
-        if not depth:
-            return index + 1
-    return len(tokens)
-
-
-def types_in(tokens):
+def types_in(code):
     """Returns the types that the code declares: the name, and the tokens of the declaration."""
-    found = []
-    for at, word in enumerate(tokens[:-1]):
-        if word in TYPES and re.match(r"[A-Za-z_]\w*$", tokens[at + 1]):
-            end = at + 2
-            while end < len(tokens) and tokens[end] not in ("{", ";"):
-                end = end_of_group(tokens, end) if tokens[end] in ("(", "[") else end + 1
-            if end < len(tokens) and tokens[end] == "{":
-                end = end_of_group(tokens, end)
-            found.append((tokens[at + 1], tokens[at + 2 : end]))
-    return found
+    return [(name, TOKEN.findall(rest)) for name, rest in DECLARED.findall(code)]
 
 
-def holders(tokens, names):
+def aliases(code, *names):
+    """Returns these names, and what imports and `type` items call them."""
+    found = {*names}
+    found.update(other for name, other in re.findall(r"\b(\w+)\s+as\s+(\w+)", code) if name in names)
+    return found.union(name for name, words in types_in(code) if words[:1] == ["="] and found & {*words})
+
+
+def holders(code, names):
     """Returns the declared types that hold one of these, also through each other."""
-    declared, found = types_in(tokens), set()
-    while True:
-        more = {name for name, words in declared if words[:1] != ["="] and (names | found) & {*words}} - found
-        if not more:
-            return sorted(found)
+    declared, found = types_in(code), set()
+    while more := {name for name, words in declared if words[:1] != ["="] and (names | found) & {*words}} - found:
         found |= more
+    return sorted(found)
 
 
 def lists_of(tokens, names):
@@ -83,15 +59,11 @@ def lists_of(tokens, names):
 
 def why_kept(crate, code):
     """Returns what a crate's code keeps that it may not, or None. The code has no comments, strings and clauses."""
-    tokens = TOKEN.findall(code)
-    if crate in LINKER:
-        named = sorted(aliases(tokens, "Builder", "Object", "read_object") & {*tokens})
-        held = holders(tokens, aliases(tokens, "Record", "Item")) or lists_of(tokens, aliases(tokens, "Record", "Item"))
-        if named:
-            return f"the linker makes a module's object: it names {', '.join(named)}"
-        return f"the linker keeps records: {held}" if held else None
-    if crate in ASSEMBLER:
-        names = aliases(tokens, "Statement")
-        held = holders(tokens, names) or lists_of(tokens, names)
-        return f"the assembler keeps statements: {held}" if held else None
-    return None
+    tokens, what = TOKEN.findall(code), "the linker keeps records" if crate in LINKER else "the assembler keeps statements"
+    if crate not in LINKER + ASSEMBLER:
+        return None
+    if crate in LINKER and (named := aliases(code, "Builder", "Object", "read_object") & {*tokens}):
+        return f"the linker makes a module's object: it names {', '.join(sorted(named))}"
+    names = aliases(code, "Record", "Item") if crate in LINKER else aliases(code, "Statement")
+    held = holders(code, names) or lists_of(tokens, names)
+    return f"{what}: {held}" if held else None

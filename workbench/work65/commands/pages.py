@@ -1,56 +1,51 @@
 """work65 pages: branches and tables that cross a page."""
 import argparse
-from typing import Iterator, List, Tuple
+from typing import Iterator, List
 
 from work65.inspecting.command import add_arguments, inspected, write_json, write_lines
 from work65.inspecting.crossings import Crossing, Crossings
 from work65.inspecting.cycles import leaves_page
 
-HELP = "list the taken branches and the tables that cross a page, and check the comments `; samepage`"
+HELP = "list taken branches and tables that cross a page, and check the comments `; samepage`"
+TEXTS = {"branch": "from {} to {}", "table": "reads {} to {}", "label": "lies from {} to {}"}
 __all__ = ["HELP", "add_arguments", "run"]
 
 
 def text(crossing: Crossing) -> str:
-    """Returns the line of a crossing."""
-    first, last = f"{crossing.first:04X}", f"{crossing.last:04X}"
-    where = {"branch": f"from {first} to {last}", "table": f"reads {first} to {last}"}
-    said = where.get(crossing.what, f"has {first} to {last}")
-    return f"{crossing.line.place}: {crossing.line.statement or crossing.what}: {said}"
+    """Returns the text of a crossing without its line."""
+    said = TEXTS[crossing.what].format(f"{crossing.first:04X}", f"{crossing.last:04X}")
+    return f"{crossing.line.statement or crossing.line.labels[0].name}: {said}"
 
 
-def failure(place: str, crossings: List[Crossing]) -> Iterator[str]:
-    """Yields the lines of a comment that isn't true."""
-    if not crossings:
-        yield f"{place}: Error: samepage: no branch, label or known table is on this line"
-    for it in crossings:
-        if leaves_page(it.first, it.last):
-            moves = "a page has 256 bytes"
-            if it.moves is not None:
-                moves = f"move it {it.moves[0]} on or {it.moves[1]} back"
-            yield text(it).replace(place, f"{place}: Error: samepage", 1) + f"; {moves}"
-
-
-def failures(crossings: Crossings) -> List[Tuple[str, str]]:
-    """Returns the places and messages of all comments that aren't true."""
-    found = []
+def failures(crossings: Crossings) -> Iterator[str]:
+    """Yields the messages of all comments that aren't true."""
     for place, wanted in crossings.asserted():
-        found += [(place, said) for said in failure(place, wanted)]
-    return found
+        if not wanted:
+            yield f"{place}: Error: samepage: no branch, label or known table is on this line"
+        for it in wanted:
+            moves = "it is larger than a page"
+            if it.moves is not None:
+                moves = "move it {} bytes on or {} back".format(*it.moves)
+            if leaves_page(it.first, it.last):
+                yield f"{place}: Error: samepage: {text(it)}; {moves}"
+
+
+def summary(found: List[Crossing], unknown: int) -> str:
+    """Returns the last line."""
+    branches = sum(it.what == "branch" for it in found)
+    said = f"crossings: {branches} by branches, {len(found) - branches} by tables"
+    return f"{said}; reads through pointers to unknown tables: {unknown}"
 
 
 def run(arguments: argparse.Namespace) -> int:
-    """Runs the subcommand. Returns the exit status."""
+    """Runs the subcommand. Returns the exit status: 1 if a comment isn't true."""
     crossings = Crossings(inspected(arguments))
-    found, failed = list(crossings.all()), failures(crossings)
-    unknown = crossings.unknown()
+    found, failed, unknown = list(crossings.all()), list(failures(crossings)), crossings.unknown()
     if arguments.json:
-        values = {"crossings": [it.as_values() for it in found]}
-        values["failures"] = [{"place": place, "message": said} for place, said in failed]
-        values["unknown"] = [{"file": it.file, "line": it.number} for it in unknown]
-        write_json(values)
+        lines = [{"file": it.file, "line": it.number} for it in unknown]
+        listed = [it.as_values() for it in found]
+        write_json({"crossings": listed, "failures": failed, "unknown": lines})
     else:
-        counts = [sum(it.what == what for it in found) for what in ("branch", "table")]
-        said = f"{counts[0]} branches and {counts[1]} tables cross a page"
-        said += f"; {len(unknown)} reads are through pointers whose table isn't known"
-        write_lines([*map(text, found), *(said for _, said in failed), said])
+        listing = [f"{it.line.place}: {text(it)}" for it in found]
+        write_lines([*listing, *failed, summary(found, len(unknown))])
     return int(bool(failed))

@@ -3,14 +3,14 @@ import argparse
 import json
 import os
 import sys
-from typing import Any, Dict, Iterator, List, Sequence
+from typing import Iterator, List, Sequence
 
 from work65.formats.maps import read_map
 from work65.formats.picture import svg
 from work65.frontend.files import read_bytes, read_text
 from work65.frontend.link_script import read_script
-from work65.inspecting.command import bad_input
-from work65.inspecting.size_changes import as_values, line_of_changes, read_sizes, rows_of
+from work65.inspecting.command import bad_input, write_json, write_lines
+from work65.inspecting.size_changes import KINDS, Values, as_values, changes, line_of_changes, read_sizes
 from work65.instrumenting.build import add_arguments as add_build_arguments, build, wanted_of
 from work65.instrumenting.copies import Constants
 from work65.instrumenting.layout import layout_of
@@ -80,31 +80,29 @@ def text(sizes: Sizes, has_bars: bool) -> Iterator[str]:
         yield from table(["PROCEDURE", "size", "module"], [[it.name, str(it.size), it.module] for it in sizes.procedures])
 
 
-def changed(before: Dict[str, Any], now: Dict[str, Any]) -> Iterator[str]:
+def changed(before: Values, now: Values) -> Iterator[str]:
     """Yields what changed as tables, and last as one line."""
-    for kind in ("areas", "segments", "modules", "procedures"):
-        rows = rows_of(kind, before, now)
-        heads = [kind[:-1].upper(), "before", "now", "change", *(["module"] if kind == "procedures" else [])]
+    for kind in KINDS:
+        rows = [[it.name, str(it.before), str(it.now), f"{it.change:+}"] for it in changes(kind, before, now)]
         if rows:
-            yield from table(heads, rows)
-            yield ""
+            yield from (*table([kind[:-1].upper(), "before", "now", "change"], rows), "")
     yield line_of_changes(before, now)
 
 
-def difference(arguments: argparse.Namespace) -> bytes:
-    """Returns what changed since the sizes of --diff, as text or as JSON."""
-    before = read_sizes(arguments.diff)
+def write_difference(arguments: argparse.Namespace) -> None:
+    """Writes what changed since the sizes of --diff."""
     with bad_input():
-        now = sizes_of_line(arguments).as_values()
+        before, now = read_sizes(arguments.diff), sizes_of_line(arguments).as_values()
     if arguments.json:
-        return (json.dumps(as_values(before, now), indent=2) + "\n").encode()
-    return os.fsencode("".join(f"{it}\n" for it in changed(before, now)))
+        write_json(as_values(before, now))
+    else:
+        write_lines(changed(before, now))
 
 
 def run(arguments: argparse.Namespace) -> int:
     """Runs the subcommand. Returns the exit status."""
     if arguments.diff is not None:
-        write(None, difference(arguments))
+        write_difference(arguments)
         return 0
     sizes = sizes_of_line(arguments)
     if arguments.svg is not None:

@@ -1,13 +1,11 @@
 """Calls, jumps and tables of one bank that name a label of another bank of the same window."""
-from dataclasses import dataclass
-from typing import Dict, Iterator, List, Set, Tuple
+from typing import Dict, Iterator, NamedTuple, Set, Tuple
 
 from work65.frontend.words import DATA
 from work65.inspecting.linked import Label, Line, LinkedProgram, WindowArea
 
 
-@dataclass(frozen=True)
-class OtherBank:
+class OtherBank(NamedTuple):
     """A line in one bank that names a label in another."""
 
     line: Line
@@ -18,18 +16,15 @@ class OtherBank:
     def as_values(self) -> Dict[str, object]:
         """Returns the finding as plain values."""
         line, label = self.line, self.label
-        values = {"file": line.file, "line": line.number, "text": line.statement}
-        values.update(bank=self.own.bank, label=label.name, address=label.address)
-        return {**values, "label_bank": self.other.bank, "label_module": label.module}
+        where = {"file": line.file, "line": line.number, "text": line.statement}
+        named = {"label": label.name, "address": label.address, "label_module": label.module}
+        return {**where, "bank": self.own.bank, **named, "label_bank": self.other.bank}
 
 
 def has_banks(program: LinkedProgram) -> bool:
-    """Returns whether the script gives a bank to two areas that share an address."""
-    areas = {area.name: area for area in program.areas.values() if area.bank is not None}
-    return any(
-        one.bank != other.bank and one.overlaps(other)
-        for one in areas.values() for other in areas.values()
-    )  # fmt: skip
+    """Returns whether two areas of a script are banks of one window."""
+    areas = set(program.areas.values())
+    return any(one.is_other_bank(other) for one in areas for other in areas)
 
 
 def targets(line: Line) -> Iterator[Label]:
@@ -42,16 +37,13 @@ def targets(line: Line) -> Iterator[Label]:
 def other_banks(program: LinkedProgram) -> Iterator[OtherBank]:
     """Yields the lines that name a label that only another bank of their window holds: their own
     bank has no label of this name at this address."""
-    held: Dict[int, Set[Tuple[str, int]]] = {}
+    held: Set[Tuple[object, str, int]] = set()
     for label in program.labels:
-        bank = program.areas[label.segment].bank
-        if bank is not None:
-            held.setdefault(bank, set()).add((label.name.split("::")[-1], label.address))
+        name = label.name.split("::")[-1]
+        held.add((program.areas[label.segment].bank, name, label.address))
     for line in program.lines:
         own = program.areas[line.segment]
-        for label in targets(line) if own.bank is not None else ():
-            other = program.areas[label.segment]
-            if other.bank is None or other.bank == own.bank or not own.overlaps(other):
-                continue
-            if (label.name.split("::")[-1], label.address) not in held.get(own.bank, ()):
+        for label in targets(line):
+            other, name = program.areas[label.segment], label.name.split("::")[-1]
+            if own.is_other_bank(other) and (own.bank, name, label.address) not in held:
                 yield OtherBank(line, label, own, other)

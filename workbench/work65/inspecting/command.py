@@ -7,7 +7,7 @@ from typing import Iterable, Iterator
 
 from work65.inspecting.from_build import linked_program
 from work65.inspecting.linked import LinkedProgram
-from work65.instrumenting.build import Build, add_arguments as add_build_arguments, build, wanted_of
+from work65.instrumenting.build import add_arguments as add_build_arguments, build, wanted_of
 from work65.instrumenting.copies import Constants
 from work65.output import write
 from work65.problem import Problem
@@ -30,18 +30,11 @@ def bad_input() -> Iterator[None]:
         raise Problem(str(problem), 2) from problem
 
 
-def built(arguments: argparse.Namespace, constants: Constants) -> Build:
-    """Builds the program of a command line."""
-    with bad_input(), folder_for_a_while() as folder:
-        program = Program.find(arguments.bin65)
-        return build(program, wanted_of(arguments), folder, constants)
-
-
 def inspected(arguments: argparse.Namespace) -> LinkedProgram:
     """Returns the linked program of a command line."""
-    made = built(arguments, Constants.ALL)
-    with bad_input():
-        return linked_program(made)
+    with bad_input(), folder_for_a_while() as folder:
+        program = Program.find(arguments.bin65)
+        return linked_program(build(program, wanted_of(arguments), folder, Constants.ALL))
 
 
 def write_lines(lines: Iterable[str]) -> None:

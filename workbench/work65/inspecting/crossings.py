@@ -1,7 +1,6 @@
 """Branches and tables that cross a page, and the comments `; samepage` that forbid it."""
 import re
-from dataclasses import dataclass
-from typing import Dict, Iterator, List, Optional, Set, Tuple
+from typing import Dict, Iterator, List, NamedTuple, Optional, Set, Tuple
 
 from work65.frontend.tokens import line_of
 from work65.inspecting.cycles import is_indexed_read, leaves_page
@@ -13,10 +12,10 @@ PAGE = 256
 STORES = {0x84: "ldy", 0x85: "lda", 0x86: "ldx"}
 
 
-@dataclass(frozen=True)
-class Crossing:
-    """Two addresses in different pages: of a branch the address after it and the target, of a table
-    the operand's base and the last byte that it can reach, of a label its first and last byte."""
+class Crossing(NamedTuple):
+    """Two addresses that may be in different pages: of a branch the address after it and the
+    target, of a table the base of the operand and the last byte that an index reaches, of a label
+    its first and last byte."""
 
     line: Line
     what: str
@@ -27,16 +26,14 @@ class Crossing:
     def moves(self) -> Optional[Tuple[int, int]]:
         """The bytes to move on or back so that both are in one page, None if they never are."""
         least, greatest = sorted((self.first, self.last))
-        if greatest - least >= PAGE:
-            return None
-        return PAGE - least % PAGE, greatest % PAGE + 1
+        fits = greatest - least < PAGE
+        return (PAGE - least % PAGE, greatest % PAGE + 1) if fits else None
 
     def as_values(self) -> Dict[str, object]:
         """Returns the crossing as plain values."""
-        line = self.line
-        found: Dict[str, object] = {"file": line.file, "line": line.number, "kind": self.what}
-        found.update(text=line.statement, address=line.address, first=self.first, last=self.last)
-        return {**found, "moves": None if self.moves is None else list(self.moves)}
+        where = {"file": self.line.file, "line": self.line.number, "address": self.line.address}
+        found = {"kind": self.what, "text": self.line.statement, "moves": self.moves}
+        return {**where, **found, "first": self.first, "last": self.last}
 
 
 class Crossings:
@@ -49,28 +46,19 @@ class Crossings:
     def all(self) -> Iterator[Crossing]:
         """Yields all branches and tables that cross a page, in the order of the lines."""
         for line in self.program.lines:
-            for found in (*self.branch(line), *self.tables(line)):
-                if leaves_page(found.first, found.last):
-                    yield found
-
-    def branch(self, line: Line) -> List[Crossing]:
-        """Returns a branch with its target."""
-        target = line.operand if line.is_branch else None
-        return [] if target is None else [Crossing(line, "branch", line.following, target)]
+            found = branch(line) if line.is_branch else self.tables(line)
+            yield from (it for it in found if leaves_page(it.first, it.last))
 
     def tables(self, line: Line) -> List[Crossing]:
-        """Returns the tables of an indexed read."""
+        """Returns the tables of an indexed read, as far as an index reaches from their base."""
         base = line.operand
         if not is_indexed_read(line) or base is None:
             return []
         if line.size == 2:
-            return [self.table(line, label, label.address) for label in self.pointed.get(base, [])]
-        found = [self.table(line, label, base) for label in self.spans.named(line)[:1]]
-        return [it for it in found if it.last >= base]
-
-    def table(self, line: Line, label: Label, base: int) -> Crossing:
-        """Returns a table of a read, as far as an index from 0 to 255 reaches it."""
-        return Crossing(line, "table", base, min(label.end - 1, base + PAGE - 1))
+            found = [(label, label.address) for label in self.pointed.get(base, [])]
+        else:
+            found = [(label, base) for label in self.spans.named(line)[:1] if label.end > base]
+        return [Crossing(line, "table", it, min(one.end, it + PAGE) - 1) for one, it in found]
 
     def unknown(self) -> List[Line]:
         """Returns the reads through pointers whose tables aren't known."""
@@ -80,25 +68,28 @@ class Crossings:
     def wanted(self, line: Line) -> List[Crossing]:
         """Returns what a comment on a line asks to be in one page: a branch, the bytes of a label,
         or the tables of a read."""
-        if line.is_branch:
-            return self.branch(line)
         found = []
         for label in line.labels:
             end = max((it.following for it in label.body), default=label.end)
             found.append(Crossing(line, "label", label.address, max(end - 1, label.address)))
-        return found or self.tables(line)
+        return branch(line) or found or self.tables(line)
 
     def asserted(self) -> Iterator[Tuple[str, List[Crossing]]]:
         """Yields each line with such a comment, as FILE:LINE, and what the comment asks for."""
         found: Set[Tuple[str, int]] = set()
-        for line in self.program.lines:
-            if has_samepage(line.text):
-                found.add((line.file, line.number))
-                yield line.place, self.wanted(line)
+        for line in filter(lambda it: has_samepage(it.text), self.program.lines):
+            found.add((line.file, line.number))
+            yield line.place, self.wanted(line)
         for file, texts in self.program.texts.items():
             for number, text in enumerate(texts, 1):
                 if has_samepage(text) and (file, number) not in found and not line_of(text).tokens:
                     yield f"{file}:{number}", []
+
+
+def branch(line: Line) -> List[Crossing]:
+    """Returns a branch with its target."""
+    target = line.operand if line.is_branch else None
+    return [] if target is None else [Crossing(line, "branch", line.following, target)]
 
 
 def has_samepage(text: str) -> bool:
@@ -109,17 +100,13 @@ def has_samepage(text: str) -> bool:
 def pointed(program: LinkedProgram) -> Dict[int, List[Label]]:
     """Returns the labels whose low byte the program stores at an address of the zero page: `#<`
     and the label is loaded, and the same register is stored before it is loaded again."""
-    loaded: Dict[str, Optional[Label]] = {}
+    loaded: Dict[str, List[Label]] = {}
     found: Dict[int, List[Label]] = {}
-    for line in program.lines:
+    for line in filter(lambda it: it.is_instruction, program.lines):
         if line.word in STORES.values():
             named = [label for labels in line.named for label in labels]
             is_low = re.match(r"\w+ # ?(<|\.lobyte)", line.statement, re.I) and len(named) == 1
-            loaded[line.word] = named[0] if is_low else None
-        opcode, pointer = line.data[:1], line.operand
-        label = loaded.get(STORES.get(opcode[0], "")) if opcode else None
-        if label is not None and pointer is not None:
-            labels = found.setdefault(pointer, [])
-            if label not in labels:
-                labels.append(label)
+            loaded[line.word] = named if is_low else []
+        labels = found.setdefault(line.operand or 0, []) if line.data[0] in STORES else []
+        labels += (it for it in loaded.get(STORES.get(line.data[0], ""), []) if it not in labels)
     return found

@@ -1,4 +1,4 @@
-"""Cycles of the documented instructions of the NMOS 6502, and sums of the ways through a procedure."""
+"""Cycles of the documented instructions of the NMOS 6502, and their sums in procedures."""
 from typing import Dict, Iterator, List, Optional, Sequence, Tuple
 
 from work65.inspecting.linked import Line

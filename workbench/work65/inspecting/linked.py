@@ -5,7 +5,7 @@ another table of lines, such as one read from a debug file, can be turned into o
 import re
 from bisect import bisect_right
 from dataclasses import dataclass, field
-from typing import Dict, Iterator, List, Optional, Tuple
+from typing import Dict, List, Optional, Tuple
 
 from work65.frontend.statements import statement_of
 from work65.frontend.tokens import line_of
@@ -60,12 +60,12 @@ class Line:
 
     @property
     def is_instruction(self) -> bool:
-        """Returns whether the line is an instruction whose bytes are known."""
+        """Whether the line is an instruction whose bytes are known."""
         return self.word in MNEMONICS and len(self.data) == self.size > 0
 
     @property
     def is_branch(self) -> bool:
-        """Returns whether the line is a conditional branch."""
+        """Whether the line is a conditional branch."""
         return self.word in BRANCHES and self.is_instruction
 
     @property
@@ -80,8 +80,7 @@ class Line:
     @property
     def statement(self) -> str:
         """The text without the label and the comment, and with single blanks."""
-        found = line_of(self.text, is_expanded=True)
-        body = statement_of(found.tokens, None).body
+        body = statement_of(line_of(self.text, is_expanded=True).tokens, None).body
         return shown(re.sub(r"\s+", " ", self.text[body[0].start : body[-1].end])) if body else ""
 
 
@@ -103,29 +102,27 @@ class WindowArea:
     size: int
     bank: Optional[int]
 
-    def overlaps(self, other: "WindowArea") -> bool:
-        """Returns whether two areas share an address."""
-        return self.start < other.start + other.size and other.start < self.start + self.size
+    def is_other_bank(self, other: "WindowArea") -> bool:
+        """Returns whether another area is another bank at one of the same addresses."""
+        if self.bank is None or other.bank is None or self.bank == other.bank:
+            return False
+        return max(self.start, other.start) < min(self.start + self.size, other.start + other.size)
 
 
 @dataclass
 class LinkedProgram:
-    """All of a program. `areas` are those in which segments run, by segment. `needed` are names
-    that something other than the modules imports, `unknown` the inputs whose lines aren't known.
-    `texts` are the lines of all files."""
+    """All of a program. `areas` are those in which segments run, by segment, `variables` the
+    segments without bytes in a file. `needed` are the names that the script imports, `unknown` the
+    inputs whose lines aren't known. `texts` are the lines of all files."""
 
     lines: List[Line] = field(default_factory=list)
     labels: List[Label] = field(default_factory=list)
     modules: List[LinkedModule] = field(default_factory=list)
     areas: Dict[str, WindowArea] = field(default_factory=dict)
-    unwritten: List[str] = field(default_factory=list)
+    variables: List[str] = field(default_factory=list)
     needed: List[str] = field(default_factory=list)
     unknown: List[str] = field(default_factory=list)
     texts: Dict[str, List[str]] = field(default_factory=dict)
-
-    def procedures(self) -> Iterator[Label]:
-        """Yields the labels of all .procs."""
-        return (label for label in self.labels if label.body)
 
 
 class Spans:
@@ -140,11 +137,11 @@ class Spans:
             spans.sort(key=lambda span: span[0])
         self.starts = {name: [span[0] for span in spans] for name, spans in self.found.items()}
 
-    def at(self, segment: str, address: int) -> Optional[Label]:
+    def at(self, segment: str, address: int) -> List[Label]:
         """Returns the label whose bytes include an address."""
-        number = bisect_right(self.starts.get(segment, []), address) - 1
-        label = self.found[segment][number][1] if number >= 0 else None
-        return label if label is not None and address < label.end else None
+        number = bisect_right(self.starts.get(segment, []), address)
+        found = self.found[segment][number - 1 : number] if number else []
+        return [label for _, label in found if address < label.end]
 
     def named(self, line: Line) -> List[Label]:
         """Returns the labels that a line names, or else those at the address of its operand."""
@@ -152,8 +149,7 @@ class Spans:
         if found or line.operand is None:
             return found
         segments = [line.segment] if line.is_branch else self.found
-        spans = (self.at(segment, line.operand) for segment in segments)
-        return [label for label in spans if label is not None]
+        return [label for segment in segments for label in self.at(segment, line.operand)]
 
 
 def shown(text: str) -> str:

@@ -1,6 +1,6 @@
 """Bytes won and lost since an earlier output of `size --json`."""
 import json
-from typing import Any, Dict, Iterator, List, NamedTuple, Sequence, Set, Tuple
+from typing import Any, Dict, Iterator, List, NamedTuple
 
 from work65.frontend.files import read_bytes
 from work65.problem import Problem
@@ -10,10 +10,9 @@ KINDS = {"areas": "used", "segments": "size", "modules": "size", "procedures": "
 
 
 class Change(NamedTuple):
-    """A name with its bytes before and now. `module` is that of a procedure, else empty."""
+    """A name, or a module and a procedure, with its bytes before and now."""
 
     name: str
-    module: str
     before: int
     now: int
 
@@ -30,103 +29,82 @@ def read_sizes(name: str) -> Values:
         is_right = all(is_size(it, key) for kind, key in KINDS.items() for it in found[kind])
     except (ValueError, LookupError, TypeError, AttributeError, RecursionError):
         is_right = False
-    except Problem as problem:
-        raise Problem(str(problem), 2) from None
     if not is_right:
-        raise Problem(f"{name}: not an output of work65 size --json", 2)
+        raise Problem(f"{name}: not an output of work65 size --json")
     return {kind: found[kind] for kind in KINDS}
 
 
 def is_size(entry: Values, key: str) -> bool:
     """Returns whether an entry has a name, its bytes, and those by segment if it has these."""
     by_segment = entry.get("segments", {}) if key == "size" else {}
+    texts = [entry["name"], entry.get("module", ""), entry.get("source", "")]
     numbers = [entry[key], *by_segment.values()]
-    return isinstance(entry["name"], str) and all(isinstance(it, int) for it in numbers)
+    return all(isinstance(it, str) for it in texts) and all(isinstance(it, int) for it in numbers)
+
+
+def full_name(entry: Values) -> str:
+    """Returns the name of an entry, for a procedure after that of its module."""
+    return f"{entry['module']} {entry['name']}" if "module" in entry else str(entry["name"])
 
 
 def changes(kind: str, before: Values, now: Values) -> List[Change]:
     """Returns what changed of a kind: areas, segments, modules or procedures."""
-    sizes: List[Dict[Tuple[str, str], int]] = [{}, {}]
-    for values, found in zip((before, now), sizes):
+    found: Dict[str, List[int]] = {}
+    for number, values in enumerate((before, now)):
         for it in values[kind]:
-            key = (it["name"], it.get("module", ""))
-            found[key] = found.get(key, 0) + it[KINDS[kind]]
-    both = dict.fromkeys([*sizes[0], *sizes[1]])
-    found = [Change(*key, sizes[0].get(key, 0), sizes[1].get(key, 0)) for key in both]
-    return [it for it in found if it.change]
+            found.setdefault(full_name(it), [0, 0])[number] += it[KINDS[kind]]
+    return [Change(name, *sizes) for name, sizes in found.items() if sizes[0] != sizes[1]]
 
 
-class AreaLine:
-    """Says what changed in one area, by procedure, and the rest by module."""
+def outermost(values: Values) -> Iterator[Values]:
+    """Yields the procedures that aren't within another one."""
+    names = {full_name(it) for it in values["procedures"]}
+    for it in values["procedures"]:
+        parts = full_name(it).split("::")
+        if not any("::".join(parts[:number]) in names for number in range(1, len(parts))):
+            yield it
 
-    def __init__(self, area: str, before: Values, now: Values) -> None:
-        self.area, self.before, self.now = area, before, now
-        self.names: Set[str] = set()
-        for it in [*before["segments"], *now["segments"]]:
-            if area in (it.get("area"), it.get("load_area")):
-                self.names.add(it["name"])
-        both = [*before["modules"], *now["modules"]]
-        self.sources = {it["name"]: it.get("source") or it["name"] for it in both}
 
-    def bytes_of(self, values: Values, kind: str) -> Dict[Tuple[str, str], int]:
-        """Returns the bytes in this area by module and name."""
-        found: Dict[Tuple[str, str], int] = {}
-        for it in values[kind]:
-            sizes = it.get("segments", {})
-            key = (it.get("module", it["name"]), it["name"])
-            found[key] = sum(size for name, size in sizes.items() if name in self.names)
-        return found
-
-    def change(self, kind: str) -> Dict[Tuple[str, str], int]:
-        """Returns the changes in this area by module and name."""
-        before, now = self.bytes_of(self.before, kind), self.bytes_of(self.now, kind)
-        return {it: now.get(it, 0) - before.get(it, 0) for it in dict.fromkeys([*before, *now])}
-
-    def parts(self) -> Iterator[Tuple[str, int]]:
-        """Yields each changed procedure that isn't within another, and the rest of each module."""
-        rest = {module: change for (module, _), change in self.change("modules").items()}
-        procedures = self.change("procedures") if self.has_procedures() else {}
-        for (module, name), change in procedures.items():
-            parts = name.split("::")
-            around = ("::".join(parts[:number]) for number in range(1, len(parts)))
-            if not any((module, it) in procedures for it in around):
-                rest[module] = rest.get(module, 0) - change
-                yield f"{self.sources.get(module, module)} {name}", change
-        yield from ((self.sources.get(module, module), change) for module, change in rest.items())
-
-    def has_procedures(self) -> bool:
-        """Returns whether both sizes have those of procedures by segment, which a map hasn't."""
-        both = [values["procedures"] for values in (self.before, self.now)]
-        return all(both) and all("segments" in it for procedures in both for it in procedures)
-
-    def text(self, change: int) -> str:
-        """Returns the text for an area that changed."""
-        parts = sorted((it for it in self.parts() if it[1]), key=lambda it: -abs(it[1]))
-        gaps = change - sum(size for _, size in parts)
-        said = [f"{name} {size:+}" for name, size in [*parts, *([("gaps", gaps)] if gaps else [])]]
-        noun = "byte" if abs(change) == 1 else "bytes"
-        return f"{self.area} {change:+} {noun}" + (f": {', '.join(said)}" if said else "")
+def parts_of_area(area: str, before: Values, now: Values) -> Dict[str, int]:
+    """Returns the changes in an area: of each procedure, by its source and name, and of the rest of
+    each source. A module whose source isn't known stands for it. Procedures are left out if their
+    bytes by segment aren't known, as those of a map."""
+    both = [*before["segments"], *now["segments"]]
+    segments = {it["name"] for it in both if area in (it.get("area"), it.get("load_area"))}
+    modules = [*before["modules"], *now["modules"]]
+    sources = {it["name"]: it.get("source") or it["name"] for it in modules}
+    procedures = [list(outermost(it)) for it in (before, now)]
+    is_known = all(procedures) and all("segments" in it for found in procedures for it in found)
+    found: Dict[str, int] = {}
+    for sign, values, within in zip((-1, 1), (before, now), procedures):
+        for it in [*values["modules"], *(within if is_known else [])]:
+            sizes = it.get("segments", {}).items()
+            size = sign * sum(size for name, size in sizes if name in segments)
+            source = sources.get(it.get("module", it["name"]), "")
+            if "module" in it:
+                found[source] = found.get(source, 0) - size
+                source += f" {it['name']}"
+            found[source] = found.get(source, 0) + size
+    return {name: size for name, size in found.items() if size}
 
 
 def line_of_changes(before: Values, now: Values) -> str:
     """Returns one line that says what changed in all areas."""
-    found = changes("areas", before, now)
-    said = [AreaLine(it.name, before, now).text(it.change) for it in found]
+    said = []
+    for area in changes("areas", before, now):
+        parts = parts_of_area(area.name, before, now)
+        gaps = area.change - sum(parts.values())
+        parts.update({"gaps": gaps} if gaps else {})
+        names = sorted(parts, key=lambda it: -abs(parts[it]))
+        noun = "byte" if abs(area.change) == 1 else "bytes"
+        listed = ", ".join(f"{name} {parts[name]:+}" for name in names)
+        said.append(f"{area.name} {area.change:+} {noun}" + (f": {listed}" if listed else ""))
     return "; ".join(said) or "no area has more or fewer bytes"
 
 
-def as_values(before: Values, now: Values) -> Dict[str, object]:
+def as_values(before: Values, now: Values) -> Values:
     """Returns the changes as plain values."""
-    found: Dict[str, object] = {"line": line_of_changes(before, now)}
+    found: Values = {"line": line_of_changes(before, now)}
     for kind in KINDS:
         found[kind] = [{**it._asdict(), "change": it.change} for it in changes(kind, before, now)]
-    return found
-
-
-def rows_of(kind: str, before: Values, now: Values) -> Sequence[Sequence[str]]:
-    """Returns the rows of a table of what changed."""
-    found = []
-    for it in changes(kind, before, now):
-        numbers = [str(it.before), str(it.now), f"{it.change:+}"]
-        found.append([it.name, *numbers, *([it.module] if kind == "procedures" else [])])
     return found

@@ -25,7 +25,7 @@ def failures(crossings: Crossings) -> Iterator[str]:
         for it in wanted:
             moves = "it is larger than a page"
             if it.moves is not None:
-                moves = "move it {} bytes on or {} back".format(*it.moves)
+                moves = "bytes to move: {} on or {} back".format(*it.moves)
             if leaves_page(it.first, it.last):
                 yield f"{place}: Error: samepage: {text(it)}; {moves}"
 

@@ -348,6 +348,10 @@ class Trial:
         """Runs work65, and returns what it prints."""
         return builds.work65(self.program, folder, *words, status=status).stdout
 
+    def tool(self, folder: str, *words: str) -> None:
+        """Runs bin65."""
+        subprocess.run([self.program, *words], cwd=folder, check=True, capture_output=True)
+
     def same(self, name: str, said: object, wanted: object) -> None:
         """Compares two results."""
         self.results.check(name, said == wanted, f"{said}\nis wanted to be\n{wanted}")
@@ -415,8 +419,8 @@ def simulated(trial: Trial) -> None:
             folder = trial.folder({"a.s": text, "a.cfg": SIMULATOR})
             said = trial.run(folder, "list", "--cycles", "-C", "a.cfg", "a.s")
             found = re.findall(r"; routine: (\d+) to (\d+) cycles", said) or found
-            for words in (("ca65", "-o", "a.o", "a.s"), ("ld65", "-C", "a.cfg", "-o", "a.bin", "a.o")):
-                subprocess.run([trial.program, *words], cwd=folder, check=True)
+            trial.tool(folder, "ca65", "-o", "a.o", "a.s")
+            trial.tool(folder, "ld65", "-C", "a.cfg", "-o", "a.bin", "a.o")
             ran = subprocess.run(["sim65", "-c", "a.bin"], cwd=folder, capture_output=True, text=True, check=True)
             counts[body, index] = int(re.findall(r"(\d+) cycles", ran.stdout + ran.stderr)[0])
     wanted = [counts[STRAIGHT, it] - counts["        rts\n", it] + 6 for it in ("0", "255")]
@@ -435,8 +439,8 @@ def references(trial: Trial) -> None:
     trial.same("unused --entry", names, ["spare", "unseen", "lost", "handlers", "handled"])
     script = SCRIPT.replace("START", "$8000") + "SYMBOLS { spare: type = import; }\n"
     folder = trial.folder({**UNUSED, "a.cfg": script})
-    subprocess.run([trial.program, "ca65", "-o", "b.o", "lib/b.s"], cwd=folder, check=True)
-    subprocess.run([trial.program, "ca65", "-o", "a.o", "lib/a.s"], cwd=folder, check=True)
+    for name in ("a", "b"):
+        trial.tool(folder, "ca65", "-o", f"{name}.o", f"lib/{name}.s")
     said = trial.run(folder, "unused", "-C", "a.cfg", "main.s", "a.o", "b.o")
     is_so = "spare" not in said and "EXPORT" not in said and "\nb.o: not seen: its lines" in said
     trial.results.check("unused with objects", is_so, said)
@@ -448,8 +452,10 @@ def banks(trial: Trial) -> None:
     trial.same("banks", trial.run(folder, "banks", *words, status=1), BANKED_TEXT)
     values = json.loads(trial.run(folder, "banks", "--json", *words, status=1))
     trial.same("banks --json", [it["label_bank"] for it in values], [1, 2, 2, 2])
-    pages.put(f"{folder}/a.s", "\n".join(it for it in BANKED.splitlines() if not re.search("two,|reported", it)) + "\ntwo = 5\n")
-    trial.same("no call between banks", trial.run(folder, "banks", *words), "")
+    parts = {"CODE1": "one: jsr one", "CODE2": "two: jmp two", "FIXED": "jsr one", "HIGH": "jmp two"}
+    text = "".join(f' .segment "{segment}"\n {line}\n' for segment, line in parts.items())
+    said = trial.run(trial.folder({"a.s": text, "a.cfg": BANKS}), "banks", *words)
+    trial.same("no call between banks", said, "")
 
 
 def differences(trial: Trial) -> None:
@@ -459,9 +465,8 @@ def differences(trial: Trial) -> None:
 
     def sizes(name: str) -> str:
         for it in ("main", "enemies"):
-            subprocess.run([trial.program, "ca65", "-o", f"{it}.o", f"{it}.s"], cwd=folder, check=True)
-        line = [trial.program, "ld65", "-C", "a.cfg", "-m", f"{name}.map", "main.o", "enemies.o"]
-        subprocess.run(line, cwd=folder, check=True)
+            trial.tool(folder, "ca65", "-o", f"{it}.o", f"{it}.s")
+        trial.tool(folder, "ld65", "-C", "a.cfg", "-m", f"{name}.map", "main.o", "enemies.o")
         pages.put(f"{folder}/{name}.json", trial.run(folder, "size", "--json", *words))
         return trial.run(folder, "size", "--json", "-C", "a.cfg", f"{name}.map")
 

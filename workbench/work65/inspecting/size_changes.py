@@ -89,9 +89,9 @@ def parts_of_area(area: str, before: Values, now: Values) -> Dict[str, int]:
 
 
 def line_of_changes(before: Values, now: Values) -> str:
-    """Returns one line that says what changed in all areas."""
+    """Returns one line that says what changed in all areas, the largest change first."""
     said = []
-    for area in changes("areas", before, now):
+    for area in sorted(changes("areas", before, now), key=lambda it: -abs(it.change)):
         parts = parts_of_area(area.name, before, now)
         gaps = area.change - sum(parts.values())
         parts.update({"gaps": gaps} if gaps else {})

@@ -293,10 +293,8 @@ next:   php
         plp
         pla
         clc
-        bcs     out
-        bcc     out
         nop
-out:    rts
+        rts
 """
 SIMULATED = """        .segment "HEADER"
         .byte   "sim65", 2, 0, 0
@@ -313,18 +311,19 @@ start:  ldx     #INDEX
 .proc routine
 BODY
 .endproc
-        .res    $06FF - *
+        .segment "TABLE"
 page:   .res    1
 """
 SIMULATOR = """MEMORY {
     HEADER: start = $0000, size = $000C;
     ZP:     start = $0010, size = $00E0, file = "";
-    RAM:    start = $0600, size = $0400;
+    RAM:    start = $0600, size = $0400, fill = yes;
 }
 SEGMENTS {
     HEADER:   load = HEADER;
     ZEROPAGE: load = ZP, type = zp;
     CODE:     load = RAM;
+    TABLE:    load = RAM, start = $06FF;
 }
 """
 LISTED = re.compile(r"([0-9A-F]{4})  [0-9A-F ]{23} (\S*)")
@@ -517,13 +516,32 @@ def examples(trial: Trial) -> None:
     for it in builds.programs(f"{trial.top}/examples"):
         folder = f"{trial.top}/examples/{it.folder}"
         lines = json.loads(trial.run(folder, "list", "--json", *it.words()))["lines"]
-        coded = [line for line in lines if re.match(r"[a-z]{3}\b", line["text"].split(":")[-1].strip()) and line["size"] in (1, 2, 3)]
+        coded = [line for line in lines if re.match(r"\s*([@\w?]*:(?!:))?\s*[a-z]{3}\b", line["text"]) and line["size"] in (1, 2, 3)]
         trial.results.check(f"{it.name}: cycles", bool(coded) and all(line["cycles"] for line in coded), [it for it in coded if not it["cycles"]])
         values = json.loads(trial.run(folder, "pages", "--json", *it.words()))["crossings"]
         found = [(line["file"], line["line"]) for line in values if line["kind"] == "branch"]
         trial.same(f"{it.name}: branches that cross pages", found, crossed_by_bytes(lines))
         said = trial.run(folder, "unused", *it.words())
         trial.results.check(f"{it.name}: unused", " bytes aren't referred to\n" in said, said)
+
+
+def makefile(trial: Trial) -> None:
+    """The targets of example/Makefile."""
+    folder = f"{trial.top}/make"
+    shutil.copytree(f"{pages.ROOT}/example/hello", f"{folder}/hello")
+    shutil.copy(f"{pages.ROOT}/example/Makefile", folder)
+
+    def make(target: str) -> "subprocess.CompletedProcess[str]":
+        words = ["make", "-s", f"BIN65={trial.program}", f"WORK65={sys.executable} -m work65", "TARGET=c64", target]
+        how = builds.environment(trial.program)
+        return subprocess.run(words, cwd=folder, env=how, capture_output=True, text=True, check=False)
+
+    trial.results.check("make size", make("size").returncode == 0 and os.path.exists(f"{folder}/out/hello/c64/size.json"))
+    pages.put(f"{folder}/hello/main.s", builds.text_of(f"{folder}/hello/main.s") + " .rodata\n .byte 1,2,3\n")
+    ran = make("size-diff")
+    trial.results.check("make size-diff", bool(re.search(r"\n\w+ \+3 bytes: hello/main.s \+3\n$", ran.stdout)), ran.stdout + ran.stderr)
+    ran = make("pages")
+    trial.results.check("make pages", ran.returncode == 0 and "crossings: " in ran.stdout, ran.stdout + ran.stderr)
 
 
 def large(trial: Trial, count: int) -> None:
@@ -549,7 +567,7 @@ def main() -> None:
     program, results = os.path.abspath(sys.argv[1]), builds.Results()
     with tempfile.TemporaryDirectory() as top:
         trial = Trial(program, results, top)
-        for test in (whole_table, crossings, sums, references, banks, differences, refused, examples):
+        for test in (whole_table, crossings, sums, references, banks, differences, refused, examples, makefile):
             test(trial)
         if shutil.which("sim65"):
             simulated(trial)

@@ -185,7 +185,7 @@ handled                        label     1     CODE      main.o
 MEMBER NEEDED ONLY BY THESE  size
 l.lib(b.o)                      4
 
-33 bytes aren't referred to
+33 bytes aren't referred to: CODE 20, BSS 5, RODATA 6, ZEROPAGE 2
 main.s:7: not seen: where this leads: jmp (pointer)
 main.s:25: not seen: where this leads: rts
 """
@@ -522,7 +522,7 @@ def examples(trial: Trial) -> None:
         found = [(line["file"], line["line"]) for line in values if line["kind"] == "branch"]
         trial.same(f"{it.name}: branches that cross pages", found, crossed_by_bytes(lines))
         said = trial.run(folder, "unused", *it.words())
-        trial.results.check(f"{it.name}: unused", " bytes aren't referred to\n" in said, said)
+        trial.results.check(f"{it.name}: unused", " bytes aren't referred to" in said, said)
 
 
 def makefile(trial: Trial) -> None:
@@ -547,7 +547,7 @@ def makefile(trial: Trial) -> None:
 def large(trial: Trial, count: int) -> None:
     """Each command takes at most three seconds of a processor for itself."""
     block = "p{0}:  ldx #4\n@on: lda table,x\n sta buffer,x\n dex\n bne @on\n lda #<table\n sta pointer\n lda (pointer),y\n beq p{0}\n rts\n"
-    parts = [f".proc q{number}\n{block.format(number)}.endproc\n jsr q{number}\n" for number in range(count // 260)]
+    parts = [f".proc q{number}\n{block.format(number)}.endproc\n jsr q{number}\n" for number in range(count // 258)]
     head = " .zeropage\npointer: .res 2\n .bss\nbuffer: .res 8\n .rodata\ntable: .byte 1,2,3,4,5\n .code\n"
     files = {f"m{number}.s": head + "".join(parts) for number in range(20)}
     files["a.cfg"] = SCRIPT.replace("START", "$4000").replace("$4000;", "$C000;")

@@ -24,6 +24,16 @@ def row(it: Unreferred) -> List[str]:
     return [it.name, it.kind, str(it.size), "+".join(it.segments), it.module]
 
 
+def total(found: List[Unreferred]) -> str:
+    """Returns the sum of all bytes, and of those by segment."""
+    sums: Dict[str, int] = {}
+    for it in found:
+        for name, size in it.segments.items():
+            sums[name] = sums.get(name, 0) + size
+    listed = ", ".join(f"{name} {size}" for name, size in sums.items())
+    return f"{sum(sums.values())} bytes aren't referred to" + (f": {listed}" if listed else "")
+
+
 def text(references: References) -> Iterator[str]:
     """Yields the tables, the sum, and what can't be seen."""
     found, more = references.unreferred(), ["kind", "size", "segment", "module"]
@@ -36,7 +46,7 @@ def text(references: References) -> Iterator[str]:
     ]
     for heads, rows in tables:
         yield from (*table(heads, rows), "") if rows else ()
-    yield f"{sum(it.size for it in found)} bytes aren't referred to"
+    yield total(found)
     for line in references.unseen():
         yield f"{line.place}: not seen: where this leads: {line.statement}"
     for name in references.program.unknown:

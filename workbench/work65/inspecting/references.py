@@ -41,13 +41,13 @@ class Piece:
 @dataclass
 class Unreferred:
     """A procedure, label or variable that nothing refers to, or, if `is_indirect` is set, only what
-    isn't referred to itself."""
+    isn't referred to itself. `segments` are its bytes by segment."""
 
     name: str
     module: str
     kind: str
     size: int
-    segments: List[str]
+    segments: Dict[str, int]
     is_indirect: bool
 
 
@@ -144,12 +144,14 @@ class References:
 
     def row(self, name: str, pieces: List[Piece]) -> Unreferred:
         """Returns one or several pieces under a name."""
-        segments = list(dict.fromkeys(piece.segment for piece in pieces if piece.size))
+        segments: Dict[str, int] = {}
+        for piece in pieces:
+            segments[piece.segment] = segments.get(piece.segment, 0) + piece.size
         is_indirect = any(piece.referring - set(pieces) for piece in pieces)
         is_procedure = any(piece.label and piece.label.body for piece in pieces)
         is_variable = set(segments) <= set(self.program.variables)
         kind = "variable" if is_variable else "procedure" if is_procedure else "label"
-        size = sum(piece.size for piece in pieces)
+        size = sum(segments.values())
         return Unreferred(name, pieces[0].module, kind, size, segments, is_indirect)
 
     def unimported(self) -> List[Tuple[str, str]]:
@@ -158,7 +160,8 @@ class References:
         wanted.update(name for module in modules for name in module.imports)
         if self.program.unknown:
             return []
-        return [(it, module.name) for module in modules for it in module.exports if it not in wanted]
+        names = ((name, module.name) for module in modules for name in module.exports)
+        return [it for it in names if it[0] not in wanted]
 
     def members(self) -> List[Tuple[str, int]]:
         """Returns the library members that only such code needs, with their sizes."""

@@ -86,6 +86,25 @@ a.s:14: lda table-1,x: reads 81FC to 8200
 a.s:18: lda (pointer),y: reads 81FD to 8200
 crossings: 1 by branches, 3 by tables; reads through pointers to unknown tables: 1
 """
+# From $8000: a read in a .proc that sets its pointer has only that table, another read has both; only `far` crosses a page.
+POINTERS = """        .zeropage
+pointer: .res   2
+        .code
+.proc first
+        lda     #<near
+        sta     pointer
+        lda     (pointer),y
+.endproc
+.proc second
+        ldx     #<far
+        ldy     #>far
+        stx     pointer
+.endproc
+        lda     (pointer),y
+near:   .byte   1, 2
+        .res    $80FF - $8010   ; from 8010 on
+far:    .byte   1, 2
+"""
 # A comment on a line, and the message that it causes, if any.
 SAMEPAGE = {
     "bne     loop            ; samepage": "",
@@ -390,6 +409,10 @@ def crossings(trial: Trial) -> None:
     trial.same("pages", trial.run(folder, "pages", *words), CROSSED)
     values = json.loads(trial.run(folder, "pages", "--json", *words))["crossings"]
     trial.same("pages --json", [it["first"] for it in values], [0x80FF, 0x81FD, 0x81FC, 0x81FD])
+    files = {"a.s": POINTERS, "a.cfg": SCRIPT.replace("START", "$8000")}
+    said = trial.run(trial.folder(files), "pages", *words).splitlines()[:-1]
+    trial.same("pointers", said, ["a.s:14: lda (pointer),y: reads 80FF to 8100"])
+    files["a.cfg"] = SCRIPT.replace("START", "$80F0")
     for comment, wanted in SAMEPAGE.items():
         line = re.sub(r"\s*;.*", "", comment.split("\n")[0])
         text = re.sub(rf"^( *){re.escape(line)}\s.*$", lambda it: it[1] + comment, CROSSING, 1, re.M)
@@ -516,7 +539,7 @@ def examples(trial: Trial) -> None:
     for it in builds.programs(f"{trial.top}/examples"):
         folder = f"{trial.top}/examples/{it.folder}"
         lines = json.loads(trial.run(folder, "list", "--json", *it.words()))["lines"]
-        coded = [line for line in lines if re.match(r"\s*([@\w?]*:(?!:))?\s*[a-z]{3}\b", line["text"]) and line["size"] in (1, 2, 3)]
+        coded = [line for line in lines if re.match(r"\s*([@\w?]*:(?!:))?\s*[a-z]{3}(?=\s|$)", line["text"]) and line["size"] in (1, 2, 3)]
         trial.results.check(f"{it.name}: cycles", bool(coded) and all(line["cycles"] for line in coded), [it for it in coded if not it["cycles"]])
         values = json.loads(trial.run(folder, "pages", "--json", *it.words()))["crossings"]
         found = [(line["file"], line["line"]) for line in values if line["kind"] == "branch"]

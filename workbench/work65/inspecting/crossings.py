@@ -41,7 +41,10 @@ class Crossings:
 
     def __init__(self, program: LinkedProgram) -> None:
         self.program, self.spans = program, Spans(program)
-        self.pointed = pointed(program)
+        bodies = ((label.procedure, line) for label in program.labels for line in label.body)
+        self.procedures = {line: procedure for procedure, line in bodies}
+        self.pointed: Dict[Tuple[Optional[str], int], List[Label]] = {}
+        self.add_pointed()
 
     def all(self) -> Iterator[Crossing]:
         """Yields all branches and tables that cross a page, in the order of the lines."""
@@ -55,10 +58,26 @@ class Crossings:
         if not is_indexed_read(line) or base is None:
             return []
         if line.size == 2:
-            found = [(label, label.address) for label in self.pointed.get(base, [])]
+            own = self.pointed.get((self.procedures.get(line), base), [])
+            found = [(label, label.address) for label in own or self.pointed.get((None, base), [])]
         else:
             found = [(label, base) for label in self.spans.named(line)[:1] if label.end > base]
         return [Crossing(line, "table", it, min(one.end, it + PAGE) - 1) for one, it in found]
+
+    def add_pointed(self) -> None:
+        """Adds the labels whose low byte is stored at an address of the zero page, in each .proc
+        and, by None, anywhere: `#<` and the label is loaded, and the same register is stored before
+        it is loaded again."""
+        loaded: Dict[str, List[Label]] = {}
+        for line in filter(lambda it: it.is_instruction, self.program.lines):
+            if line.word in STORES.values():
+                named = [label for labels in line.named for label in labels]
+                is_low = re.match(r"\w+ # ?(<|\.lobyte)", line.statement, re.I) and len(named) == 1
+                loaded[line.word] = named if is_low else []
+            labels = loaded.get(STORES.get(line.data[0], ""), [])
+            for procedure in {None, self.procedures.get(line)} if labels else ():
+                known = self.pointed.setdefault((procedure, line.operand or 0), [])
+                known += (label for label in labels if label not in known)
 
     def unknown(self) -> List[Line]:
         """Returns the reads through pointers whose tables aren't known."""
@@ -95,18 +114,3 @@ def branch(line: Line) -> List[Crossing]:
 def has_samepage(text: str) -> bool:
     """Returns whether the comment of a line begins with the word `samepage`."""
     return "samepage" in text.lower() and bool(SAMEPAGE.match(text, line_of(text).comment))
-
-
-def pointed(program: LinkedProgram) -> Dict[int, List[Label]]:
-    """Returns the labels whose low byte the program stores at an address of the zero page: `#<`
-    and the label is loaded, and the same register is stored before it is loaded again."""
-    loaded: Dict[str, List[Label]] = {}
-    found: Dict[int, List[Label]] = {}
-    for line in filter(lambda it: it.is_instruction, program.lines):
-        if line.word in STORES.values():
-            named = [label for labels in line.named for label in labels]
-            is_low = re.match(r"\w+ # ?(<|\.lobyte)", line.statement, re.I) and len(named) == 1
-            loaded[line.word] = named if is_low else []
-        labels = found.setdefault(line.operand or 0, []) if line.data[0] in STORES else []
-        labels += (it for it in loaded.get(STORES.get(line.data[0], ""), []) if it not in labels)
-    return found

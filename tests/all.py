@@ -41,7 +41,8 @@ SCRIPTS = [
     "hostile", "large", "workbench_port", "workbench_random", "workbench_trees", "workbench_idioms", "io_faults", "alloc_faults",
     "fuzz", "one_program", "cases", "disk", "sums", "version1",
     "migrating", "differences", "cc65_scripts", "tutorial", "language", "messages", "editors", "makefile", "machines", "second",
-    "labels", "workbench_list", "workbench_labels", "workbench_debug", "workbench_deps", "workbench_size", "workbench_bad",
+    "labels", "workbench_list", "workbench_labels", "workbench_debug", "workbench_deps", "workbench_size",
+    "workbench_cycles", "workbench_bad",
     "workbench_check", "workbench_faults", "workbench_lexer", "packaging", "release",
 ]
 EXAMPLES = ["first", "programs", "library", "sizes"]

@@ -9,6 +9,8 @@ from work65.formats.maps import read_map
 from work65.formats.picture import svg
 from work65.frontend.files import read_bytes, read_text
 from work65.frontend.link_script import read_script
+from work65.inspecting.command import bad_input, write_json, write_lines
+from work65.inspecting.size_changes import KINDS, Values, as_values, changes, line_of_changes, read_sizes
 from work65.instrumenting.build import add_arguments as add_build_arguments, build, wanted_of
 from work65.instrumenting.copies import Constants
 from work65.instrumenting.layout import layout_of
@@ -26,6 +28,7 @@ def add_arguments(parser: argparse.ArgumentParser) -> None:
     add_build_arguments(parser)
     parser.add_argument("--json", action="store_true", help="write JSON")
     parser.add_argument("--svg", metavar="FILE", help="draw memory as a picture into FILE, instead of the text")
+    parser.add_argument("--diff", metavar="OLD", help="show the bytes won and lost since OLD, an earlier output of --json")
 
 
 def is_map(name: str) -> bool:
@@ -77,8 +80,30 @@ def text(sizes: Sizes, has_bars: bool) -> Iterator[str]:
         yield from table(["PROCEDURE", "size", "module"], [[it.name, str(it.size), it.module] for it in sizes.procedures])
 
 
+def changed(before: Values, now: Values) -> Iterator[str]:
+    """Yields what changed as tables, and last as one line."""
+    for kind in KINDS:
+        rows = [[it.name, str(it.before), str(it.now), f"{it.change:+}"] for it in changes(kind, before, now)]
+        if rows:
+            yield from (*table([kind[:-1].upper(), "before", "now", "change"], rows), "")
+    yield line_of_changes(before, now)
+
+
+def write_difference(arguments: argparse.Namespace) -> None:
+    """Writes what changed since the sizes of --diff."""
+    with bad_input():
+        before, now = read_sizes(arguments.diff), sizes_of_line(arguments).as_values()
+    if arguments.json:
+        write_json(as_values(before, now))
+    else:
+        write_lines(changed(before, now))
+
+
 def run(arguments: argparse.Namespace) -> int:
     """Runs the subcommand. Returns the exit status."""
+    if arguments.diff is not None:
+        write_difference(arguments)
+        return 0
     sizes = sizes_of_line(arguments)
     if arguments.svg is not None:
         write(arguments.svg, svg(sizes).encode())

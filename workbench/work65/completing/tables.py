@@ -51,9 +51,9 @@ class CommandLine(NamedTuple):
 
 
 BY_NAME = {
-    **dict.fromkeys(("FILE", "FILE.dbg", "SOURCE", "PATH", "PROGRAM", "INPUT", "LIBRARY", "MAP", "NAME=FOLDER", "NAME=FOLDER|FILES"), Takes.FILE),
+    **dict.fromkeys(("FILE", "FILE.dbg", "SOURCE", "PATH", "PROGRAM", "INPUT", "LIBRARY", "MAP", "OLD", "NAME=FOLDER", "NAME=FOLDER|FILES"), Takes.FILE),
     **dict.fromkeys(("DIR", "FOLDER"), Takes.FOLDER),
-    **dict.fromkeys(("N", "NAME[=NUMBER]", "NAME=NUMBER"), Takes.TEXT),
+    **dict.fromkeys(("N", "LABEL", "NAME[=NUMBER]", "NAME=NUMBER"), Takes.TEXT),
     "SCRIPT": Takes.SCRIPT,
     "COMMAND": Takes.COMMAND,
 }

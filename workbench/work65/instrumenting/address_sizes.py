@@ -1,10 +1,11 @@
 """Address sizes of a module's symbols, by ca65's rules: a label has its segment's size, a constant that of its expression."""
-from typing import Dict, Iterable, Iterator, List, Optional, Sequence, Set, Tuple
+from typing import Iterable, Optional, Sequence, Set
 
 from work65.formats.objects import Place
 from work65.frontend.tokens import Kind, Token
 from work65.instrumenting.layout import Layout
 from work65.instrumenting.located import LocatedModule, Symbol
+from work65.instrumenting.lookup import Lookup, names_in
 from work65.instrumenting.roles import Role
 from work65.instrumenting.sources import Closure
 
@@ -38,9 +39,7 @@ class AddressSizes:
     def __init__(self, layout: Layout, closure: Closure, module: LocatedModule) -> None:
         self.kinds = {it.name: it.kind for it in layout.script.segments}
         self.short = short_imports(closure)
-        self.scopes, symbols = module.scopes, module.symbols
-        self.symbols: Dict[Tuple[int, str], Symbol] = {(it.scope, it.name): it for it in symbols}
-        self.by_scope: Dict[Tuple[str, str], Symbol] = {(self.scopes[it.scope].name, it.name): it for it in symbols}
+        self.lookup, self.symbols = Lookup(module), module.symbols
 
     def of_segment(self, name: str) -> str:
         """Returns the size of a segment."""
@@ -55,20 +54,15 @@ class AddressSizes:
 
     def found(self, name: Sequence[str], scope: Optional[int]) -> Optional[Symbol]:
         """Resolves a name with its scopes from a scope outward."""
-        if len(name) > 1:
-            return self.by_scope.get((name[-2], name[-1]))
-        while scope is not None:
-            if (scope, name[0]) in self.symbols:
-                return self.symbols[scope, name[0]]
-            scope = self.scopes[scope].parent
-        return None
+        number = self.lookup.found(name, scope)
+        return None if number is None else self.symbols[number]
 
     def of_expression(self, tokens: Sequence[Token], scope: int, value: int, depth: int) -> str:
         """Returns the size of an expression: that of its first address, else that of its value."""
         texts = [it.text.lower() for it in tokens]
         if texts[:1] and texts[0] in BYTES or LOGICAL.intersection(_outer(texts[1:])):
             return SHORT
-        for name in _names(tokens):
+        for name in names_in(tokens):
             symbol = self.found(name, scope)
             if symbol is None:
                 return SHORT if name[-1] in self.short else LONG
@@ -87,16 +81,3 @@ def _outer(texts: Sequence[str]) -> Iterable[str]:
         if depth == 0:
             found.append(it)
     return found
-
-
-def _names(tokens: Sequence[Token]) -> Iterator[List[str]]:
-    """Yields the names of an expression, each with its scopes before it."""
-    parts: List[str] = []
-    for at, it in enumerate(tokens):
-        if it.text == "::":
-            parts = parts or [""]
-        elif it.kind in (Kind.NAME, Kind.CHEAP):
-            parts.append(it.text)
-            if at + 1 == len(tokens) or tokens[at + 1].text != "::":
-                yield parts
-                parts = []

@@ -37,7 +37,8 @@ class BuildOptions:
 
 @dataclass
 class Unit:
-    """A source, its object, and after the link its module in the map and its located lines."""
+    """A source, its object, and after the link its module in the map and its located lines. `exports` are the names that the object
+    exports, `imports` those that it imports and uses."""
 
     source: str
     object: str
@@ -45,6 +46,8 @@ class Unit:
     linked: Optional[Module] = None
     closure: Optional[Closure] = None
     located: Optional[LocatedModule] = None
+    exports: List[str] = field(default_factory=list)
+    imports: List[str] = field(default_factory=list)
 
 
 @dataclass
@@ -229,6 +232,7 @@ class Builder:
         copy, plain = self.read(self.path("copy")), self.read(self.path(unit.object))
         if not plain.is_same_program(copy.without(copies.names.segment)):
             raise Problem(f"{unit.source}: the instrumented copy isn't the same program, so its lines can't be located")
+        unit.exports, unit.imports = [name for name, _ in plain.exports], plain.imports
         return copies.marks.reached(copy, copies.names.segment, closure.main.name), {it.name: it.size for it in plain.sections}
 
     def copy(self, unit: Unit, closure: Closure, tree: LinkedTree, constants: Constants) -> Copies:

@@ -34,20 +34,22 @@ class AreaSize:
 
 @dataclass(frozen=True)
 class ModuleSize:
-    """A module: its size, and the size of each of its sections."""
+    """A module: its size, the size of each of its sections, and its source, empty if that isn't known."""
 
     name: str
     size: int
     segments: Dict[str, int]
+    source: str = ""
 
 
 @dataclass(frozen=True)
 class ProcedureSize:
-    """A procedure: its full name, its module, and its size with all nested scopes."""
+    """A procedure: its full name, its module, and its size with all nested scopes, also by segment."""
 
     name: str
     module: str
     size: int
+    segments: Dict[str, int] = field(default_factory=dict)
 
 
 @dataclass
@@ -84,8 +86,10 @@ def procedures_of(unit: Unit) -> List[ProcedureSize]:
     found = []
     for number, scope in enumerate(module.scopes):
         if scope.is_proc:
-            size = sum(it.size for it in module.lines[scope.first : scope.last])
-            found.append(ProcedureSize(scope_name(module, number)[:-2], unit.module, size))
+            segments: Dict[str, int] = {}
+            for it in module.lines[scope.first : scope.last]:
+                segments[it.place.section] = segments.get(it.place.section, 0) + it.size
+            found.append(ProcedureSize(scope_name(module, number)[:-2], unit.module, sum(segments.values()), segments))
     return found
 
 
@@ -93,8 +97,10 @@ def sizes_of(layout: Layout, units: Sequence[Unit]) -> Sizes:
     """Returns the sizes of a link, procedures by size."""
     areas = [area_of(layout, it) for it in layout.rooms.values()]
     segments = [segment_of(layout, it) for it in layout.map.rows]
+    sources = {unit.module: unit.source for unit in units}
     modules = []
     for module in layout.map.modules:
-        modules.append(ModuleSize(module.name, sum(it.size for it in module.parts), {it.segment: it.size for it in module.parts}))
+        parts = {it.segment: it.size for it in module.parts}
+        modules.append(ModuleSize(module.name, sum(parts.values()), parts, sources.get(module.name, "")))
     procedures = [it for unit in units for it in procedures_of(unit)]
     return Sizes(areas, segments, modules, sorted(procedures, key=lambda it: -it.size))

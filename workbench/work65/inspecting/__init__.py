@@ -1,0 +1,1 @@
+"""Inspects linked programs: cycles, page crossings, references, and calls between banks."""

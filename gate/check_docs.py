@@ -54,9 +54,6 @@ def module_file(root, crate, module):
     return f"{root}/crates/{crate}/specs/{module}.antt"
 
 
-# ---- The rows of PROVED.
-
-
 def rows(text):
     """Yields the rows of the tables of claims, as (crate, cells)."""
     for part in re.split(r"^### ", text, flags=re.M)[1:]:
@@ -95,9 +92,6 @@ def why_row(root, crate, cells):
     named = [(other or crate, it) for other, it in MODULE.findall(modules)]
     lost = [it for it in named if not os.path.exists(module_file(root, *it))]
     return f"no such module: {' '.join(lost[0])}" if lost else None
-
-
-# ---- Pages.
 
 
 def why_public(root, text):

@@ -1,6 +1,5 @@
-"""Checks in the code what no contract can state, since contracts describe contents only: the linker builds no object of a
-module, none of its types keeps a record, and the assembler has no list of statements. tests/measured.py measures their
-memory."""
+"""Checks in the code what no contract can state, since contracts describe contents only: the linker builds no object of a module,
+none of its types keeps a record, and the assembler has no list of statements. tests/measured.py measures their memory."""
 import re
 
 # A linker that receives records one by one builds no object of a module, and keeps none of its records or items.

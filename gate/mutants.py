@@ -6,9 +6,8 @@ usage: mutants.py [CRATE[/EDIT]..]    those of mutants/ and must-fail/, of these
 
 `rt must-fail` tries the first, in a copy of the repository, over what the proofs of the crates kept; these are built first.
 It keeps each result on this machine by a checksum of all that it depends on, so an interrupted run goes on where it stopped.
-The second are tried by the compiler itself over the libraries that `rt ci` has just built in this checkout: it checks the
-functions that the mutants change and no others, while `rt must-fail` would prove the whole crate, and each library below it,
-again.
+The second are tried by the compiler itself over the libraries that `rt ci` has just built in this checkout: it checks only the
+functions that the mutants change, while `rt must-fail` would prove the whole crate again, and each library below it.
 Each minute a line tells how far it is; the last line is 'N refused, M not'."""
 import os
 import re
@@ -48,9 +47,6 @@ def free():
 def name_of(edit):
     """Returns the name of a mutant, CRATE/EDIT."""
     return f"{edit.split('/')[-3]}/{os.path.basename(edit).removesuffix('.edit')}"
-
-
-# ---- All mutants, by `rt must-fail`.
 
 
 def proved_copy(room, crates):
@@ -114,9 +110,6 @@ def try_all(words):
             print("\n".join(f"{name_of(edit)}: {found[edit][1][:200]}" for edit in part), flush=True)
     ended.set()
     return found
-
-
-# ---- Those of changed functions, by the compiler.
 
 
 def git(*words):

@@ -32,11 +32,8 @@ def main(words):
     for steps, _, file in every:
         files[file] = files.get(file, 0) + steps
     print(f"{len(every)} declarations, {sum(files.values()) / 1e6:.1f} million steps")
-    for steps, name, file in every[:count]:
-        print(f"{steps / 1e6:8.1f}  {file}: {name}")
-    print("By file:")
-    for file in sorted(files, key=files.get, reverse=True)[:count]:
-        print(f"{files[file] / 1e6:8.1f}  {file}")
+    print(*(f"{steps / 1e6:8.1f}  {file}: {name}" for steps, name, file in every[:count]), sep="\n")
+    print("By file:", *(f"{files[it] / 1e6:8.1f}  {it}" for it in sorted(files, key=files.get, reverse=True)[:count]), sep="\n")
     return 0
 
 

@@ -2,17 +2,18 @@
 """Proves what isn't proved yet and builds the program: crates that don't depend on each other side by side.
 
 usage: prove.py [CRATE..]    these libraries and those they depend on (default: the program, and those it depends on)
-Each minute it prints how far it is, and at the end how long each crate took or, if one failed, the first thing that the
-prover said. What a crate's proof printed is in its out/prove.log. If no file changed since the program was built, it does
-nothing.
+Each minute it prints how far it is, and at the end how long each crate took or, if one failed, what the prover said first.
+A crate's out/prove.log has all that its proof printed. If no file changed since the program was built, it does nothing.
 
 It uses the code of `rt` itself: two calls of `rt lib` don't run at the same time, since each locks the crates below its own,
 and `rt all check` gives each crate one process and a processor also to crates that wait for others."""
+import contextlib
 import copy
 import hashlib
 import importlib.machinery
 import importlib.util
 import os
+import re
 import subprocess
 import sys
 import threading
@@ -26,9 +27,10 @@ PROGRAM = f"{ROOT}/crates/bin65/out/bin65"
 SUM = f"{PROGRAM}.sum"
 # What a proof takes, by which `rt` decides how many run at a time; in rare cases it takes 6 GB.
 MEMORY = 4_000_000_000
+
+
 def load():
-    """Returns the toolchain's command `rt` as a module. What another checkout on this machine proved of the same text is
-    taken over."""
+    """Returns the toolchain's command `rt` as a module, set to take over what another checkout on this machine proved."""
     sys.dont_write_bytecode = True
     loader = importlib.machinery.SourceFileLoader("rt", f"{reader.kit()}/bin/rt")
     rt = importlib.util.module_from_spec(importlib.util.spec_from_loader("rt", loader))
@@ -62,24 +64,6 @@ def lines_of(name):
         return it.read().split("\n")
 
 
-def prove(crate, jobs):
-    """Builds a library, and returns why it isn't proved, or None."""
-    crate = copy.copy(crate)
-    with open(log_of(crate.name), "w", errors="replace") as crate.out:
-        try:
-            if not crate.build_rlib(["--jobs", str(jobs)], anew=False):
-                return None
-        except SystemExit:
-            pass
-    return first_reason(lines_of(crate.name))
-
-
-def far(name):
-    """Returns how many functions of a crate are proved, as its log says last."""
-    said = [line for line in lines_of(name) if line.startswith("so far: ")]
-    return f" ({said[-1][len('so far: '):].partition(';')[0].replace(' checked', '')})" if said else ""
-
-
 class Proofs:
     """The proofs of crates, lowest first: which are proved, how long each took, and why one failed."""
 
@@ -87,22 +71,22 @@ class Proofs:
         self.rt, self.crates, self.proved, self.running, self.took, self.why = rt, crates, proved, [], {}, {}
 
     def prove(self, crate, jobs):
-        """Proves a crate, unless it is proved or another one failed."""
+        """Builds a library, unless it is proved or another one failed."""
         if self.why or crate in self.proved:
             return
-        begun = time.monotonic()
+        begun, made, failed = time.monotonic(), copy.copy(crate), True
         self.running.append(crate.name)
-        why = prove(crate, jobs)
+        with open(log_of(crate.name), "w", errors="replace") as made.out, contextlib.suppress(SystemExit):
+            failed = made.build_rlib(["--jobs", str(jobs)], anew=False)
         self.running.remove(crate.name)
         self.took[crate.name] = time.monotonic() - begun
-        if why:
-            self.why[crate.name] = why
+        if failed:
+            self.why[crate.name] = first_reason(lines_of(crate.name))
         else:
             self.proved.add(crate)
 
     def run(self):
-        """Proves the crates, each once those below it are proved, those of the longest chain first, and returns whether all
-        are."""
+        """Proves the crates, those of the longest chain first, and returns whether all are proved."""
         tasks = {}
         for it in self.crates:
             size = 0 if it in self.proved else sum(map(os.path.getsize, reader.sources(it.folder)))
@@ -112,8 +96,12 @@ class Proofs:
         return not self.why
 
     def progress(self):
-        now = ", ".join(f"{it}{far(it)}" for it in [*self.running])
-        return f"{len(self.proved)} of {len(self.crates)} crates proved; now {now or 'the program'}"
+        """Returns how many crates are proved, and how many functions of those that run, as their logs say last."""
+        now = []
+        for name in [*self.running]:
+            far = re.findall(r"^so far: (\d+ of \d+ functions)", "\n".join(lines_of(name)), re.M)
+            now.append(f"{name} ({far[-1]})" if far else name)
+        return f"{len(self.proved)} of {len(self.crates)} crates proved; now {', '.join(now) or 'the program'}"
 
     def build(self):
         """Builds the program, and returns whether it is there."""

@@ -1,6 +1,5 @@
-"""Checks that no file contains text of cc65's: six or more of its lines, of at least 30 bytes each, that also occur in one
-file of an installed cc65. Addresses are facts and may be the same; sentences and code may not. Runs of blanks count as
-one."""
+"""Checks that no file contains text of cc65's: six or more lines, of at least 30 bytes each, of one file of an installed cc65.
+Addresses are facts and may be the same; sentences and code may not. Runs of blanks count as one."""
 import os
 import subprocess
 

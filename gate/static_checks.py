@@ -1,7 +1,6 @@
 #!/usr/bin/env python3
-"""Checks texts before anything is proved: the layout of code, what the linker's and the assembler's types hold, whether each
-mutant can be applied, whether what the maintainers' pages cite exists, and whether a file contains text of an installed
-cc65's. Takes half a minute.
+"""Checks texts before anything is proved: the layout of code, what types of the linker and the assembler hold, whether each
+mutant can be applied, whether what the maintainers' pages cite exists, and whether a file has text of an installed cc65's.
 
 usage: static_checks.py
 The last line is 'N passed, M failed': one for each crate, mutant, claim and page, and one for the texts of cc65's."""

@@ -117,7 +117,9 @@ class Proofs(Part):
     def read(self, line):
         """Shows a line if it is one of `rt` itself, and why a crate or a mutant failed."""
         self.lines.append(line)
-        self.block = [line] if line.startswith("== ") else [*self.block, line]
+        if line.startswith("== "):
+            self.block = []
+        self.block.append(line)
         found, why = self.ENDED.match(line), None
         if found and found[3] == "NOT PROVED":
             why = f"{found[1]}{found[2] or ''}: not proved: {first_reason(self.block[1:-1])}"
@@ -151,8 +153,7 @@ class Proofs(Part):
 
 
 class Beside:
-    """The parts that run beside the proofs, several at a time; the mutants have a lane of their own, since they use what `rt
-    ci` has built."""
+    """The parts that run beside the proofs, several at a time; the mutants, which use what `rt ci` has just built, at once."""
 
     def __init__(self, lanes):
         self.pool, self.parts, self.mutants = ThreadPoolExecutor(lanes), [], ThreadPoolExecutor(1)

@@ -91,7 +91,9 @@ class Tree:
 
 
 def reading(tree):
-    """Checks what is read of code."""
+    """Checks what is read of code, and of edits: which can be applied, and which functions they change."""
+    why = {name: reader.edited(it, tree.folder)[1] for name, it in tree.edits.items()}
+    own = {name: [*mutants.functions_of(it, tree.folder)] for name, it in tree.edits.items()}
     found = {it.path: it for it in reader.functions(tree.folder)}
     one, two = found.get("counts::next"), found.get("Counter::twice")
     lines = SOURCE.split("\n")
@@ -104,14 +106,6 @@ def reading(tree):
         "code": "One more" not in (code := reader.code_of(tree.folder)) and "≡" not in code and "n + 1" in code,
         "crates": (crates := reader.crates(tree.root)) == {"made": ["arrayvec"], "high": ["made"]},
         "crates below": reader.below("high", crates) == {"made"},
-    }
-
-
-def edits(tree):
-    """Checks which edits can be applied, and which functions they change."""
-    why = {name: reader.edited(it, tree.folder)[1] for name, it in tree.edits.items()}
-    own = {name: [*mutants.functions_of(it, tree.folder)] for name, it in tree.edits.items()}
-    return {
         "edits that can't be applied": {name for name, it in why.items() if it} == {"not_there", "twice_there"},
         "functions of edits": own == {name: it[2] for name, it in EDITS.items()},
         "the text that an edit makes": "    n + 2\n" in reader.edited(tree.edits["adds_two"], tree.folder)[0]["src/counts.rt"][1],
@@ -330,7 +324,7 @@ def main():
     checks = {**refusals(), **failures(), **starts(), **kept(), **others()}
     with tempfile.TemporaryDirectory() as room:
         tree = Tree(room)
-        for part in (reading, edits, landing, citations):
+        for part in (reading, landing, citations):
             checks |= part(tree)
     return results.report(checks)
 

@@ -10,6 +10,7 @@ import subprocess
 import sys
 
 import pages
+import results
 
 LINK = re.compile(r"\]\(([^)\s]+)\)")
 
@@ -50,23 +51,15 @@ def all_wrong(root):
     return [it for page in pages_of(root) for it in wrong(root, page)]
 
 
-def unmerged():
-    """Yields the lines of the repository's files that mark the sides of a merge."""
-    ran = subprocess.run(["git", "grep", "-nIE", "^(<{7}|>{7}) "], cwd=pages.ROOT, capture_output=True, text=True, check=False)
-    yield from (f"a merge was left undone: {it}" for it in ran.stdout.splitlines())
-
-
 def main():
     faults = {page: list(wrong(pages.ROOT, page)) for page in pages_of(pages.ROOT)}
     drawn = subprocess.run([sys.executable, f"{pages.ROOT}/docs/tables/make_picture.py", "--print"], capture_output=True, text=True, check=False)
     if drawn.stdout != pages.read("docs/screens/crates.svg"):
         faults["docs/ARCHITECTURE.md"].append("docs/screens/crates.svg isn't what docs/tables/make_picture.py draws from crates.txt")
-    faults["merges"] = list(unmerged())
-    for it in sum(faults.values(), []):
-        print(it)
-    failed = sum(map(bool, faults.values()))
-    print(f"{len(faults) - failed} passed, {failed} failed")
-    sys.exit(failed > 0)
+    ran = subprocess.run(["git", "grep", "-nIE", "^(<{7}|>{7}) "], cwd=pages.ROOT, capture_output=True, text=True, check=False)
+    faults["merges"] = [f"a merge was left undone: {it}" for it in ran.stdout.splitlines()]
+    checks = {name: True for name, found in faults.items() if not found}
+    sys.exit(results.report({**checks, **{it: False for found in faults.values() for it in found}}))
 
 
 if __name__ == "__main__":

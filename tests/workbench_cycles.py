@@ -548,6 +548,18 @@ def examples(trial: Trial) -> None:
         trial.results.check(f"{it.name}: unused", " bytes aren't referred to" in said, said)
 
 
+def documented(trial: Trial) -> None:
+    """The outputs in docs/WORKBENCH.md for example/nes."""
+    sections = dict(pages.sections(pages.read("docs/WORKBENCH.md"), "##"))
+    words = ["-C", "nes.cfg", *(f"nes/{it}.s" for it in ("controller", "main", "player", "tiles"))]
+    for heading, command in (("list", ["list", "--cycles"]), ("pages", ["pages"]), ("unused", ["unused"])):
+        said = trial.run(f"{pages.ROOT}/example", *command, *words).splitlines()
+        blocks = [it.strip("\n").splitlines() for it in re.findall(r"^```\n(.*?)^```", sections[heading], re.M | re.S)]
+        shown = blocks[2] if heading == "list" else blocks[1]
+        is_so = set(shown) <= set(said) if heading == "list" else shown == said
+        trial.results.check(f"WORKBENCH: {heading}", len(shown) > 4 and is_so, shown)
+
+
 def makefile(trial: Trial) -> None:
     """The targets of example/Makefile."""
     folder = f"{trial.top}/make"
@@ -590,7 +602,7 @@ def main() -> None:
     program, results = os.path.abspath(sys.argv[1]), builds.Results()
     with tempfile.TemporaryDirectory() as top:
         trial = Trial(program, results, top)
-        for test in (whole_table, crossings, sums, references, banks, differences, refused, examples, makefile):
+        for test in (whole_table, crossings, sums, references, banks, differences, refused, examples, documented, makefile):
             test(trial)
         if shutil.which("sim65"):
             simulated(trial)

@@ -156,6 +156,7 @@ start:  jsr     used            ; the first instruction: 3 + 3 + 3 bytes
         jsr     old
 @own:   jmp     @own
 .endproc
+        .addr   kept            ; outside of the .proc, so it counts
 .proc falls                     ; runs on into `next`, and is called
         lda     table - 1,x
         lda     SPEED
@@ -173,6 +174,7 @@ handlers:
         .addr   handled
         .code
 handled: rts                    ; only a table refers to it, and nothing to the table
+kept:   rts
         .bss
 SPEED = there + 1
 there:  .res    2
@@ -206,7 +208,7 @@ l.lib(b.o)                      4
 
 33 bytes aren't referred to: CODE 20, BSS 5, RODATA 6, ZEROPAGE 2
 main.s:7: not seen: where this leads: jmp (pointer)
-main.s:25: not seen: where this leads: rts
+main.s:26: not seen: where this leads: rts
 """
 BANKS = """MEMORY {
     ONE:   start = $8000, size = $4000; # bank 1: pictures

@@ -156,6 +156,7 @@ start:  jsr     used            ; the first instruction: 3 + 3 + 3 bytes
         jsr     old
 @own:   jmp     @own
 .endproc
+        .addr   kept            ; outside of the .proc, so it counts
 .proc falls                     ; runs on into `next`, and is called
         lda     table - 1,x
         lda     SPEED
@@ -173,6 +174,7 @@ handlers:
         .addr   handled
         .code
 handled: rts                    ; only a table refers to it, and nothing to the table
+kept:   rts
         .bss
 SPEED = there + 1
 there:  .res    2
@@ -206,7 +208,7 @@ l.lib(b.o)                      4
 
 33 bytes aren't referred to: CODE 20, BSS 5, RODATA 6, ZEROPAGE 2
 main.s:7: not seen: where this leads: jmp (pointer)
-main.s:25: not seen: where this leads: rts
+main.s:26: not seen: where this leads: rts
 """
 BANKS = """MEMORY {
     ONE:   start = $8000, size = $4000; # bank 1: pictures
@@ -548,6 +550,18 @@ def examples(trial: Trial) -> None:
         trial.results.check(f"{it.name}: unused", " bytes aren't referred to" in said, said)
 
 
+def documented(trial: Trial) -> None:
+    """The outputs in docs/WORKBENCH.md for example/nes."""
+    sections = dict(pages.sections(pages.read("docs/WORKBENCH.md"), "##"))
+    words = ["-C", "nes.cfg", *(f"nes/{it}.s" for it in ("controller", "main", "player", "tiles"))]
+    for heading, command in (("list", ["list", "--cycles"]), ("pages", ["pages"]), ("unused", ["unused"])):
+        said = trial.run(f"{pages.ROOT}/example", *command, *words).splitlines()
+        blocks = [it.strip("\n").splitlines() for it in re.findall(r"^```\n(.*?)^```", sections[heading], re.M | re.S)]
+        shown = blocks[2] if heading == "list" else blocks[1]
+        is_so = set(shown) <= set(said) if heading == "list" else shown == said
+        trial.results.check(f"WORKBENCH: {heading}", len(shown) > 4 and is_so, shown)
+
+
 def makefile(trial: Trial) -> None:
     """The targets of example/Makefile."""
     folder = f"{trial.top}/make"
@@ -590,7 +604,7 @@ def main() -> None:
     program, results = os.path.abspath(sys.argv[1]), builds.Results()
     with tempfile.TemporaryDirectory() as top:
         trial = Trial(program, results, top)
-        for test in (whole_table, crossings, sums, references, banks, differences, refused, examples, makefile):
+        for test in (whole_table, crossings, sums, references, banks, differences, refused, examples, documented, makefile):
             test(trial)
         if shutil.which("sim65"):
             simulated(trial)

@@ -27,8 +27,9 @@ def add_arguments(parser: argparse.ArgumentParser) -> None:
     """Adds the arguments of this subcommand."""
     add_build_arguments(parser)
     parser.add_argument("--json", action="store_true", help="write JSON")
-    parser.add_argument("--svg", metavar="FILE", help="draw memory as a picture into FILE, instead of the text")
-    parser.add_argument("--diff", metavar="OLD", help="show the bytes won and lost since OLD, an earlier output of --json")
+    add = parser.add_mutually_exclusive_group().add_argument
+    add("--svg", metavar="FILE", help="draw memory as a picture into FILE, instead of the text")
+    add("--diff", metavar="OLD", help="show the bytes won and lost since OLD, an earlier output of --json")
 
 
 def is_map(name: str) -> bool:

@@ -73,7 +73,10 @@ class References:
         self.used = reached(self.roots(), lambda piece: following.get(piece, []))
 
     def add_pieces(self) -> None:
-        """Divides the lines into pieces. The first label at an address begins one."""
+        """Divides the lines into pieces. The first label at an address begins one, and so does the
+        line after an outermost .proc."""
+        bodies = (it.body for it in self.program.labels if it.procedure == it.name)
+        closing = {body[-1] for body in bodies if body}
         last: Dict[Tuple[str, str], Piece] = {}
         for line in self.program.lines:
             plain = next((label for label in line.labels if not label.is_cheap), None)
@@ -85,6 +88,8 @@ class References:
             piece.lines.append(line)
             piece.label = piece.label or plain
             self.by_label.update(dict.fromkeys(line.labels, piece))
+            if line in closing:
+                del last[line.module, line.segment]
         for piece in sorted(self.pieces, key=lambda it: it.start):
             self.segments.setdefault(piece.segment, []).append(piece)
             if piece.label is not None:
@@ -110,7 +115,7 @@ class References:
                     following.referring.add(piece)
 
     def roots(self) -> Iterator[Piece]:
-        """Yields what counts as referred to: bytes before a first label, entries, exports that the
+        """Yields what counts as referred to: bytes without a label, entries, exports that the
         script or an unknown input may import, and imports that no line of their module names."""
         yield from (piece for piece in self.pieces if piece.label is None)
         yield from map(self.entry, self.entries)

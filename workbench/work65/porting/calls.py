@@ -63,11 +63,8 @@ class Calls:
     def is_hidden_there(self, macros: List[Macro], rest: Sequence[Token]) -> bool:
         """Returns whether a scope around a call has used a name of it."""
         names = {it.text for it in rest} | {name for it in macros for name in it.names}
-        if self.project.is_measured and not any(it.directives & ASKING for it in macros):
-            return False
-        is_inner = any(it.directives & (ASKING | words.SCOPE_BEGINS) for it in macros)
-        scopes = self.context.scopes if is_inner else self.context.scopes[:-1]
-        return any(not names.isdisjoint(it.used) for it in scopes)
+        is_asked = any(it.directives & ASKING for it in macros)
+        return is_asked and any(not names.isdisjoint(it.used) for it in self.context.scopes)
 
     def has_other_regions(self, macro: Macro) -> bool:
         """Returns whether a macro with cheap names of its own would end the region of those around its call."""

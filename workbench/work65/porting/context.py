@@ -94,9 +94,7 @@ class Context:
     cheap_constants: Dict[str, str] = field(default_factory=dict)
     region: str = ""
     part: int = 0
-    short_names: Set[str] = field(default_factory=set)
     hoisted: Dict[Tuple[str, ...], str] = field(default_factory=dict)
-    differences: Set[str] = field(default_factory=set)
     uncertain: Set[Tuple[str, ...]] = field(default_factory=set)
     variables: Dict[Tuple[str, ...], str] = field(default_factory=dict)
     versions: Dict[str, int] = field(default_factory=dict)

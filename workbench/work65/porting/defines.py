@@ -42,7 +42,7 @@ def _is_use(tokens: Sequence[Token], at: int, context: Context, is_whole: bool) 
         return False
     if define.is_ambiguous and not define.is_constant:
         raise Unportable(one.text, "define", "it has several values: write the constant or the text out")
-    if not define.is_constant or is_whole and not define.is_ambiguous:
+    if not define.is_constant or is_whole and not define.is_ambiguous and (one.text,) not in context.uncertain:
         return True
     return len(define.tokens) > 1 and not _is_closed(define.tokens) and not _stands_alone(tokens, at)
 
@@ -138,4 +138,4 @@ def defined(text: str, statement: Statement, context: Context, is_single: bool) 
 
 def _number(tokens: Sequence[Token], context: Context) -> Optional[int]:
     """Returns the value of a define that is a number."""
-    return value(tokens, context.value)
+    return value(tokens, context.certain)

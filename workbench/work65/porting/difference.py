@@ -32,7 +32,7 @@ class Finder:
 
     def __init__(self, ported: Ported, script: str, bin65: Linked, modules: Dict[str, LinkedModule]) -> None:
         self.ported, self.bin65, self.modules = ported, bin65, modules
-        text, self.names = with_files(script, "image")
+        text, self.names = with_files(script, OUTPUT)
         self.layout: Optional[Layout] = None
         if bin65.map is not None:
             self.layout = layout_of(read_script(text, "the script"), bin65.map, "the script")

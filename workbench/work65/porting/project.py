@@ -22,6 +22,7 @@ from work65.porting.logical import Logical, logical_lines
 
 OWN = "work65"
 BANK = re.compile(r"\.bank\b", re.I)
+CONDITION = re.compile(r"[ \t]*\.(else)?if", re.I)
 WORD = re.compile(r"[A-Za-z_]\w*", re.A)
 ALL_TARGET_NAMES = frozenset().union(*map(words.defined_by, words.TARGETS))
 
@@ -56,7 +57,7 @@ class Project:
     texts: Dict[str, Text]
     include_folders: Sequence[str]
     target: Optional[str]
-    names: FrozenSet[str] = frozenset()
+    names: Dict[str, Optional[int]] = field(default_factory=dict)
     processor: str = "6502"
     features: FrozenSet[str] = frozenset()
     tree: Survey = field(default_factory=Survey)
@@ -74,8 +75,8 @@ class Project:
     variants: Dict[str, List[str]] = field(default_factory=dict)
     modules_walked: List[str] = field(default_factory=list)
     scripts: Dict[str, Text] = field(default_factory=dict)
-    is_measured: bool = False
     spread: Spread = field(default_factory=Spread)
+    is_fixed: bool = False
     segments: Set[str] = field(default_factory=set)
     segments_there: Set[str] = field(default_factory=set)
     segments_perhaps: Set[str] = field(default_factory=set)
@@ -84,13 +85,13 @@ class Project:
     entries: Dict[Tuple[int, str], int] = field(default_factory=dict)
     banks: Dict[str, int] = field(default_factory=dict)
     label_segments: Dict[str, Dict[Tuple[str, ...], str]] = field(default_factory=dict)
-    below_zero: Dict[str, Dict[str, int]] = field(default_factory=dict)
+    beyond: List[Finding] = field(default_factory=list)
     doubtful: List[Tuple[str, int, Unportable]] = field(default_factory=list)
     own_sources: List[str] = field(default_factory=list)
-    guessed: Dict[Line, str] = field(default_factory=dict)
     _waiting: List[str] = field(default_factory=list)
     _is_looking: bool = False
     _words: Optional[Set[str]] = None
+    _mentioned: Optional[Set[str]] = None
     _logical: Dict[str, List[Logical]] = field(default_factory=dict)
     _globals: Dict[str, List[str]] = field(default_factory=dict)
 
@@ -117,7 +118,7 @@ class Project:
     def _look_at(self, path: str) -> None:
         """Notes what a file includes, which sizes it asks for, and what it defines."""
         guard = guard_of(self.texts[path].lines)
-        self.guards |= {guard} - self.names if guard is not None else set()
+        self.guards |= {guard} - self.names.keys() if guard is not None else set()
         targets = words.defined_by(self.target)
         macro, parameters = "", _names(())
         for text in self.texts[path].lines:
@@ -166,8 +167,15 @@ class Project:
                 if name != path:
                     del self.texts[name]
         self.outputs, self.findings, self.variants, self.entries = {}, {}, {}, {}
-        self.doubtful, self.packages = [], set()
+        self.doubtful, self.beyond, self.packages = [], [], set()
         self._words = None
+
+    def is_absent(self, name: str) -> bool:
+        """Returns whether only conditions have a name, and no other -D gives it."""
+        if self._mentioned is None:
+            lines = (line for text in self.texts.values() for line in text.lines if not CONDITION.match(line))
+            self._mentioned = {it for line in lines for it in WORD.findall(line)}
+        return self.is_fixed and name not in self._mentioned and name not in self.names
 
     def has_banks(self) -> bool:
         """Returns whether a source asks for a bank."""
@@ -234,7 +242,7 @@ class Project:
             found = os.path.relpath(place, self.base)
             if found in self.texts:
                 return found, name if folder in self.include_folders else self.relative(found, path)
-            if os.path.isfile(place):
+            if os.path.exists(place) and not os.path.isdir(place):
                 return self._added(found, text_of(place), path, name)
         own = os.path.join(OWN, name)
         text = None if own in self.texts else asminc_file(name, self.include_folders)

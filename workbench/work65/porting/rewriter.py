@@ -6,13 +6,13 @@ from work65.frontend.edits import edited
 from work65.frontend.expression import scoped_name, value
 from work65.frontend.statements import Statement, statement_of
 from work65.frontend.tokens import Kind, Token, line_of
-from work65.porting import condes, conditions, defines, forms, guards, lists, packages, ranges, registers, shifts, spelling
+from work65.porting import condes, conditions, defines, guards, lists, packages, ranges, registers, shifts, spelling
 from work65.porting import statements, structures
 from work65.porting.characters import as_elements
 from work65.porting.context import OpenScope
 from work65.porting.expansion import Macro
 from work65.porting.facts import facts_of
-from work65.porting.imported import AUTOIMPORT, Lists
+from work65.porting.imported import AUTOIMPORT, names_of
 from work65.porting.known import ModuleState
 from work65.porting.leaves import Line
 from work65.porting.line import Unportable, commented_out, replaced
@@ -57,10 +57,6 @@ class Rewriter:
             named = self.named(at, text, statement)
             if named is not None:
                 return named
-        if head in words.MNEMONICS and self.project.is_measured:
-            self.guess(at, statement)
-        elif head in words.MNEMONICS:
-            text = forms.prefixed(text, forms.prefix_for(statement, context))
         shifts.refuse(statement.body, context)
         if "force_range" in context.features:
             text = ranges.cut(text, statement, context)
@@ -72,12 +68,6 @@ class Rewriter:
                 return self.with_size(found, statement)
         self.state.note(statement)
         return self.with_size([text], statement)
-
-    def guess(self, at: int, statement: Statement) -> None:
-        """Notes the size prefix that a line needs by the rules, which count if the line isn't assembled, so isn't measured."""
-        prefix = forms.prefix_for(statement, self.context)
-        if prefix and self.state.lines is self.project.logical(self.state.path):
-            self.project.guessed[Line(self.state.path, self.state.lines[at].number)] = prefix
 
     def named(self, at: int, text: str, statement: Statement) -> Optional[List[str]]:
         """Returns the lines in place of a long branch, an undocumented instruction or a call of scrcode; None for anything else."""
@@ -95,7 +85,7 @@ class Rewriter:
         """Returns the function that rewrites each directive."""
         context = self.context
         found: Dict[str, Handler] = {
-            ".define": lambda at, text, it: defines.defined(text, it, context, self.project.is_single(it)),
+            ".define": lambda at, text, it: self.defined(text, it),
             ".undefine": lambda at, text, it: self.undefined(text, it), ".undef": lambda at, text, it: self.undefined(text, it),
             ".macpack": lambda at, text, it: self.package(text, it), ".autoimport": lambda at, text, it: self.autoimport(text, it),
             ".elseif": lambda at, text, it: self.other_question(at, text, it),
@@ -192,6 +182,14 @@ class Rewriter:
                 block.is_else_live = None if asked is None else not asked
             else:
                 block.is_live = False
+        return found
+
+    def defined(self, text: str, statement: Statement) -> List[str]:
+        """Rewrites a .define."""
+        found = defines.defined(text, statement, self.context, self.project.is_single(statement))
+        name = statement.rest[0].text
+        if self.context.defines[name].is_constant and self.state.is_uncertain(name):
+            self.context.uncertain.add((name,))
         return found
 
     def undefined(self, text: str, statement: Statement) -> List[str]:
@@ -322,7 +320,7 @@ class Rewriter:
         names = self.project.spread.imports.get(self.state.module)
         if names is None or not self.context.is_plain:
             raise Unportable(".autoimport", "autoimport", AUTOIMPORT if names is None else "")
-        new = [it for it in names if it not in Lists(self.project, self.state.module).imported | self.state.imported]
+        new = [it for it in names if it not in names_of(self.project, self.state.module) | self.state.imported]
         self.state.imported |= set(new)
         return lists.of_imports(text, statement, new)
 
@@ -359,10 +357,8 @@ class Rewriter:
         self.state.note(statement)
         if self.project.is_own_macro(statement.body[0].text):
             return [text]
-        if self.project.is_measured and context.macro is not None:
+        if context.macro is not None:
             return [text]
-        if context.macro is not None and any(it.text in context.parameters for it in target):
-            raise Unportable(statement.head, "longbranch", "its target is a parameter: write the short or the long branch")
         first = statement.body[0]
         near = edited(text, [(first.start, first.end, f"{statement.head}{packages.NEAR}")])
         if len(target) == 1 and target[0].kind is Kind.CHEAP:

@@ -6,7 +6,7 @@ from work65.frontend import words
 from work65.frontend.edits import edited
 from work65.frontend.statements import Statement, statement_of
 from work65.frontend.tokens import Kind, line_of
-from work65.porting import conditions, defines, forms, spelling, structures
+from work65.porting import conditions, defines, shifts, spelling, structures
 from work65.porting.calls import Calls
 from work65.porting.context import OpenCondition, RewrittenLine
 from work65.porting.expander import Expander
@@ -199,10 +199,6 @@ class Walk:
         facts = facts_of(text, has_escapes)
         self.state.keep_line(text)
         if self.is_left(facts, has_escapes):
-            if self.project.is_measured and forms.may_differ(facts.tokens, facts.names, context, False):
-                plain = statement_of(facts.tokens, self.project.is_macro)
-                if plain.head in words.MNEMONICS:
-                    self.rewriter.guess(at, plain)
             self.note_plain(facts)
             return [text]
         if not facts.tokens:
@@ -247,7 +243,7 @@ class Walk:
         if facts.directives & FUNCTIONS or ".include" in facts.directives or facts.is_long:
             return False
         names = facts.names
-        if forms.may_differ(facts.tokens, names, context, self.project.is_measured):
+        if shifts.has_shift(facts.tokens):
             return False
         if not self.state.sized_names.isdisjoint(names) or self.label_splits(facts):
             return False

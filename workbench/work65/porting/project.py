@@ -22,7 +22,7 @@ from work65.porting.logical import Logical, logical_lines
 
 OWN = "work65"
 BANK = re.compile(r"\.bank\b", re.I)
-CONDITION = re.compile(r"[ \t]*\.(else)?if", re.I)
+ASKING = re.compile(r"^[ \t]*\.(?:else)?if.*|\.def(?:ined)?\s*\([^()]*\)", re.I)
 WORD = re.compile(r"[A-Za-z_]\w*", re.A)
 ALL_TARGET_NAMES = frozenset().union(*map(words.defined_by, words.TARGETS))
 
@@ -171,10 +171,10 @@ class Project:
         self._words = None
 
     def is_absent(self, name: str) -> bool:
-        """Returns whether only conditions have a name, and no other -D gives it."""
+        """Returns whether the tree only asks for a name, and no -D gives it."""
         if self._mentioned is None:
-            lines = (line for text in self.texts.values() for line in text.lines if not CONDITION.match(line))
-            self._mentioned = {it for line in lines for it in WORD.findall(line)}
+            lines = (line for text in self.texts.values() for line in text.lines)
+            self._mentioned = {it for line in lines for it in WORD.findall(ASKING.sub("", line))}
         return self.is_fixed and name not in self._mentioned and name not in self.names
 
     def has_banks(self) -> bool:

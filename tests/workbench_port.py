@@ -379,6 +379,13 @@ def names(tries, has_cc65):
         tries.check("names outside of ASCII", ran.returncode == 0 and (not has_cc65 or ran.stdout == ALONE), ran)
         ours = subprocess.run([tries.program, "ca65", "-o", "a.o", "\u00fc.s"], cwd=f"{folder}/out", capture_output=True, check=False)
         tries.check("the copy has all that it needs", ours.returncode == 0, ours)
+        os.mkdir(f"{folder}/bytes")
+        with open(os.fsencode(f"{folder}/bytes/") + b"\xe9.s", "wb") as it:
+            it.write(b" .byte 1 ; \xff\n stz 1\n")
+        how = {**os.environ, "BIN65": tries.program, "PYTHONIOENCODING": "utf-8:strict"}
+        ran = subprocess.run(["sh", WORK65, "port", "bytes", "-o", "out4"], cwd=folder, env=how, capture_output=True, check=False)
+        good = b"\xe9.s:1: $FF: cc65 takes" in ran.stdout and b"\xe9.s:2: stz: " in ran.stdout and not ran.stderr
+        tries.check("a name that isn't UTF-8, and a byte that ends the file", ran.returncode == 1 and good, ran)
         for number in range(2000):
             pages.put(f"{folder}/deep/i{number}.inc", f'.include "i{number + 1}.inc"\n')
         pages.put(f"{folder}/deep/i2000.inc", " nop\n")

@@ -12,6 +12,7 @@ from work65.porting.line import Unportable, commented_out
 BEFORE = frozenset((",", "#", "(", "=", ":=", "{"))
 AFTER = frozenset((",", ")", "}"))
 UNEXPANDED = frozenset((".define", ".undefine", ".undef"))
+ENDS = words.CONDITIONS | {".else", ".elseif", ".endif"}
 SIGNS = frozenset("<>=:&|*/-+")
 MOST, LONGEST = 200, 10000
 
@@ -114,6 +115,8 @@ def defined(text: str, statement: Statement, context: Context, is_single: bool) 
     if not statement.rest or statement.rest[0].kind is not Kind.NAME:
         raise Unportable(".define", "define")
     name, rest = statement.rest[0], statement.rest[1:]
+    if rest and rest[0].lower in ENDS:
+        raise Unportable(".define", "define-list", "it stands for the line of a condition: write that out")
     parameters: Optional[List[str]] = None
     if rest and rest[0].text == "(":
         close = next((at for at, it in enumerate(rest) if it.text == ")"), len(rest) - 1)

@@ -272,9 +272,9 @@ def _kind_of(it: Token, is_exact: bool) -> Tuple[str, str]:
 
 
 def _unsigned(form: str, values: List[object]) -> List[object]:
-    """Returns the values for a form, with those of 64 bits that it shows without a sign."""
+    """Returns the values for a form, with those of 64 bits that it shows without a sign. For ca65 `%x` has one."""
     kinds = [it[-1] for it in re.findall(r"%[0-9.-]*[a-zA-Z]", form.replace("%%", ""))]
-    return [it & (1 << 64) - 1 if isinstance(it, int) and kind in "xXou" else it for it, kind in zip(values, kinds)]
+    return [it & (1 << 64) - 1 if isinstance(it, int) and kind in "Xou" else it for it, kind in zip(values, kinds)]
 
 
 def _quoted(text: str) -> Optional[str]:

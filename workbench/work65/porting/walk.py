@@ -64,6 +64,8 @@ class Walk:
         row = RewrittenLine(number, [text])
         self.state.rows.append(row)
         self.state.here, self.rewriter.original = at, text
+        if "\xff" in text:
+            self.state.cannot(number, Unportable("$FF", "form", "cc65 takes a byte $FF as the end of the file: write it as a number"))
         if self.context.is_dead and not self.goes_on(text):
             self.pass_by(row, text)
             return at + 1

@@ -5,7 +5,7 @@ from typing import Dict, Iterator, List, Optional, Sequence, Set, Tuple
 from work65.frontend import grammar, words
 from work65.frontend.conditions import Conditions
 from work65.frontend.files import Text, place_of
-from work65.frontend.includes import find_file, word_of
+from work65.frontend.includes import find_file, late, word_of
 from work65.frontend.reach import reached
 from work65.frontend.segments import HEADS as SEGMENT_HEADS, Segments, short_names
 from work65.frontend.statements import Statement, statement_in, statement_of
@@ -244,6 +244,7 @@ def found_in(texts: List[Text], tree: Survey, files: Optional[Files] = None, inc
         reader = Reader(text, tree, files)
         found += reader.findings()
         found += [(None, Finding(text.path, number, name, BY_NAME["cheap-twice"])) for number, name in cheap.twice(text)]
+        found += [(macro or None, Finding(text.path, number, ".include", BY_NAME["include-late"])) for macro, number in late(text.lines)]
         calls += [(*it, text.path) for it in reader.calls]
         waiting += [left.pop(it) for it in sorted(reader.includes) if it in left]
     by_caller: Dict[Optional[str], List[str]] = {}
@@ -259,7 +260,7 @@ def _refused_calls(found: List[Tuple[Optional[str], Finding]], calls: List[Tuple
     """Returns the first call in each file of each macro whose lines have a finding."""
     first: Dict[str, Finding] = {}
     for macro, it in found:
-        if macro is not None and macro in called:
+        if macro is not None and macro in called and it.habit.name != "include-late":
             first.setdefault(macro, it)
     while True:
         more = {caller: first[name] for caller, name, _, _ in calls if caller is not None and name in first and caller not in first}

@@ -183,7 +183,7 @@ class Expander:
         """Returns whether a repeat with this line must be expanded."""
         statement = statement_in(text, self.host.has_escapes)
         tokens = line_of(text, self.host.has_escapes).tokens
-        if statement.head in words.MACRO_EXITS or any(it.lower in HARD for it in tokens):
+        if statement.head in words.MACRO_EXITS | {".include"} or any(it.lower in HARD for it in tokens):
             return True
         return self.host.is_written_out(statement)
 

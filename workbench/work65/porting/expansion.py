@@ -3,6 +3,7 @@ from dataclasses import dataclass, field
 from typing import Dict, FrozenSet, List, Sequence, Set
 
 from work65.frontend import words
+from work65.frontend.includes import late
 from work65.frontend.statements import block_length, statement_in, statement_of
 from work65.frontend.tokens import Kind, Token, line_of
 from work65.porting.characters import has_text
@@ -36,6 +37,7 @@ class Macro:
     is_ambiguous: bool = False
     leaves_repeat: bool = False
     sizes_parameter: bool = False
+    names_file: bool = False
     depth: int = 0
     repeats: int = 0
 
@@ -52,6 +54,8 @@ class Macro:
             elif it.kind is Kind.CHEAP:
                 self.cheap.add(it.text)
             self.has_shift = self.has_shift or it.lower in (">>", ".shr")
+        files = zip(tokens, tokens[1:])
+        self.names_file = self.names_file or any(it.lower in (".include", ".incbin") and name.kind is not Kind.STRING for it, name in files)
         sized = zip(tokens, tokens[1:], tokens[2:])
         self.sizes_parameter = self.sizes_parameter or any(it.lower == ".sizeof" and name.text in self.parameters for it, _, name in sized)
         self._note(tokens)
@@ -95,7 +99,9 @@ def hard_macros(macros: Dict[str, Macro], also: FrozenSet[str], spread: Set[str]
 
 def _is_hard(macro: Macro) -> bool:
     """Returns whether a macro's own lines have it expanded. A scope that it opens and closes may stay."""
-    if macro.directives & HARD or macro.has_cheap_constant or macro.leaves_repeat or macro.sizes_parameter:
+    if macro.directives & HARD or macro.has_cheap_constant or macro.leaves_repeat or macro.sizes_parameter or macro.names_file:
+        return True
+    if ".include" in macro.directives and late([".macro m", *macro.lines, ".endmacro"]):
         return True
     if not macro.directives & SCOPES:
         return False

@@ -17,7 +17,7 @@ from work65.porting.line import Unportable
 from work65.porting.logical import Logical
 from work65.porting.project import Project
 
-BYTES = words.MNEMONICS | words.DATA | {".asciiz", ".tag", ".faraddr", ".lobytes", ".hibytes", ".bankbytes"}
+BYTES = words.MNEMONICS | words.DATA | {".asciiz", ".incbin", ".tag", ".faraddr", ".lobytes", ".hibytes", ".bankbytes"}
 PLACING = words.MNEMONICS | words.PLACING | words.UNDOCUMENTED | {".proc"}
 # Directives that test names without using them.
 ASKING = frozenset((".ifdef", ".ifndef", ".ifblank", ".ifnblank"))
@@ -44,7 +44,8 @@ class ModuleState:
         self.others: Optional[Tuple[List[Logical], Dict[int, List[str]]]] = None
         self.screen = ""
         self.given: Dict[int, int] = {}
-        self.expanding = self.number = self.here = 0
+        self.expanding = self.number = self.here = self.blocks = 0
+        self.late: List[str] = []
         self.hard_key: Tuple[int, int, str, int] = (0, 0, "", 0)
         self.hard_names: FrozenSet[str] = frozenset()
         self.imported: Set[str] = set()

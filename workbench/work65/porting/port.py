@@ -39,7 +39,7 @@ def read_project(paths: Sequence[str], options: Options) -> Project:
     names = {name: value_of(in_decimal(number)) for name, number in ((*it.split("=", 1), "0")[:2] for it in options.define)}
     include, kept = [os.path.abspath(it) for it in options.include], KEPT.intersection(options.features)
     return Project(base, texts, include, options.target, names, options.processor.lower(), kept, symbols=dict(options.symbols),
-                   is_fixed=options.is_fixed)
+                   is_fixed=options.is_fixed, sources=list(texts) if options.is_fixed else [])
 
 
 @dataclass

@@ -77,6 +77,7 @@ class Project:
     scripts: Dict[str, Text] = field(default_factory=dict)
     spread: Spread = field(default_factory=Spread)
     is_fixed: bool = False
+    sources: List[str] = field(default_factory=list)
     segments: Set[str] = field(default_factory=set)
     segments_there: Set[str] = field(default_factory=set)
     segments_perhaps: Set[str] = field(default_factory=set)
@@ -147,11 +148,9 @@ class Project:
                 self.undefined_names.add(statement.rest[0].text)
 
     def modules(self) -> List[str]:
-        """Returns the files that no other includes, sources first."""
+        """Returns the files that no other includes, or the sources that are given in the order of a link."""
         inside = set().union(*self.included.values()) if self.included else set()
-        own = [it for it in self.texts if not it.startswith(OWN + os.sep)]
-        first = [it for it in own if it not in inside]
-        return first + [it for it in own if it in inside and not it.lower().endswith((".inc", ".mac"))]
+        return self.sources or [it for it in self.texts if it not in inside and not it.startswith(OWN + os.sep)]
 
     @property
     def words(self) -> Set[str]:

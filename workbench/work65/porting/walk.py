@@ -4,6 +4,7 @@ from typing import List, Optional, Sequence
 
 from work65.frontend import words
 from work65.frontend.edits import edited
+from work65.frontend.includes import late
 from work65.frontend.statements import Statement, statement_of
 from work65.frontend.tokens import Kind, line_of
 from work65.porting import conditions, defines, shifts, spelling, structures
@@ -128,7 +129,7 @@ class Walk:
         end = end_of_repeat(self.state.lines, at + 1)
         texts = [it.text for it in self.state.lines[at + 1 : end]]
         is_spread = Line(self.state.path, self.state.lines[at].number) in self.project.spread.repeats
-        if not is_spread and not any(self.has_to_go(here, it) for here, it in enumerate(texts, at + 1)):
+        if not is_spread and not late([".repeat", *texts, ".endrepeat"]) and not any(self.has_to_go(here, it) for here, it in enumerate(texts, at + 1)):
             return None
         expander = Expander(self, self.context.macros, self.state.unique(at))
         expander.repeat(texts, self.state.lines[at].text, {})
@@ -147,6 +148,7 @@ class Walk:
         context, text = self.context, self.state.lines[at].text
         saved, depths = (self.state.lines, self.state.rows, self.state.others), (len(context.blocks), len(context.scopes))
         self.state.number, self.state.rows = self.state.lines[at].number, []
+        self.state.blocks = self.state.blocks if self.state.expanding else depths[0]
         self.state.expanding += 1
         try:
             if label:
@@ -159,7 +161,12 @@ class Walk:
         finally:
             self.state.expanding -= 1
             self.state.lines, self.state.rows, self.state.others = saved
-        row.lines = lines if self.state.expanding else [commented_out(text), *merged(lines)]
+        row.lines = lines if self.state.expanding else [commented_out(text), *merged(lines), *self.read_late()]
+
+    def read_late(self) -> List[str]:
+        """Returns the .include lines of an expansion: cc65 reads these files after its other lines, the last one first."""
+        waiting, self.state.late = self.state.late[::-1], []
+        return [line for it in waiting for line in self.include(it, self.names.parsed(it))]
 
     def emit(self, text: str, following: Sequence[str]) -> None:
         """Rewrites a line of a call that is expanded."""
@@ -277,6 +284,11 @@ class Walk:
         """Rewrites an .include, and walks its file."""
         if not statement.rest or statement.rest[0].kind is not Kind.STRING:
             return [text]
+        if self.state.expanding:
+            if any(it.is_live is None for it in self.context.blocks[self.state.blocks :]):
+                raise Unportable(".include", "include-late", "whether it is reached can't be determined: write the call out")
+            self.state.late.append(text)
+            return []
         token = statement.rest[0]
         name = token.text.strip('"')
         path, spelled = self.project.include(self.state.path, name)

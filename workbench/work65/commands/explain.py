@@ -11,7 +11,8 @@ from work65.diagnosing import bad_arguments
 from work65.diagnosing import causes, recovery
 from work65.diagnosing.message import Message, message_of
 from work65.frontend import words
-from work65.frontend.files import Text, text_of
+from work65.formats.objects import HEAD, read_object
+from work65.frontend.files import Text, read_bytes, text_of
 from work65.frontend.includes import followed
 from work65.frontend.statements import parts_of, statement_in
 from work65.frontend.survey import Survey, surveyed
@@ -92,6 +93,8 @@ def _causes(message: Message, entry: Optional[pages.PageEntry], text: Optional[T
         why = bad_arguments.why_bad(line[at + 1 :]) if at is not None else None
         if why:
             yield f"It is: {why}."
+    if message.text.startswith("unresolved: "):
+        yield from _uses(message.text[12:].split(", "), line)
     if text is None or text.is_script or message.line is None or message.line > len(text.lines):
         return
     texts = [text, *followed([text], [it[2:] for it in line if it.startswith("-I")])]
@@ -111,6 +114,15 @@ def _causes(message: Message, entry: Optional[pages.PageEntry], text: Optional[T
         for it in sources.found_in([text], tree, Files(texts, ()), texts[1:]):
             if (it.path, it.line) == (text.path, message.line) and it.habit.name not in ("form", "include-file", "incbin-file"):
                 yield f"{it.word}: {it.cure} (MIGRATING: {it.habit.heading})"
+
+
+def _uses(names: Sequence[str], line: Sequence[str]) -> Iterator[str]:
+    """Yields where the objects of a command line use these names."""
+    for path in (it for it in line if it.endswith(".o") and os.path.isfile(it)):
+        data = read_bytes(path)
+        for it in dict.fromkeys(read_object(data).uses if data[:5] == HEAD else ()):
+            if it.name in names:
+                yield f"{it.name} is used in {it.file}:{it.line} (module {path})."
 
 
 def _called(text: Text, line: int, tree: Survey) -> str:

@@ -13,6 +13,8 @@ from work65.porting.known import ModuleState
 
 ASKING = frozenset((".ifdef", ".ifndef", ".defined", ".def"))
 BYTES = frozenset((".byte", ".byt"))
+# Directives of which each element becomes something else.
+LISTS = frozenset((".lobytes", ".hibytes", ".bankbytes", ".faraddr"))
 BLANKS = frozenset((".ifblank", ".ifnblank"))
 
 
@@ -36,6 +38,8 @@ class Calls:
         if any(self.is_changed(it) for it in macros):
             return True
         if any(star_in(it) for it in parts_of(rest)) and any(it.directives & words.DATA for it in macros):
+            return True
+        if any(it.text == "{" for it in rest) and any(it.directives & LISTS for it in macros):
             return True
         if any(it.has_shift for it in macros) and shifts.may_turn_negative(rest, context):
             return True

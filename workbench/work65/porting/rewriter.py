@@ -57,6 +57,10 @@ class Rewriter:
             named = self.named(at, text, statement)
             if named is not None:
                 return named
+        if conditions.asks(statement.rest) and statement.label is None and (statement.is_constant or head in words.DATA):
+            lines, asked = conditions.counted(text, statement.rest, context, self.state.unique(at))
+            self.state.note(statement)
+            return replaced(text, statement, [*lines, f"{statement.body[0].text} {asked}"])
         shifts.refuse(statement.body, context)
         if "force_range" in context.features:
             text = ranges.cut(text, statement, context)

@@ -334,7 +334,7 @@ FIXED = (
     (("-D", "COUNT=3"), ".ifndef COUNT\nCOUNT = 2\n.endif\n.repeat COUNT, i\n.ident(.sprintf(\"l%d\", i)): .byte i\n.endrepeat\n", 3),
     (("-D", "PAL"), "K = .defined(PAL)\nM = .defined(NTSC)\n.repeat K + M, i\n.ident(.sprintf(\"l%d\", i)): .byte K, M\n.endrepeat\n", 2),
     (("-D", "S=7"), ".repeat 40, i\n .byte .min(255, i * S)\n.endrepeat\n", 40), (("-D", "B=42"), " .byte .sprintf(\"BUILD %03d\", B)\n", 9),
-    (("--symbol", "K=0x33"), ".import K\n .byte <K\n", 1),
+    (("-C", "apple2-asm.cfg"), " .byte 1\n", 1), (("--symbol", "K=0x33"), ".import K\n .byte <K\n", 1),
 )
 
 

@@ -46,6 +46,7 @@ class ModuleState:
         self.given: Dict[int, int] = {}
         self.expanding = self.number = self.here = self.blocks = 0
         self.late: List[str] = []
+        self.is_placed = False
         self.hard_key: Tuple[int, int, str, int] = (0, 0, "", 0)
         self.hard_names: FrozenSet[str] = frozenset()
         self.imported: Set[str] = set()
@@ -151,6 +152,7 @@ class ModuleState:
     def note_place(self, statement: Statement) -> None:
         """Notes that the segment has something, and whether it surely has bytes."""
         project, segment, head = self.project, self.context.segment, statement.head
+        self.is_placed = True
         if not all(it.is_live is True for it in self.context.blocks):
             project.segments_perhaps.add(segment)
             return

@@ -82,6 +82,7 @@ def ported(project: Project, spread: Spread, given: Sequence[Text] = ()) -> Port
     project.modules_walked = project.modules()
     sys.setrecursionlimit(max(sys.getrecursionlimit(), FRAMES))
     all_scripts = [*project.scripts.values(), *given]
+    project.starts = scripts.starts_of(all_scripts[0]) if len(all_scripts) == 1 else {}
     if len(all_scripts) == 1 and project.has_banks():
         project.banks = scripts.banks_of(all_scripts[0])
         project.label_segments = _walk(project)

@@ -85,6 +85,7 @@ class Project:
     symbols: Dict[str, int] = field(default_factory=dict)
     entries: Dict[Tuple[int, str], int] = field(default_factory=dict)
     banks: Dict[str, int] = field(default_factory=dict)
+    starts: Dict[str, int] = field(default_factory=dict)
     label_segments: Dict[str, Dict[Tuple[str, ...], str]] = field(default_factory=dict)
     beyond: List[Finding] = field(default_factory=list)
     doubtful: List[Tuple[str, int, Unportable]] = field(default_factory=list)
@@ -175,6 +176,10 @@ class Project:
             lines = (line for text in self.texts.values() for line in text.lines)
             self._mentioned = {it for line in lines for it in WORD.findall(ASKING.sub("", line))}
         return self.is_fixed and name not in self._mentioned and name not in self.names
+
+    def is_first(self, module: str) -> bool:
+        """Returns whether a module is the first one of the program's link for sure."""
+        return self.modules_walked[:1] == [module] and (self.is_fixed or len(self.modules_walked) == 1)
 
     def has_banks(self) -> bool:
         """Returns whether a source asks for a bank."""

@@ -11,7 +11,7 @@ from work65.porting.logical import Logical
 
 UNITS = {".byte": 1, ".byt": 1, ".word": 2, ".addr": 2, ".dbyt": 2, ".dword": 4}
 PASSED = words.SEGMENT_WORDS | {".segment", ".pushseg", ".popseg"}
-ENDS = frozenset((".reloc", ".org"))
+ENDS = frozenset((".reloc", ".org", "*"))
 
 
 def opened(text: str, statement: Statement, context: Context, following: Sequence[Logical], is_last: bool) -> List[str]:

@@ -96,7 +96,7 @@ class Rewriter:
             ".endif": lambda at, text, it: conditions.closed(text, it, context), ".else": lambda at, text, it: self.other(text, it),
             ".endproc": lambda at, text, it: self.end_of_scope(text, it), ".endscope": lambda at, text, it: self.end_of_scope(text, it),
             ".local": lambda at, text, it: self.names.local(text, it), "::": lambda at, text, it: self.global_constant(at, text, it),
-            ".org": self.org, ".reloc": lambda at, text, it: registers.closed(text, context),
+            ".org": self.org, "*": self.org, ".reloc": lambda at, text, it: registers.closed(text, context),
         }
         found.update({it: lambda at, text, one: structures.opened(text, one, context) for it in structures.OPENERS})
         found.update({it: lambda at, text, one: structures.closed(text, one, context) for it in structures.CLOSERS})
@@ -235,7 +235,20 @@ class Rewriter:
         """Rewrites an .org."""
         if "string_escapes" in self.context.features:
             raise Unportable(".org", "org")
+        if statement.head == "*":
+            statement = statement._replace(body=(statement.body[0], *statement.body[2:]))
+        if self.is_given(at, statement):
+            return [commented_out(text)]
         return registers.opened(text, statement, self.context, self.state.lines[at + 1 :], self.state.depth == 1 and not self.state.expanding)
+
+    def is_given(self, at: int, statement: Statement) -> bool:
+        """Returns whether an .org before all that the program places is the address that the script gives to the segment, up to the end."""
+        state, context = self.state, self.context
+        is_first = self.project.is_first(state.module) and state.depth == 1 and not state.is_placed and statement.label is None
+        number = value(statement.rest, context.certain)
+        if not is_first or not context.is_plain or context.blocks or number is None or number != self.project.starts.get(context.segment):
+            return False
+        return not any(statement_of(line_of(it.text).tokens, None).head in registers.ENDS | registers.PASSED for it in state.lines[at + 1 :])
 
     def global_constant(self, at: int, text: str, statement: Statement) -> List[str]:
         """Rewrites a definition of a global name: without its `::`, and before all scopes."""

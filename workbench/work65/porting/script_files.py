@@ -8,6 +8,13 @@ from work65.frontend.link_script import OUTPUT
 from work65.frontend.scripts import entries_in, words_of
 from work65.output import words
 
+FOLDERS = ("/usr/share/cc65/cfg", "/usr/local/share/cc65/cfg")
+
+def place_of(name: str) -> str:
+    """Returns the path of a script, for which ld65 also looks in cc65's folder."""
+    folders = ["", os.environ.get("LD65_CFG", ""), os.path.join(os.environ.get("CC65_HOME", ""), "cfg"), *FOLDERS]
+    return next((it for it in (os.path.join(folder, name) for folder in folders) if os.path.isfile(it)), name)
+
 
 def written_by(script: Text) -> List[str]:
     """Returns the files of the areas of a script, by their names as written there; nothing where no area has one."""

@@ -119,10 +119,6 @@ class Context:
         """The open segment."""
         return self.segments.current
 
-    def is_short(self, segment: Optional[str]) -> bool:
-        """Returns whether a segment is a zero page one, by its name or by a line that opened it."""
-        return segment == "EXTZP" or segment in self.segments.zero_page
-
     @property
     def is_plain(self) -> bool:
         """Returns whether no scope, macro or repeat is open."""

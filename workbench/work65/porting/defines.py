@@ -1,5 +1,5 @@
 """Converts `.define`: numbers become constants, other texts replace their uses."""
-from typing import List, Optional, Sequence, Tuple
+from typing import Callable, List, Optional, Sequence, Tuple
 
 from work65.frontend import words
 from work65.frontend.edits import edited, text_of_tokens
@@ -110,7 +110,7 @@ def _arguments(text: str, tokens: Sequence[Token], at: int, count: int) -> Tuple
     return found, end
 
 
-def defined(text: str, statement: Statement, context: Context, is_single: bool) -> List[str]:
+def defined(text: str, statement: Statement, context: Context, is_single: bool, is_uncertain: Callable[[str], bool]) -> List[str]:
     """Returns the line of a `.define`."""
     if not statement.rest or statement.rest[0].kind is not Kind.NAME:
         raise Unportable(".define", "define")
@@ -131,6 +131,8 @@ def defined(text: str, statement: Statement, context: Context, is_single: bool) 
         define.is_constant = bool(rest)
         if rest:
             context.constants[(name.text,)] = None if define.is_ambiguous else _number(rest, context)
+        if rest and is_uncertain(name.text):
+            context.uncertain.add((name.text,))
         comment = text[line_of(text).comment :]
         shown = define.text or "1"
         return [f"{text[: statement.body[0].start]}{name.text} = {shown}{'        ' + comment if comment else ''}"]

@@ -7,11 +7,11 @@ from work65.frontend.expression import value
 from work65.frontend.statements import Statement, parts_of, statement_in
 from work65.frontend.tokens import Kind, Token
 from work65.habits.habit import Finding
-from work65.porting import addresses, beyond, defines
+from work65.porting import beyond, defines
 from work65.porting.characters import of_target
 from work65.porting.context import Context, RewrittenLine
 from work65.porting.expansion import HARD, Macro, hard_macros
-from work65.porting.facts import facts_of
+from work65.porting.facts import facts_of, star_in
 from work65.porting.functions import Folder
 from work65.porting.line import Unportable
 from work65.porting.logical import Logical
@@ -195,8 +195,15 @@ class ModuleState:
         context.constants[key] = found if context.constants.get(key, found) == found else None
         if self.is_uncertain(name) or found is not None and value(tokens, context.certain) is None:
             context.uncertain.add(key)
-        context.labels.setdefault(key, addresses.segment_of(tokens, context))
+        context.labels.setdefault(key, self.segment_of(tokens))
         self.end_part()
+
+    def segment_of(self, tokens: Sequence[Token]) -> str:
+        """Returns the segment in which an expression of one label is an address; nothing where it isn't known."""
+        labels, names = self.context.labels, [it.text for it in tokens if it.kind in (Kind.NAME, Kind.CHEAP, Kind.UNNAMED)]
+        if star_in(tokens):
+            return "" if names else self.context.segment
+        return labels.get((*self.context.path, *names), "") or labels.get((*names,), "") if len(names) == 1 else ""
 
     def end_part(self) -> None:
         """Notes that a constant ends the region of cheap labels for cc65, though not for bin65."""

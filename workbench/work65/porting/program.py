@@ -7,7 +7,7 @@ from work65.commands.check import said
 from work65.frontend.files import read_bytes, text_of
 from work65.frontend.link_script import OUTPUT
 from work65.habits.habit import Finding
-from work65.porting import filling, script_files, signs
+from work65.porting import script_files, signs
 from work65.porting.difference import difference, first_file
 from work65.porting.measuring import FORMS, Measure, Pair
 from work65.porting.port import PLACE, Ported, ported, read_project, script_lines
@@ -85,10 +85,9 @@ class Comparison:
             bin65 = self.ours()
         if isinstance(bin65, Refused):
             return Answer(self.refused(bin65), NOT_COMPARED)
-        notes: List[str] = []
-        if not self.is_same(cc65, bin65):
-            bin65 = self.filled(cc65, bin65, notes)
-        if self.is_same(cc65, bin65):
+        filled = [] if self.is_same(cc65, bin65) else self.verifier.filled(self.whole, cc65, bin65, self.is_same)
+        notes = [f"{self.line.script}: {it} has no bytes: bin65's file is filled up to it (MIGRATING: {PLACE.heading})" for it in filled]
+        if filled or self.is_same(cc65, bin65):
             return self.same(cc65, notes)
         differs = difference(cc65, bin65, self.verifier.finder(self.whole, bin65))
         causes = [*self.verifier.ported.findings, *self.left]
@@ -106,19 +105,6 @@ class Comparison:
             return Answer([f"{self.line.script}: no area is written to a file: there is no image to compare"], OTHER)
         files = cc65.files or {name: b"" for name in written}
         return Answer([f"the same image: {self.named(name)}, {len(data)} bytes" for name, data in files.items()] + notes)
-
-    def filled(self, cc65: Linked, bin65: Linked, notes: List[str]) -> Linked:
-        """Returns the link with areas filled up to rows that nobody uses, where that makes the images the same; each row is noted."""
-        found = filling.filled(self.whole.ours, cc65, bin65)
-        if found is None:
-            return bin65
-        before, self.whole = self.whole, replace(self.whole, ours=found[0])
-        again = self.ours()
-        if isinstance(again, Linked) and self.is_same(cc65, again):
-            notes += [f"{self.line.script}: {it} has no bytes: bin65's file is filled up to it (MIGRATING: {PLACE.heading})" for it in found[1]]
-            return again
-        self.whole = before
-        return bin65
 
     def is_mended(self, cc65: Linked, bin65: Linked) -> bool:
         """Returns whether an instruction took the other form at the first byte that differs, and has it now."""

@@ -89,7 +89,7 @@ class Rewriter:
         """Returns the function that rewrites each directive."""
         context = self.context
         found: Dict[str, Handler] = {
-            ".define": lambda at, text, it: self.defined(text, it),
+            ".define": lambda at, text, it: defines.defined(text, it, context, self.project.is_single(it), self.state.is_uncertain),
             ".undefine": lambda at, text, it: self.undefined(text, it), ".undef": lambda at, text, it: self.undefined(text, it),
             ".macpack": lambda at, text, it: self.package(text, it), ".autoimport": lambda at, text, it: self.autoimport(text, it),
             ".elseif": lambda at, text, it: self.other_question(at, text, it),
@@ -188,14 +188,6 @@ class Rewriter:
                 block.is_live = False
         return found
 
-    def defined(self, text: str, statement: Statement) -> List[str]:
-        """Rewrites a .define."""
-        found = defines.defined(text, statement, self.context, self.project.is_single(statement))
-        name = statement.rest[0].text
-        if self.context.defines[name].is_constant and self.state.is_uncertain(name):
-            self.context.uncertain.add((name,))
-        return found
-
     def undefined(self, text: str, statement: Statement) -> List[str]:
         """Rewrites an .undefine."""
         if statement.rest:
@@ -237,18 +229,11 @@ class Rewriter:
             raise Unportable(".org", "org")
         if statement.head == "*":
             statement = statement._replace(body=(statement.body[0], *statement.body[2:]))
-        if self.is_given(at, statement):
+        state, following = self.state, self.state.lines[at + 1 :]
+        is_first = self.project.is_first(state.module) and state.depth == 1 and not state.is_placed
+        if is_first and registers.is_given(statement, self.context, self.project.starts, following):
             return [commented_out(text)]
-        return registers.opened(text, statement, self.context, self.state.lines[at + 1 :], self.state.depth == 1 and not self.state.expanding)
-
-    def is_given(self, at: int, statement: Statement) -> bool:
-        """Returns whether an .org before all that the program places is the address that the script gives to the segment, up to the end."""
-        state, context = self.state, self.context
-        is_first = self.project.is_first(state.module) and state.depth == 1 and not state.is_placed and statement.label is None
-        number = value(statement.rest, context.certain)
-        if not is_first or not context.is_plain or context.blocks or number is None or number != self.project.starts.get(context.segment):
-            return False
-        return not any(statement_of(line_of(it.text).tokens, None).head in registers.ENDS | registers.PASSED for it in state.lines[at + 1 :])
+        return registers.opened(text, statement, self.context, following, state.depth == 1 and not state.expanding)
 
     def global_constant(self, at: int, text: str, statement: Statement) -> List[str]:
         """Rewrites a definition of a global name: without its `::`, and before all scopes."""

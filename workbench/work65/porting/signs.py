@@ -44,7 +44,10 @@ def found_in(verifier: Verifier) -> Iterator[Finding]:
         given = {it: values[it] for it in needs.imports if it in values}
         if given:
             needs = replace(needs, imports=[it for it in needs.imports if it not in given])
-            yield from _said(verifier, module, _lines(verifier, module, needs, [theirs, ours], given), given)
+            for line in sorted(_lines(verifier, module, needs, [theirs, ours], given)):
+                text = verifier.ported.project.texts[line.path]
+                named = [it.text for it in line_of(text.lines[line.number - 1]).tokens if it.text in given]
+                yield Finding(text.path, line.number, [*named, *given][0], HABIT, NOTE)
 
 
 def _lines(verifier: Verifier, module: str, needs: alone.Needs, objects: List[str], given: Dict[str, int]) -> Set[Line]:
@@ -74,11 +77,3 @@ def _differing(cc65: Linked, bin65: Linked, finder: Finder) -> Iterator[Line]:
             line = None if leaf is None else finder.ported.origin(leaf[0].lines[-1])
             if line is not None:
                 yield line
-
-
-def _said(verifier: Verifier, module: str, lines: Set[Line], given: Dict[str, int]) -> Iterator[Finding]:
-    """Yields what is said of these lines, each with the constant that it names or, where another name stands for that, the first one."""
-    for line in sorted(lines):
-        text = verifier.ported.project.texts[line.path]
-        named = [it.text for it in line_of(text.lines[line.number - 1]).tokens if it.text in given]
-        yield Finding(text.path, line.number, [*named, *given][0], HABIT, NOTE)

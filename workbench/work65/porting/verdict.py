@@ -1,15 +1,15 @@
 """The report of a comparison: whether the program or each source alone is the same, what differs, and what wasn't compared."""
 import os
-from dataclasses import dataclass, field, replace
+from dataclasses import dataclass, field
 from typing import List, Sequence
 
 from work65.diagnosing.message import message_of
 from work65.frontend.link_script import OUTPUT
-from work65.porting import copying, filling, script_files, signs
+from work65.porting import copying, script_files, signs
 from work65.porting.difference import Finder, LinkedModule, difference
 from work65.porting.leaves import Line
 from work65.porting.port import Ported
-from work65.porting.tools import Linked, Options, Refused
+from work65.porting.tools import Options, Refused
 from work65.porting.verify import Outcome, Port, Verifier, Whole, is_same
 from work65.program import Program
 
@@ -121,20 +121,11 @@ class Judge:
         shown = ", ".join(f"{'the image' if name == OUTPUT else name}, {len(data)} bytes" for name, data in files.items())
         if is_same(cc65, bin65):
             found.files = shown
-        elif filled_up := self.filled_up(whole, cc65, bin65):
+        elif filled_up := self.verifier.filled(whole, cc65, bin65, is_same):
             found.files = f"{shown}; without the fill up to {', '.join(filled_up)}"
         else:
             found.where = f"{script}: {difference(cc65, bin65, self.verifier.finder(whole, bin65))}"
         return found
-
-    def filled_up(self, whole: Whole, cc65: Linked, bin65: Linked) -> List[str]:
-        """Returns the rows that nobody uses up to which cc65 alone fills its files, if these differ by nothing else."""
-        found = filling.filled(whole.ours, cc65, bin65)
-        try:
-            again = None if found is None else self.verifier.linked_by_bin65(replace(whole, ours=found[0]))
-        except Refused:
-            return []
-        return [] if found is None or again is None or not is_same(cc65, again) else found[1]
 
     def said_of_program(self) -> str:
         """Returns the last line, if the program is the same."""

@@ -11,7 +11,7 @@ from work65.frontend.linked_tree import LinkedTree
 from work65.instrumenting.build import Builder, BuildOptions
 from work65.instrumenting.copies import Constants
 from work65.instrumenting.sources import Closure
-from work65.porting import alone, copying, unasserted
+from work65.porting import alone, copying, filling, unasserted
 from work65.porting.difference import Finder, LinkedModule
 from work65.porting.imported import AUTOIMPORT
 from work65.porting.leaves import Leaf, Line, of_debug_file, of_marks
@@ -155,6 +155,15 @@ class Verifier:
             return self.ours().link(whole.ours, inputs, os.path.join(self.room, "link"))
         except Refused as why:
             raise why.of_script(whole.script) from None
+
+    def filled(self, whole: Whole, cc65: Linked, bin65: Linked, is_equal: Callable[[Linked, Linked], bool]) -> List[str]:
+        """Returns the rows that nobody uses up to which cc65 alone fills its files, if these differ by nothing else."""
+        found = filling.filled(whole.ours, cc65, bin65)
+        try:
+            again = None if found is None else self.linked_by_bin65(replace(whole, ours=found[0]))
+        except Refused:
+            return []
+        return [] if found is None or again is None or not is_equal(cc65, again) else found[1]
 
     def finder(self, whole: Whole, bin65: Linked) -> Finder:
         """Returns what finds the lines of bytes of the program."""

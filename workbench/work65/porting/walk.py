@@ -119,7 +119,7 @@ class Walk:
             return None
         label = text[: statement.body[0].start].rstrip() if statement.label is not None else ""
         prepared = self.names.prepared(text)
-        expander = Expander(self, context.macros, self.state.unique(at))
+        expander = Expander(self.names, self.calls, self.emit, self.state.unique(at))
         expander.call(prepared, self.names.parsed(prepared))
         self.write_out(at, row, expander, label)
         return at + 1
@@ -131,7 +131,7 @@ class Walk:
         is_spread = Line(self.state.path, self.state.lines[at].number) in self.project.spread.repeats
         if not is_spread and not late([".repeat", *texts, ".endrepeat"]) and not any(self.has_to_go(here, it) for here, it in enumerate(texts, at + 1)):
             return None
-        expander = Expander(self, self.context.macros, self.state.unique(at))
+        expander = Expander(self.names, self.calls, self.emit, self.state.unique(at))
         expander.repeat(texts, self.state.lines[at].text, {})
         label = self.state.lines[at].text[: statement.body[0].start].rstrip() if statement.label is not None else ""
         self.write_out(at, row, expander, label)
@@ -172,11 +172,6 @@ class Walk:
         """Rewrites a line of a call that is expanded."""
         self.state.lines = [Logical(self.state.number, it) for it in (text, *following)]
         self.line(0)
-
-    @property
-    def is_in_macro(self) -> bool:
-        """Returns whether the lines of a macro are being read."""
-        return self.context.macro is not None
 
     def goes_on(self, text: str) -> bool:
         """Returns whether a line ends the lines that are left out, or begins others."""
@@ -297,24 +292,3 @@ class Walk:
             if written != path:
                 spelled = self.project.relative(written, self.state.path)
         return [text] if spelled == name else [edited(text, [(token.start, token.end, f'"{spelled}"')])]
-
-    @property
-    def has_escapes(self) -> bool:
-        """Returns whether a backslash in a string takes the next character with it."""
-        return self.state.has_escapes
-
-    def prepared(self, text: str) -> str:
-        """Returns a line with all its defines replaced."""
-        return self.names.prepared(text)
-
-    def is_written_out(self, statement: Statement) -> bool:
-        """Returns whether a statement is the call of a macro that is expanded in the copy."""
-        return self.calls.is_written_out(statement)
-
-    def decided(self, text: str) -> Optional[bool]:
-        """Returns whether a condition holds, None if that is unknown."""
-        return self.names.decided(text)
-
-    def counted(self, text: str) -> Optional[int]:
-        """Returns the count of a repeat, None if it is unknown."""
-        return self.names.counted(text)

@@ -24,6 +24,8 @@ LOOKED_AT = TELLING | words.LISTS | words.MACRO_BEGINS | words.MACRO_ENDS | word
 # Habits that bin65 rejects even in skipped lines, since these can't be split into tokens.
 TOLD = frozenset(("digit", "comment", "bracket", "underline", "quote", "continuation", "long-line"))
 LONGEST = 4096
+# Features that allow a sign in names.
+NAMING = {"at_in_identifiers": "@", "dollar_in_identifiers": "$", "leading_dot_in_identifiers": "."}
 CLOSERS = {".endstruct": "struct", ".endunion": "union", ".endenum": "enum"}
 
 
@@ -224,7 +226,8 @@ class Reader:
             if first.lower not in words.MNEMONICS:
                 return
         word = line.tokens[min(at, len(line.tokens) - 1)].text
-        yield word, BY_NAME["form"], ""
+        named = (it for it, sign in NAMING.items() if it in self.tree.features and any(sign in one.text for one in body))
+        yield word, BY_NAME["form"], next((f"a name that `.feature {it}` allows: rename it" for it in named), "")
 
 
 def _is_continued(line: LexedLine, text: str) -> bool:

@@ -175,7 +175,7 @@ def _left(project: Project, found: Dict[str, Text], origins: Dict[str, List[int]
     """Yields what bin65 still refuses, at the lines where it was."""
     names = words.defined_by(project.target) | project.names.keys()
     tree = surveyed(found.values(), (), names)
-    tree.features.discard("string_escapes")
+    tree.features = project.tree.features - {"string_escapes"}
     for it in source_habits.found_in([_without_dead_calls(it, origins[it.path], tree) for it in found.values()], tree):
         numbers = origins[it.path]
         if numbers[min(it.line, len(numbers)) - 1] == 0:

@@ -163,6 +163,11 @@ def images(tries):
         it.write(bytes.fromhex("A90560"))
     words = ("-C", "i.cfg", "i.s")
     tries.says("an image", tries.second(*words, "--image", "old/game.bin", path=empty), 0, "the same image: old/game.bin, 3 bytes\n")
+    pages.put(f"{tries.top}/j.s", " jmp far\nn = 5\n.proc p\n lda n\n.proc q\n lda n\n.endproc\n.endproc\nfar: rts\n")
+    with open(f"{tries.top}/old/form.bin", "wb") as it:
+        it.write(bytes.fromhex("4C 08 20 A5 05 AD 05 00 60"))
+    ran = tries.second("-C", "i.cfg", "j.s", "--image", "old/form.bin", path=empty)
+    tries.says("an image with a longer form", ran, 0, "the same image: old/form.bin, 9 bytes\n")
     with open(f"{tries.top}/old/game.bin", "wb") as it:
         it.write(bytes.fromhex("A90660"))
     said = "the image differs from byte 1 on (cc65 and bin65: 06 and 05): area M, segment CODE, module i.s, i.s:2\n" + UNEXPLAINED

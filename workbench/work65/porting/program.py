@@ -4,11 +4,12 @@ from dataclasses import dataclass, field, replace
 from typing import List, Optional, Sequence, Union
 
 from work65.commands.check import said
+from work65.frontend import words
 from work65.frontend.files import read_bytes, text_of
 from work65.frontend.link_script import OUTPUT
 from work65.habits.habit import Finding
 from work65.porting import script_files, signs
-from work65.porting.difference import difference, first_file
+from work65.porting.difference import difference, differing
 from work65.porting.measuring import FORMS, Measure, Pair
 from work65.porting.port import PLACE, Ported, ported, read_project, script_lines
 from work65.porting.project import Spread
@@ -107,17 +108,19 @@ class Comparison:
         return Answer([f"the same image: {self.named(name)}, {len(data)} bytes" for name, data in files.items()] + notes)
 
     def is_mended(self, cc65: Linked, bin65: Linked) -> bool:
-        """Returns whether an instruction took the other form at the first byte that differs, and has it now."""
-        found = first_file(cc65, bin65)
-        spot = None if found is None else self.verifier.finder(self.whole, bin65).leaf(*found)
-        if found is None or spot is None or spot[1] != 0 or spot[0].size not in FORMS:
-            return False
-        theirs, ours = (side.files.get(found[0], b"")[found[1] :][:1] for side in (cc65, bin65))
-        step = SHORT_TO_FAR if spot[0].size == 2 else -SHORT_TO_FAR
-        if not theirs or not ours or theirs[0] - ours[0] != step:
-            return False
-        measure = Measure(self.verifier.ported)
-        return measure.put(spot[0].lines[-1], Pair(spot[0].size ^ 1, spot[0]))
+        """Returns whether the first instruction with another opcode took the other form, and has it now. Bytes of data and of operands
+        may differ before it, since they are addresses."""
+        finder, measure = self.verifier.finder(self.whole, bin65), Measure(self.verifier.ported)
+        for name, at in differing(cc65, bin65):
+            leaf, offset = finder.leaf(name, at) or (None, 0)
+            if leaf is None or offset or measure.head(leaf.lines[-1]) not in words.MNEMONICS:
+                continue
+            theirs, ours = (side.files.get(name, b"")[at : at + 1] for side in (cc65, bin65))
+            step = SHORT_TO_FAR if leaf.size == 2 else -SHORT_TO_FAR
+            if leaf.size not in FORMS or not theirs or theirs[0] - ours[0] != step:
+                return False
+            return measure.put(leaf.lines[-1], Pair(leaf.size ^ 1, leaf))
+        return False
 
     def theirs(self) -> Linked:
         """Returns the result of cc65's tools, or the given image instead."""

@@ -11,9 +11,9 @@ from work65.frontend.tokens import line_of
 from work65.habits.habit import Finding
 from work65.porting import alone
 from work65.porting.beyond import HABIT, LEAST
-from work65.porting.difference import Finder, LinkedModule
+from work65.porting.difference import Finder, LinkedModule, differing
 from work65.porting.leaves import Line
-from work65.porting.tools import Linked, Refused
+from work65.porting.tools import Refused
 from work65.porting.verify import Verifier
 from work65.problem import Problem
 
@@ -65,15 +65,7 @@ def _lines(verifier: Verifier, module: str, needs: alone.Needs, objects: List[st
         except Refused:
             continue
         finder = Finder(verifier.ported, script, bin65, {"ours.o": LinkedModule(module, verifier.leaves(module) or [])})
-        return set(_differing(cc65, bin65, finder))
+        leaves = [finder.leaf(*it) for it in differing(cc65, bin65)]
+        lines = [verifier.ported.origin(it[0].lines[-1]) for it in leaves if it is not None]
+        return {it for it in lines if it is not None}
     return set()
-
-
-def _differing(cc65: Linked, bin65: Linked, finder: Finder) -> Iterator[Line]:
-    """Yields the lines of the original whose bytes differ."""
-    for name, data in cc65.files.items():
-        for at, (one, other) in enumerate(zip(data, bin65.files.get(name, b""))):
-            leaf = finder.leaf(name, at) if one != other else None
-            line = None if leaf is None else finder.ported.origin(leaf[0].lines[-1])
-            if line is not None:
-                yield line

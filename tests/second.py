@@ -73,6 +73,7 @@ PLACES = (
     (17, "area HIGH, segment TAIL, module two.s, two.s:10"),
 )
 SIDE = "side.bin differs from byte 0 on (cc65 and bin65: BF and 40): area SIDE, segment SIDE, module one.s, one.s:14\n"
+UNEXPLAINED = "not explained by MIGRATING\n"
 
 
 def cc65_with(folder, change):
@@ -139,13 +140,13 @@ def places(tries):
     for at, where in PLACES:
         tools = cc65_with(f"{tries.top}/cc65-{at}", f"B[{at}] ^= 255")
         ran = tries.second(*words, tools=tools)
-        good = re.fullmatch(rf"the image differs from byte {at} on \(cc65 and bin65: (..) and (..)\): {re.escape(where)}\n", ran.stdout)
+        good = re.fullmatch(rf"the image differs from byte {at} on \(cc65 and bin65: (..) and (..)\): {re.escape(where)}\n{UNEXPLAINED}", ran.stdout)
         tries.check(f"byte {at}", ran.returncode == 1 and good and int(good[1], 16) == int(good[2], 16) ^ 255, ran)
     for name, change, said in (("shorter", "del B[-1]", "of 17 and 18 on (cc65 and bin65: no byte and 32)"),
                                ("longer", "B.append(7)", "of 19 and 18 on (cc65 and bin65: 07 and no byte)")):
         ran = tries.second(*words, tools=cc65_with(f"{tries.top}/cc65-{name}", change))
         tries.check(name, ran.returncode == 1 and said in ran.stdout, ran)
-    tries.says("another file", tries.second(*words, tools=cc65_with(f"{tries.top}/cc65-side", "S[0][0] ^= 255")), 1, SIDE)
+    tries.says("another file", tries.second(*words, tools=cc65_with(f"{tries.top}/cc65-side", "S[0][0] ^= 255")), 1, SIDE + UNEXPLAINED)
 
 
 def images(tries):
@@ -162,9 +163,14 @@ def images(tries):
         it.write(bytes.fromhex("A90560"))
     words = ("-C", "i.cfg", "i.s")
     tries.says("an image", tries.second(*words, "--image", "old/game.bin", path=empty), 0, "the same image: old/game.bin, 3 bytes\n")
+    pages.put(f"{tries.top}/j.s", " jmp far\nn = 5\n.proc p\n lda n\n.proc q\n lda n\n.endproc\n.endproc\nfar: rts\n")
+    with open(f"{tries.top}/old/form.bin", "wb") as it:
+        it.write(bytes.fromhex("4C 08 20 A5 05 AD 05 00 60"))
+    ran = tries.second("-C", "i.cfg", "j.s", "--image", "old/form.bin", path=empty)
+    tries.says("an image with a longer form", ran, 0, "the same image: old/form.bin, 9 bytes\n")
     with open(f"{tries.top}/old/game.bin", "wb") as it:
         it.write(bytes.fromhex("A90660"))
-    said = "the image differs from byte 1 on (cc65 and bin65: 06 and 05): area M, segment CODE, module i.s, i.s:2\n"
+    said = "the image differs from byte 1 on (cc65 and bin65: 06 and 05): area M, segment CODE, module i.s, i.s:2\n" + UNEXPLAINED
     tries.says("another image", tries.second(*words, "--image", "old/game.bin", path=empty), 1, said)
     ran = tries.second(*words, path=empty)
     good = "work65: cc65's ca65 isn't on the path; give an image to compare with by --image\n"
@@ -255,12 +261,94 @@ def documented(tries):
     lines = ran.stdout.splitlines()
     is_named = len(lines) == 2 and lines[1].startswith("l.s:2: k: ") and lines[1].endswith("(MIGRATING: Numbers of more than 32 bits)")
     tries.check("an import's sign", ran.returncode == 1 and is_named, ran)
-    sys.path.insert(0, f"{pages.ROOT}/workbench")
-    from work65.porting import imported, known_differences
     text = pages.read("docs/MIGRATING.md")
-    fixed = (known_differences.UNUSED, known_differences.UNWRITTEN, imported.HABIT.heading)
-    for heading in (*fixed, *known_differences.OF_LINES):
+    for heading in ("A row with `align`, `start` or `offset` whose segment nobody uses", "Numbers of more than 32 bits"):
         tries.check(f"MIGRATING has {heading}", f"\n### {heading}\n" in text)
+
+
+SCRIPT_OF_ONE = "MEMORY {{ M: start = $8000, size = $100{} }}\nSEGMENTS {{ CODE: load = M; DMC: load = M, align = 64, optional = yes; }}\n"
+
+
+def unexplained(tries):
+    """An image with a byte that was changed by hand gets no heading that doesn't explain it."""
+    pages.put(f"{tries.top}/u.cfg", SCRIPT_OF_ONE.format(", fill = yes;"))
+    for name, text, at, said in (("n", "v = 5\n lda #v\n nop\n jmp $8000\n", 2, "55 and EA"), ("v", "v = 5\n lda v\n jmp $8000\n", 2, "55 and 4C")):
+        pages.put(f"{tries.top}/{name}.s", text)
+        tools = cc65_with(f"{tries.top}/cc65-{name}", f"B[{at}] = 0x55")
+        ran = tries.second("-C", "u.cfg", f"{name}.s", tools=tools)
+        good = f"the image differs from byte {at} on (cc65 and bin65: {said}): area M, segment CODE, module {name}.s, {name}.s:3\n"
+        tries.check(f"not explained: {name}", (ran.returncode, ran.stdout) == (1, good + UNEXPLAINED), ran)
+
+
+def names_of_files(tries):
+    """Files of a script with the output's name, or with names that a script for bin65 can't have."""
+    os.makedirs(f"{tries.top}/files")
+    pages.put(f"{tries.top}/files/f.s", " nop\n")
+    for name in ("image", "a.out", "./x.bin", "%O.two", "x.bin"):
+        pages.put(f"{tries.top}/files/f.cfg", SCRIPT_OF_ONE.format(f', file = "{name}";').replace(", align = 64", ""))
+        shown = name.replace("%O", "a.out")
+        folder = f"{tries.top}/files"
+        tries.says(f"a file {name}", tries.second("-C", "f.cfg", "f.s", folder=folder), 0, f"the same image: {shown}, 1 bytes\n")
+        image = name.replace("%O.two", "x.bin.two")
+        with open(f"{folder}/{image}", "wb") as it:
+            it.write(b"\xea")
+        given = "x.bin" if image.startswith("x.bin.") else image
+        tries.says(f"an image {name}", tries.second("-C", "f.cfg", "--image", given, "f.s", folder=folder), 0, f"the same image: {image}, 1 bytes\n")
+
+
+def libraries(tries):
+    """Two libraries of one name in two folders."""
+    for name, text in (("a.s", ".import fn\n jsr fn\n"), ("x/f.s", ".export fn\n.import gn\nfn: jmp gn\n"), ("y/g.s", ".export gn\ngn: rts\n")):
+        os.makedirs(f"{tries.top}/two/{os.path.dirname(name)}", exist_ok=True)
+        pages.put(f"{tries.top}/two/{name}", text)
+    words, folder = ("-C", "../b.cfg", "a.s"), f"{tries.top}/two"
+    ran = tries.second(*words, "--library", "x/m.lib=x/f.s", "--library", "y/m.lib=y/g.s", folder=folder)
+    tries.says("two libraries of one name", ran, 0, "the same image: a.out, 7 bytes\n")
+    ran = tries.second(*words, "--library", "y/m.lib=y/g.s", "--library", "x/m.lib=x/f.s", folder=folder)
+    good = ran.returncode == 2 and ran.stdout.startswith("cc65's own tools refuse it: Unresolved external 'gn' referenced in:\n")
+    tries.check("two libraries of one name in the wrong order", good, ran)
+
+
+MESSAGES = (
+    (" .import one, two\n lda one\n lda two\n", "CODE: load = M;", ("Unresolved external 'one'", "Unresolved external 'two'", "w.s(2)", "w.s(3)")),
+    (" .res 20\n", "CODE: load = M;", ("w.cfg", "overflows", "by 4 bytes")),
+    (" .res 2\n", "CODE: load = RAM;", ("w.cfg(2): ",)),
+)
+
+
+def messages(tries):
+    """Messages of cc65's tools come through whole, with the script's own name; many warnings are no error."""
+    for text, rows, parts in MESSAGES:
+        pages.put(f"{tries.top}/w.cfg", f"MEMORY {{ M: start = $8000, size = $10; }}\nSEGMENTS {{ {rows} }}\n")
+        pages.put(f"{tries.top}/w.s", text)
+        ran = tries.second("-C", "w.cfg", "w.s")
+        tries.check(f"a message with {parts}", ran.returncode == 2 and all(it in ran.stdout for it in parts), ran)
+    pages.put(f"{tries.top}/w.s", ' .warning "this is a text of some length, so that all of them are long"\n' * 1500)
+    tries.says("many warnings", tries.second("-C", "b.cfg", "w.s"), 0, "the same image: a.out, 0 bytes\n")
+    os.mkfifo(f"{tries.top}/pipe")
+    for word in (".include", ".incbin"):
+        pages.put(f"{tries.top}/w.s", f' {word} "pipe"\n')
+        ran = tries.second("-C", "b.cfg", "w.s")
+        tries.check(f"{word} of a pipe", ran.returncode == 2 and ran.stderr.endswith("pipe: not a regular file\n") and not ran.stdout, ran)
+    ran = subprocess.run(["sh", "-c", f"exec sh {WORK65} second -C b.cfg empty.s >&-"], cwd=tries.top, env={**os.environ, "BIN65": tries.program},
+                         capture_output=True, text=True, check=False)
+    tries.check("no output", (ran.returncode, ran.stderr) == (2, "work65: standard output is closed\n"), ran)
+
+
+FIXED = (
+    (("-D", "COUNT=3"), ".ifndef COUNT\nCOUNT = 2\n.endif\n.repeat COUNT, i\n.ident(.sprintf(\"l%d\", i)): .byte i\n.endrepeat\n", 3),
+    (("-D", "PAL"), "K = .defined(PAL)\nM = .defined(NTSC)\n.repeat K + M, i\n.ident(.sprintf(\"l%d\", i)): .byte K, M\n.endrepeat\n", 2),
+    (("-D", "S=7"), ".repeat 40, i\n .byte .min(255, i * S)\n.endrepeat\n", 40), (("-D", "B=42"), " .byte .sprintf(\"BUILD %03d\", B)\n", 9),
+    (("-C", "apple2-asm.cfg"), " .byte 1\n", 1), (("--symbol", "K=0x33"), ".import K\n .byte <K\n", 1),
+)
+
+
+def fixed(tries):
+    """second knows each -D, so names that they give or don't give have values."""
+    pages.put(f"{tries.top}/x.cfg", SCRIPT_OF_ONE.format(";"))
+    for words, text, size in FIXED:
+        pages.put(f"{tries.top}/x.s", text)
+        tries.says(f"{words}", tries.second("-C", "x.cfg", *words, "x.s"), 0, f"the same image: a.out, {size} bytes\n")
 
 
 def steps_of_the_workflow():
@@ -301,7 +389,8 @@ def main():
         alone(tries)
         images(tries)
         if all(map(shutil.which, ("ca65", "ld65", "ar65"))):
-            for part in (readme, places, without_bytes, exports_without_use, others, documented, workflow):
+            for part in (readme, places, without_bytes, exports_without_use, others, documented, unexplained, names_of_files, libraries,
+                         messages, fixed, workflow):
                 part(tries)
         else:
             print("cc65 isn't here: nothing is built twice and compared")

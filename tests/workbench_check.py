@@ -41,7 +41,7 @@ CASES = {
     "cheap-twice": "l: nop\n@a: nop\nn = 1\n@a: nop <",
     "incbin-file": ' .incbin "nowhere" <', "include-file": ' .include "nowhere" <',
     "long-line": f" .byte 1{', 1' * 1400} <", "zero-page-import": ".zeropage\n .import a1 <",
-    "align": " .align 3 <", "local-cheap": ".ifdef @l <\n.endif", "text": ' .out .sprintf("%d", 1) <', "string-value": ' lda #"A" <',
+    "include-late": '.repeat 2\n .include "a.inc" <\n nop\n.endrepeat', "align": " .align 3 <", "local-cheap": ".ifdef @l <\n.endif", "text": ' .out .sprintf("%d", 1) <', "string-value": ' lda #"A" <',
     "far": " lda f:$1234 <", "colons": " dec z:::n <", "macro-call": ".macro m\n .byte .min(1, 2)\n.endmacro\n m <", "form": " ldaa #1 <",
     "script-block": "FEATURES { } #<", "script-start": "MEMORY { M: start = %S, size = 1; } #<",
     "script-bank": "MEMORY { M: start = 1, size = 1, bank = 2; } #<", "script-yes": "MEMORY { M: start = 1, size = 1, fill = true; } #<",
@@ -70,6 +70,11 @@ TREES = {
     "Makefile.inc": ({"Makefile.inc": "all: game.nes\n", "a.s": " nop\n"}, ".", ""),
     "dec and inc alone": ({"a.s": "l: dec\n inc\n dec l\n asl\n"}, "a.s", "a.s:1:processor a.s:2:processor"),
     "data elsewhere": ({"a.s": ' .incbin "g.bin"\n .incbin "gfx/g.bin"\n', "gfx/g.bin": ""}, "a.s", "a.s:1:incbin-file"),
+    "included files of macros": (
+        {"a.s": '.macro one\n .include "b.inc"\n.endmacro\n.macro two f\n .include f\n nop\n.endmacro\n one\n two "b.inc"\n', "b.inc": ""}, "a.s",
+        "a.s:5:include-late"),
+    "names that features allow": (
+        {"a.s": ".feature dollar_in_identifiers\na$b: nop\n"}, "a.s", "a.s:1:feature a.s:2:form"),
     "data beside the caller": (
         {"a.s": ' .include "inc/m.inc"\n load\n', "inc/m.inc": '.macro load\n .incbin "g.bin"\n.endmacro\n', "g.bin": ""}, "a.s", ""),
     "strings with escapes": (

@@ -45,6 +45,8 @@ table:  .byte   1
 @loop:  sta     CONTROL
         jmp     @loop
 .endproc
+        .segment "CHARS"
+tile:   .byte   1
 """,
     "game.cfg": """MEMORY {
     ZP:    file = "", start = $0010, size = $00F0;
@@ -53,6 +55,7 @@ table:  .byte   1
     HEAD:  start = 0, size = 16;
     BANK0: start = $8000, size = $4000, fill = yes;
     BANK1: start = $C000, size = $4000, fill = yes;
+    CHR:   start = $0000, size = $2000;
 }
 SEGMENTS {
     ZEROPAGE: load = ZP, type = zp;
@@ -61,7 +64,9 @@ SEGMENTS {
     HEADER:   load = HEAD, type = ro;
     FIRST:    load = BANK0, type = ro;
     CODE:     load = BANK1, type = ro;
+    CHARS:    load = CHR, type = ro, optional = yes;
 }
+SYMBOLS { MAPPER: type = export, value = 3; STATUS: type = export, value = $2002; }
 """,
 }
 FORMS: Dict[str, List[str]] = {
@@ -69,13 +74,14 @@ FORMS: Dict[str, List[str]] = {
         "NesInternalRam:0014:score",
         "NesInternalRam:0300:buffer",
         "NesMemory:2000:CONTROL",
+        "NesMemory:2002:STATUS",
         "NesWorkRam:0000:saved",
         "NesPrgRom:0010:table",
         "NesPrgRom:4000:reset",
         "NesPrgRom:4000:reset@loop",
     ],
-    "nocash": "00000014 score|00000300 buffer|00002000 CONTROL|00006000 saved|00008010 table|0000C000 reset|0000C000 reset@loop".split("|"),
-    "fceux": ["$0014#score#", "$0300#buffer#", "$2000#CONTROL#", "$6000#saved#", "$8010#table#", "$C000#reset#", "$C000#reset@loop#"],
+    "nocash": "00000000 tile|00000003 MAPPER|00000014 score|00000300 buffer|00002000 CONTROL|00002002 STATUS|00006000 saved|00008010 table|0000C000 reset|0000C000 reset@loop".split("|"),
+    "fceux": ["$0000#tile#", "$0014#score#", "$0300#buffer#", "$2000#CONTROL#", "$2002#STATUS#", "$6000#saved#", "$8010#table#", "$C000#reset#", "$C000#reset@loop#"],
 }
 # Tests a constant of 255 operators and operands, the maximum: a mark can't contain its value, so it has no label.
 LARGE = f"""        .import other
@@ -91,7 +97,7 @@ LIBRARY: Dict[str, str] = {
     "x.cfg": "MEMORY { A: start = $8000, size = $100; }\nSEGMENTS { CODE: load = A; }\n",
 }
 BY_NAME, BY_LIBRARY = ["00008004 alpha", "00008005 zeta"], ["00008004 zeta", "00008007 alpha"]
-BESIDE = {"ram": FORMS["fceux"][:4], "0": FORMS["fceux"][4:5], "1": FORMS["fceux"][5:]}
+BESIDE = {"ram": FORMS["fceux"][1:6], "0": FORMS["fceux"][6:7], "1": FORMS["fceux"][7:]}
 
 
 def ours(text: str) -> Set[Tuple[str, str]]:
@@ -131,7 +137,7 @@ def forms(results: builds.Results, program: str, folder: str) -> None:
     builds.pages.put(f"{folder}/large.s", LARGE)
     builds.pages.put(f"{folder}/small.s", "        .export other\nother   = 3\n")
     said = builds.work65(program, folder, "labels", "-C", "game.cfg", "--format", "nocash", "large.s", "small.s").stdout
-    results.check("a constant as large as one can be", said == "00000003 other\n0000C002 last\n", said)
+    results.check("a constant as large as one can be", said == "00000003 MAPPER\n00000003 other\n00002002 STATUS\n0000C002 last\n", said)
     written = {it.split(".")[2]: builds.text_of(f"{folder}/{it}").splitlines() for it in os.listdir(folder) if it.endswith(".nl")}
     results.check("fceux's files", written == BESIDE, written)
 

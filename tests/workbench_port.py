@@ -301,7 +301,7 @@ def examples(tries):
     with tempfile.TemporaryDirectory() as folder:
         shutil.copytree(f"{pages.ROOT}/example", f"{folder}/example", ignore=shutil.ignore_patterns("out", "second"))
         ran = tries.work65("port", "example", "-o", "out", "--no-verify", folder=folder)
-        tries.check("the examples", ran.returncode == 0 and ran.stdout == "not compared: --no-verify\n", ran.stdout)
+        tries.check("the examples", ran.returncode == 0 and ran.stdout.startswith("not compared: --no-verify; "), ran.stdout)
         for top, _, names in os.walk(f"{folder}/out"):
             for name in set(names) - {".work65"}:
                 file = os.path.relpath(f"{top}/{name}", f"{folder}/out")
@@ -340,7 +340,7 @@ def copies(tries):
             ran = tries.work65("port", *words, "--no-verify", folder=folder)
             tries.check(name, (ran.returncode, ran.stdout + ran.stderr) == (status, said), ran)
 
-        last = "not compared: --no-verify\n"
+        last = "not compared: --no-verify; operands may have other sizes than with cc65\n"
         port("a copy", 0, last, "src", "-o", "out")
         tries.check("a folder keeps its mode", os.stat(f"{folder}/out").st_mode & 0o777 == 0o755)
         pages.put(f"{folder}/src/a.s", " iny\n")
@@ -355,6 +355,14 @@ def copies(tries):
         port("a file over itself", 1, f"work65: src/a.s: {over}", "src/a.s", "-o", "src")
         port("a copy within", 0, last, "src", "-o", "src/one")
         port("a second copy within", 0, last, "src", "-o", "src/two")
+        pages.put(f"{folder}/src/a.s", '.include "d.inc"\n .byte D\n')
+        for place, number in (("src", 3), ("i", 4)):
+            os.makedirs(f"{folder}/{place}", exist_ok=True)
+            pages.put(f"{folder}/{place}/d.inc", f"D = {number}\n")
+        port("a copy with a file", 0, last, "src/a.s", "-I", "i", "-o", "stale")
+        os.remove(f"{folder}/src/d.inc")
+        port("a copy without this file", 0, last, "src/a.s", "-I", "i", "-o", "stale")
+        tries.check("a file of an earlier copy goes", not os.path.exists(f"{folder}/stale/d.inc"), os.listdir(f"{folder}/stale"))
         tries.check("a copy of no copy", sorted(os.listdir(f"{folder}/src/two")) == [".work65", "a.s"], os.listdir(f"{folder}/src/two"))
 
 
@@ -371,6 +379,13 @@ def names(tries, has_cc65):
         tries.check("names outside of ASCII", ran.returncode == 0 and (not has_cc65 or ran.stdout == ALONE), ran)
         ours = subprocess.run([tries.program, "ca65", "-o", "a.o", "\u00fc.s"], cwd=f"{folder}/out", capture_output=True, check=False)
         tries.check("the copy has all that it needs", ours.returncode == 0, ours)
+        os.mkdir(f"{folder}/bytes")
+        with open(os.fsencode(f"{folder}/bytes/") + b"\xe9.s", "wb") as it:
+            it.write(b" .byte 1 ; \xff\n stz 1\n")
+        how = {**os.environ, "BIN65": tries.program, "PYTHONIOENCODING": "utf-8:strict"}
+        ran = subprocess.run(["sh", WORK65, "port", "bytes", "-o", "out4"], cwd=folder, env=how, capture_output=True, check=False)
+        good = b"\xe9.s:1: $FF: cc65 takes" in ran.stdout and b"\xe9.s:2: stz: " in ran.stdout and not ran.stderr
+        tries.check("a name that isn't UTF-8, and a byte that ends the file", ran.returncode == 1 and good, ran)
         for number in range(2000):
             pages.put(f"{folder}/deep/i{number}.inc", f'.include "i{number + 1}.inc"\n')
         pages.put(f"{folder}/deep/i2000.inc", " nop\n")
@@ -384,58 +399,31 @@ def names(tries, has_cc65):
         tries.check("3,000 conditions deep", ran.returncode == 0 and results.processor_seconds() - begun < 10, ran)
 
 
-# Operand sizes by rules, if nothing is compared.
-RULED = ("kept-register", "kept-low-byte", "kept-low-byte-in-scope", "kept-zero-page-of-its-own", "form-cheap-labels",
-         "form-scoped-difference", "form-define", "form-inner-scope", "form-truth", "form-outer-constant", "form-sum")
-
-
-def rules(tries):
-    """Forms where cc65 isn't asked."""
-    for name, _, text in cases():
-        if name in RULED:
-            with tempfile.TemporaryDirectory() as folder:
-                for file, content in (("a.s", text), ("l.cfg", SCRIPT)):
-                    pages.put(f"{folder}/{file}", content)
-                tries.inside("port", "a.s", "-o", "out", "--no-verify", folder=folder)
-                shutil.copy(f"{folder}/l.cfg", f"{folder}/out/l.cfg")
-                ours = image([tries.program, "ca65"], [tries.program, "ld65"], "a.s", f"{folder}/out")
-                tries.check(f"{name} by rules", ours == image(["ca65"], ["ld65"], "a.s", folder), ours)
-
-
-# Ported without a name that -D may give: its other branch isn't assembled then.
+# Lines that aren't assembled without a name that -D may give.
 OTHER_NAMES = """.zeropage
-n1:     .res    1
+n1: .res 1
 .code
-c1:     nop
-d1:     nop
 .proc o
-        lda     n1
+ lda n1
 .proc i
 .ifdef FOO
-        lda     n1
-        lda     d1-c1
-        lda     n1,x
-.else
-        ldx     n1
-        lda     #0
+ lda n1
+ lda #0
+ jmp i
+ lda n1,x
 .endif
-        lda     n1
 .endproc
 .endproc
 """
 
 
 def other_names(tries):
-    """A copy has cc65's image also with a name that it wasn't ported with."""
+    """Lines that aren't assembled are said: their sizes can't be measured."""
     with tempfile.TemporaryDirectory() as folder:
-        for file, content in (("a.s", OTHER_NAMES), ("l.cfg", SCRIPT)):
-            pages.put(f"{folder}/{file}", content)
-        tries.inside("port", "a.s", "-o", "out", folder=folder)
-        shutil.copy(f"{folder}/l.cfg", f"{folder}/out/l.cfg")
-        for names in ([], ["-DFOO=1"]):
-            ours = image([tries.program, "ca65", *names], [tries.program, "ld65"], "a.s", f"{folder}/out")
-            theirs = image(["ca65", *names], ["ld65"], "a.s", folder)
-            tries.check(f"ported without a name, built with {names}", isinstance(ours, bytes) and ours == theirs, (ours, theirs))
+        pages.put(f"{folder}/a.s", OTHER_NAMES)
+        for names, more in (((), "; not assembled here, so of unknown size: a.s:8 and 1 more lines"), (("-D", "FOO"), "")):
+            ran = tries.inside("port", "a.s", "-o", "out", *names, folder=folder)
+            tries.check(f"lines of another -D: {names}", (ran.returncode, ran.stdout) == (0, f"{ALONE.rstrip()}{more}\n"), ran)
 
 
 def ended(tries):
@@ -467,12 +455,22 @@ def several_scripts(tries):
     linked = {"one.cfg": row.format("1000", "CODE"), "two.cfg": row.format("2000", "CODE")}
     others = {name: text.replace("CODE", "OTHER") for name, text in linked.items()}
     same = "compared: the program by one.cfg: the same (the image, 1 bytes); {}\n"
-    sign = "cc65 imports a negative constant as a positive number"
+    sign, beyond = "cc65 imports a negative constant as a positive number", "cc65's linker takes a number from $80000000 as one below 0"
+    importing = ".import k\n{}\n"
     for name, files, status, said in (
         ("two scripts", {**good, **linked}, 0, same.format("by two.cfg: the same (the image, 1 bytes)")),
         ("one script of two", {**good, **linked, "two.cfg": others["two.cfg"]}, 0, same.format("not by two.cfg: ld65 doesn't link it as a whole: ")[:-1]),
         ("two scripts, another image", {**below, **linked}, 1, "one.cfg: the image differs from byte 0 on"),
         ("two scripts that don't link", {**below, **others}, 1, sign), ("no script", below, 1, sign),
+        *((f"a sign: {text!r}", {"k.s": exporter, "l.s": importing.format(text)}, 1, f"l.s:{line}: ") for exporter, text, line in (
+            (below["k.s"], "m = k\n .byte m < 0", 3), (below["k.s"], ".define KK k\n .byte KK < 0", 3),
+            (below["k.s"], ".macro is q\n .byte q < 0\n.endmacro\n is k", 3), (".scope s\nk = -1\n.export k\n.endscope\n", " .byte k < 0", 2),
+            (" .export k\nl1: nop\nl2: nop\nk = l1 - l2\n", " .byte k < 0", 2))),
+        *((f"a large number: {text!r}", {"l.s": importing.format(text)}, 1, f"l.s:{line}: ") for text, line in (
+            ("d = k - $1000\n .byte (d & $FFFFFFFF) > 0", 3), (" .byte ((k - $1000) & $FFFFFFFF) / 256", 2), (" .byte (k << 20) > $80000000", 2),
+            ("M = 1 << 31\n .byte (k | M) > 0", 3))),
+        ("a large number that isn't one of the linker", {"l.s": " .dword $FFFFFFFF, $80000000 + 5\n"}, 0, "the same 1 of 1\n"),
+        ("a large number, said", {"l.s": importing.format(" .byte (k << 20) > $80000000")}, 1, beyond),
         ("two scripts that don't link, the last line", {**good, **others}, 0, "; the whole program wasn't compared: there are 2 scripts"),
     ):
         with tempfile.TemporaryDirectory() as folder:
@@ -510,6 +508,7 @@ ENDLESS = (
     ".macro m a1\n n {a1 a1}\n.ident(\"x1\")\n.endmacro\n.macro n a1\n m {a1 a1}\n.endmacro\n m nop\n",
     ".macro m\n m\n m\n.ident(\"x1\")\n.endmacro\n m\n",
     ".macro m\n.repeat 1000\n.repeat 1000\n.ident(\"x1\")\n.endrepeat\n.endrepeat\n.endmacro\n m\n",
+    f".byte <{'0' * 5000}1\n", f".byte <{'1' * 5000}\n", '.byte .sprintf("%20000000000d", 1)\n',
     ".include \"a.s\"\n", ".repeat 1000000\n.ident(\"x1\"):\n.endrepeat\n",
 )
 
@@ -559,7 +558,6 @@ def main():
         mixed(tries)
         ended(tries)
         other_names(tries)
-        rules(tries)
         several_scripts(tries)
         options(tries)
     examples(tries)

@@ -106,10 +106,11 @@ HARD = {
 class Host:
     """Keeps the lines that come out."""
 
-    has_escapes = is_in_macro = False
+    has_escapes, macro = False, None
 
     def __init__(self):
-        self.lines = []
+        self.lines, self.state, self.context = [], self, self
+        self.macros = {name: macro_of(*it) for name, it in MACROS.items()}
 
     def prepared(self, text):
         return text
@@ -139,7 +140,7 @@ def macro_of(parameters, lines):
 def expanded(text):
     """The lines of a call."""
     host = Host()
-    expander = Expander(host, {name: macro_of(*it) for name, it in MACROS.items()}, "u")
+    expander = Expander(host, host, host.emit, "u")
     expander.call(text, rows.statement(text, *MACROS))
     expander.run()
     return "|".join(host.lines)

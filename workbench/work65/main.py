@@ -1,6 +1,7 @@
 """The command line of work65."""
 import argparse
 import importlib
+import io
 import os
 import sys
 from typing import Sequence
@@ -45,7 +46,12 @@ def run(words: Sequence[str]) -> int:
 def main(words: Sequence[str]) -> int:
     """Runs a command line, prints a one-line message if it fails, and returns the exit status."""
     signals.heed()
+    failed = 2 if words[:1] == ["second"] else 1  # second says by 1 that images differ
     try:
+        if sys.stdout is None:
+            raise Problem("standard output is closed", failed)
+        if isinstance(sys.stdout, io.TextIOWrapper):
+            sys.stdout.reconfigure(errors="surrogateescape")  # names of files needn't be UTF-8
         return run(words)
     except Problem as problem:
         complain(str(problem))
@@ -54,9 +60,9 @@ def main(words: Sequence[str]) -> int:
         return 130
     except BrokenPipeError:
         give_up_output()
-        return 1
+        return failed
     except OSError as error:
         if error.filename is None:
             give_up_output()
         complain(f"{os.fsdecode(error.filename) if error.filename else 'standard output'}: {error.strerror}")
-        return 1
+        return failed

@@ -11,11 +11,14 @@ from work65.diagnosing import bad_arguments
 from work65.diagnosing import causes, recovery
 from work65.diagnosing.message import Message, message_of
 from work65.frontend import words
-from work65.frontend.files import Text, text_of
+from work65.formats.objects import HEAD, read_object
+from work65.frontend.files import Text, read_bytes, text_of
+from work65.frontend.includes import followed
 from work65.frontend.statements import parts_of, statement_in
-from work65.frontend.survey import surveyed
+from work65.frontend.survey import Survey, surveyed
 from work65.frontend.tokens import Kind
 from work65.habits import sources
+from work65.habits.files import Files
 from work65.habits.table import BY_WORD
 from work65.problem import Problem
 
@@ -90,13 +93,17 @@ def _causes(message: Message, entry: Optional[pages.PageEntry], text: Optional[T
         why = bad_arguments.why_bad(line[at + 1 :]) if at is not None else None
         if why:
             yield f"It is: {why}."
+    if message.text.startswith("unresolved: "):
+        yield from _uses(message.text[12:].split(", "), line)
     if text is None or text.is_script or message.line is None or message.line > len(text.lines):
         return
+    texts = [text, *followed([text], [it[2:] for it in line if it.startswith("-I")])]
+    tree = surveyed(texts)
     begin = recovery.span_of(text.lines, message.line - 1)[0]
     if begin < message.line - 1:
         yield f"It is in one of the lines {begin + 1} to {message.line}, which are repeated."
-    elif called := _called(text.lines, message.line - 1):
-        counts = _counts(text.lines, message.line - 1, called)
+    elif called := _called(text, message.line, tree):
+        counts = _counts(text.lines[message.line - 1], called, texts)
         if message.text == "too many arguments" and counts[1] > counts[0]:
             yield f"The macro {called} has {_counted(counts[0], 'parameter')}, and the call has {_counted(counts[1], 'argument')}."
         else:
@@ -104,16 +111,25 @@ def _causes(message: Message, entry: Optional[pages.PageEntry], text: Optional[T
     elif message.text == "statement not understood":
         yield from (f"It is: {it}." for it in rows_for(text.lines, message.line - 1, entry))
     if message.text in ("statement not understood", "directive not understood", "bad character", "bad number", "no such addressing form"):
-        found = sources.found_in([text], surveyed([text]))
-        for it in found:
-            if it.line == message.line and it.habit.name != "form":
+        for it in sources.found_in([text], tree, Files(texts, ()), texts[1:]):
+            if (it.path, it.line) == (text.path, message.line) and it.habit.name not in ("form", "include-file", "incbin-file"):
                 yield f"{it.word}: {it.cure} (MIGRATING: {it.habit.heading})"
 
 
-def _called(lines: Sequence[str], at: int) -> str:
-    """Returns the name of the file's macro that a line calls, empty if it calls none."""
-    body = statement_in(lines[at]).body
-    return body[0].text if body and body[0].text in causes.macros_in(lines, lambda it: it < at) else ""
+def _uses(names: Sequence[str], line: Sequence[str]) -> Iterator[str]:
+    """Yields where the objects of a command line use these names."""
+    for path in (it for it in line if it.endswith(".o") and os.path.isfile(it)):
+        data = read_bytes(path)
+        for it in dict.fromkeys(read_object(data).uses if data[:5] == HEAD else ()):
+            if it.name in names:
+                yield f"{it.name} is used in {it.file}:{it.line} (module {path})."
+
+
+def _called(text: Text, line: int, tree: Survey) -> str:
+    """Returns the name of the macro that a line calls, empty if it calls none that is defined before it."""
+    body = statement_in(text.lines[line - 1]).body
+    places = tree.macros.get(body[0].text, []) if body else []
+    return body[0].text if any(path != text.path or number < line for path, number in places) else ""
 
 
 def _counted(count: int, what: str) -> str:
@@ -121,14 +137,13 @@ def _counted(count: int, what: str) -> str:
     return f"{count} {what}" if count == 1 else f"{count or 'no'} {what}s"
 
 
-def _counts(lines: Sequence[str], at: int, name: str) -> Tuple[int, int]:
+def _counts(call: str, name: str, texts: Sequence[Text]) -> Tuple[int, int]:
     """Returns the number of a macro's parameters, and of the arguments of a call."""
     parameters = 0
-    for line in lines[:at]:
-        statement = statement_in(line)
+    for statement in (statement_in(line) for text in texts for line in text.lines):
         if statement.head in words.MACRO_BEGINS and statement.rest and statement.rest[0].text == name:
             parameters = sum(it.kind is Kind.NAME for it in statement.rest[1:])
-    return parameters, len(parts_of(statement_in(lines[at]).rest, has_parentheses=False))
+    return parameters, len(parts_of(statement_in(call).rest, has_parentheses=False))
 
 
 def rows_for(lines: Sequence[str], at: int, entry: Optional[pages.PageEntry]) -> List[str]:

@@ -13,6 +13,8 @@ from work65.problem import Problem
 from work65.program import Program
 from work65.signals import folder_for_a_while
 
+# A symbol of the script is the name of a register of the NES, or a number that is no address.
+REGISTERS = range(0x2000, 0x6000)
 HELP = "write all labels of a program, exported or not, in an emulator's format"
 
 
@@ -43,6 +45,8 @@ def run(arguments: argparse.Namespace) -> int:
     with folder_for_a_while() as folder:
         built = build(program, wanted_of(arguments), folder, Constants.LABELS)
     names, image = all_names(built), built.files.get(OUTPUT, b"")
+    if arguments.format in ("mesen", "fceux"):
+        names = [it for it in names if it.name not in built.layout.script.exports or it.address in REGISTERS]
     if arguments.format == "fceux" and arguments.output is not None:
         write_beside(arguments.output, image, names)
     else:

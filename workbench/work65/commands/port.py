@@ -10,7 +10,7 @@ from work65.frontend.tokens import value_of
 from work65.porting import copying, port, verdict
 from work65.porting.project import Spread
 from work65.porting.statements import FEATURES
-from work65.porting.tools import Options, missing
+from work65.porting.tools import Options, in_decimal, missing
 from work65.problem import Problem
 from work65.program import Program
 from work65.signals import folder_for_a_while
@@ -51,7 +51,7 @@ def options_of(arguments: argparse.Namespace) -> Options:
 def _symbol(text: str) -> "Tuple[str, int]":
     """Reads a symbol and its number. Raises a Problem if they are invalid."""
     name, _, number = text.partition("=")
-    value = value_of(number)
+    value = value_of(in_decimal(number))
     if not name.isidentifier() or value is None:
         raise Problem(f"--symbol {text}: expected NAME=NUMBER, such as NAME=$20")
     return name, value
@@ -67,15 +67,17 @@ def run(arguments: argparse.Namespace) -> int:
         raise Problem(f"--verify can't compare: {reason}")
 
     def made(spread: Spread) -> port.Ported:
-        return port.ported(port.read_project(paths, options), program is not None, spread)
+        return port.ported(port.read_project(paths, options), spread)
 
     with folder_for_a_while() as room:
         if program is None:
-            judged = verdict.Verdict(made(Spread()), [], f"not compared: {reason}")
+            copy = made(Spread())
+            last = f"not compared: {reason}; operands may have other sizes than with cc65"
+            judged = verdict.Verdict(copy, copying.files_of(copy, options.data), [], last)
         else:
-            judged = verdict.compared(program, options, room, made)
+            judged = verdict.compared(program, options, room, made, arguments.folder)
         originals = [it.path for it in judged.ported.project.texts.values()]
-        copying.write(copying.files_of(judged.ported, options.data), arguments.folder, originals, arguments.force)
+        copying.write(judged.files, arguments.folder, originals, arguments.force)
     lines: List[str] = [said(it) for it in judged.ported.findings]
     own = [f"{os.path.join(arguments.folder, it)}: a source of its own: link it last" for it in judged.ported.project.own_sources]
     for it in [*lines, *judged.lines, *own, judged.last]:

@@ -6,6 +6,7 @@ from work65.commands.port import add_options, options_of
 from work65.frontend.files import read_bytes
 from work65.instrumenting.library import sources_of
 from work65.porting.program import NOT_COMPARED, Comparison, SecondOptions
+from work65.porting.script_files import place_of
 from work65.porting.tools import missing
 from work65.porting.verify import Library
 from work65.problem import Problem
@@ -43,12 +44,13 @@ def compared(arguments: argparse.Namespace) -> int:
         raise Problem(f"cc65's {lacking} isn't on the path; give an image to compare with by --image")
     program = Program.find(arguments.bin65)
     libraries = [Library(it.partition("=")[0], sources_of(it, program)) for it in arguments.libraries]
-    for it in [arguments.script, *arguments.sources, *(member for library in libraries for member in library.members)]:
+    script = place_of(arguments.script)
+    for it in [script, *arguments.sources, *(member for library in libraries for member in library.members)]:
         if not os.path.isfile(it):
             raise Problem(f"{it}: no such file")
         if read_bytes(it)[:4] in MADE_BY_CC65:
             raise Problem(f"{it}: an object or a library of cc65's: give its sources instead, those of a library by --library")
-    line = SecondOptions(arguments.script, arguments.sources, libraries, options_of(arguments), arguments.image)
+    line = SecondOptions(script, arguments.sources, libraries, options_of(arguments), arguments.image)
     with folder_for_a_while() as room:
         answer = Comparison(program, line, room, lacking is None).answer()
     for said in answer.lines:

@@ -55,6 +55,7 @@ class Search:
     faults: List[Fault] = field(default_factory=list)
     suspects: Dict[str, Suspect] = field(default_factory=dict)
     tree: Optional[Survey] = None
+    left: Optional[Set[str]] = None
     has_more: bool = False
     was_looked: bool = False
 
@@ -228,6 +229,15 @@ class Search:
 
     # Errors that follow from others.
 
+    def defined(self) -> Set[str]:
+        """Returns the names that the copy still defines: no error about them follows from a line that was removed."""
+        if self.left is None:
+            first = text_of(self.arguments.source)
+            files = [first, *followed([first], self.arguments.include)]
+            lines = {line for file in files for line in self.lines_of(file.path)}
+            self.left = set().union(*(recovery.defined_by(statement_in(it)) for it in lines))
+        return self.left
+
     def said(self, fault: Fault) -> str:
         """Formats an error for output."""
         cause = self.cause(fault)
@@ -243,6 +253,7 @@ class Search:
             wanted -= recovery.defined_by(statement_in(fault.line))
         if kind.endswith(" twice"):
             return ""
+        wanted -= self.defined()
         line = message.line or 0
         places = {place for name in wanted for place in self.names.get(name, ()) if place != (message.file, line)}
         if kind not in ANYWHERE:

@@ -5,17 +5,17 @@ from typing import Callable, Dict, Iterator, List, Optional
 from work65.frontend.link_script import OUTPUT
 from work65.instrumenting.names import NamedAddress
 
-# The header of an NES cartridge's file, which isn't part of its memory.
-HEADER = 16
+# The header of an NES cartridge's file, which isn't part of its memory, and what its fifth byte counts.
+HEADER, PROGRAM = 16, 0x4000
 BANK = 0x4000
 
 
 def in_cartridge(image: bytes, it: NamedAddress) -> Optional[int]:
-    """Returns the offset of a label in the cartridge's memory, None if it isn't in it."""
-    header = HEADER if image[:4] == b"NES\x1a" else 0
-    if it.in_file is None or it.file != OUTPUT or it.in_file < header:
-        return None
-    return it.in_file - header
+    """Returns the offset of a label in the cartridge's program memory, None if it isn't in it."""
+    has_header = image[:4] == b"NES\x1a"
+    begin, end = (HEADER, HEADER + image[4] * PROGRAM) if has_header else (0, len(image))
+    is_inside = it.in_file is not None and it.file == OUTPUT and begin <= it.in_file < end
+    return it.in_file - begin if it.in_file is not None and is_inside else None
 
 
 def vice(image: bytes, names: List[NamedAddress]) -> Iterator[str]:

@@ -55,14 +55,23 @@ class Section:
     fragments: List[Fragment] = field(default_factory=list)
 
 
+class Use(NamedTuple):
+    """A statement whose value has an import: the import's name, and the file and line of the statement."""
+
+    name: str
+    file: str
+    line: int
+
+
 @dataclass
 class Object:
-    """A module without source locations."""
+    """A module, without source locations but those of the uses of imports."""
 
     imports: List[str] = field(default_factory=list)
     sections: List[Section] = field(default_factory=list)
     exports: List[Tuple[str, Form]] = field(default_factory=list)
     asserts: List[Tuple[int, bytes, Form]] = field(default_factory=list)
+    uses: List[Use] = field(default_factory=list)
 
     def without(self, name: str) -> "Object":
         """Returns the same object without a section."""
@@ -80,7 +89,8 @@ class Object:
 
 
 WIDTHS = (1, 2, 2, 4, 1)
-HEAD, SECTION, PLACE, NUMBER, INDEX = map(struct.Struct, ("<BH", "<IB", "<Iq", "<q", "<I"))
+HEAD = b"R65o\x02"
+RECORD, SECTION, PLACE, NUMBER, INDEX = map(struct.Struct, ("<BH", "<IB", "<Iq", "<q", "<I"))
 
 
 class ObjectReader:
@@ -90,17 +100,20 @@ class ObjectReader:
         self.data, self.object = data, Object()
         self.filled = 0
         self.current = 0
+        self.files: List[str] = []
+        self.location = 0
 
     def read(self) -> Object:
         """Reads the object."""
         data = self.data
-        if data[:5] != b"R65o\x02":
+        if data[:5] != HEAD:
             raise Problem("an object isn't of version 2: use a newer bin65")
         at, end = 5, len(data)
         while at < end:
-            kind, length = HEAD.unpack_from(data, at)
+            kind, length = RECORD.unpack_from(data, at)
             at += 3
             if kind == 5:
+                self.location = at + 1
                 self.fragment(Value(data[at], self.form(at + 9)[0]), WIDTHS[data[at]])
             elif kind == 3:
                 self.fragment(data[at : at + length], length)
@@ -120,11 +133,15 @@ class ObjectReader:
         elif kind == 2:
             size, alignment = SECTION.unpack_from(body)
             self.object.sections.append(Section(body[5:].decode("latin-1"), size, 1 << alignment))
+        elif kind == 9:
+            self.files.append(body.decode("utf-8", "surrogateescape"))
         elif kind == 6:
             size = body[0]
+            self.location = at + 1 + size
             self.object.exports.append((body[1 : 1 + size].decode("latin-1"), self.form(at + size + 9)[0]))
         elif kind == 7:
             size = body[9]
+            self.location = at + 1
             self.object.asserts.append((body[0], body[10 : 10 + size], self.form(at + 10 + size)[0]))
 
     def fragment(self, fragment: Fragment, size: int) -> None:
@@ -144,7 +161,10 @@ class ObjectReader:
         if code == 0:
             return int(NUMBER.unpack_from(self.data, at + 1)[0]), at + 9
         if code == 2:
-            return Import(self.object.imports[INDEX.unpack_from(self.data, at + 1)[0]]), at + 5
+            name = self.object.imports[INDEX.unpack_from(self.data, at + 1)[0]]
+            file, line = (INDEX.unpack_from(self.data, self.location + it)[0] for it in (0, 4))
+            self.object.uses.append(Use(name, self.files[file], line))
+            return Import(name), at + 5
         parts = []
         at += 1
         for _ in range(1 if code < 0x20 else 2):

@@ -1,7 +1,8 @@
 """Finds included files as bin65 does (docs/LANGUAGE.md)."""
 import os
-from typing import Dict, Iterable, Iterator, List, Optional, Sequence, Set
+from typing import Dict, Iterable, Iterator, List, Optional, Sequence, Set, Tuple
 
+from work65.frontend import words
 from work65.frontend.files import Text, place_of, text_of, want_regular
 from work65.frontend.statements import Statement, statement_in
 from work65.frontend.tokens import Kind, is_closed
@@ -61,6 +62,26 @@ def names_in(text: Text) -> Iterator[str]:
             word = word_of(statement) if statement.head == ".include" else None
             if word is not None:
                 yield word
+
+
+def late(lines: Iterable[str]) -> List[Tuple[str, int]]:
+    """Returns each .include of a macro or repeat that isn't its only statement: the macro's name, if it is in one, and the line. cc65
+    reads the file after all lines of the expansion, bin65 in its place."""
+    found: Dict[int, str] = {}
+    opened: List[Tuple[str, List[int], int]] = []
+    for number, line in enumerate(lines, 1):
+        statement = statement_in(line)
+        head = statement.head
+        if head in words.MACRO_ENDS | words.REPEAT_ENDS and opened:
+            name, numbers, count = opened.pop()
+            found.update({it: name for it in numbers if count > 1})
+        if head or statement.label is not None:
+            opened = [(name, [*numbers, number] if head == ".include" else numbers, count + 1) for name, numbers, count in opened]
+        if head in words.MACRO_BEGINS and statement.rest:
+            opened.append((statement.rest[0].text, [], 0))
+        elif head in words.REPEAT_BEGINS:
+            opened.append((opened[0][0] if opened else "", [], 0))
+    return [(name, number) for number, name in sorted(found.items())]
 
 
 def followed(texts: Iterable[Text], folders: Sequence[str]) -> List[Text]:

@@ -81,6 +81,8 @@ def _lexed(text: str, has_escapes: bool, is_expanded: bool) -> LexedLine:
     return LexedLine(tuple(found), comment)
 
 
+# More digits make no other number: each is too large.
+MOST_DIGITS = 40
 _NUMBER = re.compile(r"\$[0-9A-Fa-f]+|%[01]+|[0-9]+|[0-9][0-9A-Fa-f]*h", re.A)
 
 
@@ -93,7 +95,7 @@ def value_of(text: str) -> Optional[int]:
         return int(plain[1:], 16)
     if plain[0] == "%":
         return int(plain[1:], 2)
-    return int(plain[:-1], 16) if plain[-1] in "hH" else int(plain)
+    return int(plain[:-1], 16) if plain[-1] in "hH" else int(plain.lstrip("0")[:MOST_DIGITS] or "0")
 
 
 def is_closed(token: Token) -> bool:

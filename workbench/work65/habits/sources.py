@@ -5,7 +5,7 @@ from typing import Dict, Iterator, List, Optional, Sequence, Set, Tuple
 from work65.frontend import grammar, words
 from work65.frontend.conditions import Conditions
 from work65.frontend.files import Text, place_of
-from work65.frontend.includes import find_file, word_of
+from work65.frontend.includes import find_file, late, word_of
 from work65.frontend.reach import reached
 from work65.frontend.segments import HEADS as SEGMENT_HEADS, Segments, short_names
 from work65.frontend.statements import Statement, statement_in, statement_of
@@ -24,6 +24,8 @@ LOOKED_AT = TELLING | words.LISTS | words.MACRO_BEGINS | words.MACRO_ENDS | word
 # Habits that bin65 rejects even in skipped lines, since these can't be split into tokens.
 TOLD = frozenset(("digit", "comment", "bracket", "underline", "quote", "continuation", "long-line"))
 LONGEST = 4096
+# Features that allow a sign in names.
+NAMING = {"at_in_identifiers": "@", "dollar_in_identifiers": "$", "leading_dot_in_identifiers": "."}
 CLOSERS = {".endstruct": "struct", ".endunion": "union", ".endenum": "enum"}
 
 
@@ -224,7 +226,8 @@ class Reader:
             if first.lower not in words.MNEMONICS:
                 return
         word = line.tokens[min(at, len(line.tokens) - 1)].text
-        yield word, BY_NAME["form"], ""
+        named = (it for it, sign in NAMING.items() if it in self.tree.features and any(sign in one.text for one in body))
+        yield word, BY_NAME["form"], next((f"a name that `.feature {it}` allows: rename it" for it in named), "")
 
 
 def _is_continued(line: LexedLine, text: str) -> bool:
@@ -244,6 +247,7 @@ def found_in(texts: List[Text], tree: Survey, files: Optional[Files] = None, inc
         reader = Reader(text, tree, files)
         found += reader.findings()
         found += [(None, Finding(text.path, number, name, BY_NAME["cheap-twice"])) for number, name in cheap.twice(text)]
+        found += [(macro or None, Finding(text.path, number, ".include", BY_NAME["include-late"])) for macro, number in late(text.lines)]
         calls += [(*it, text.path) for it in reader.calls]
         waiting += [left.pop(it) for it in sorted(reader.includes) if it in left]
     by_caller: Dict[Optional[str], List[str]] = {}
@@ -259,7 +263,7 @@ def _refused_calls(found: List[Tuple[Optional[str], Finding]], calls: List[Tuple
     """Returns the first call in each file of each macro whose lines have a finding."""
     first: Dict[str, Finding] = {}
     for macro, it in found:
-        if macro is not None and macro in called:
+        if macro is not None and macro in called and it.habit.name != "include-late":
             first.setdefault(macro, it)
     while True:
         more = {caller: first[name] for caller, name, _, _ in calls if caller is not None and name in first and caller not in first}

@@ -118,6 +118,7 @@ HABITS: Tuple[Habit, ...] = (
           ("^.{4097}",)),
     Habit("zero-page-import", "`.import n` after `.zeropage`", SHORT,
           "use .importzp or .globalzp if the name is in the zero page, else put the line before the .zeropage"),
+    Habit("include-late", "`.include` in a macro or repeat", "`.include` in a macro or repeat", "write the .include after the call or repeat"),
     Habit("align", "`.align 3`", LOOKS, "use .res with an explicit count", (),
           ("^[^;]*\\.align[[:blank:]]+([3579]|[0-9]*[1-9][0-9]*[13579])([^0-9]|$)",)),
     Habit("local-cheap", "`.local @l`, `.ifdef @l`", LOOKS, "use a name without @", (), ("^[^;]*\\.(local|ifn?def)[[:blank:]][^;]*@",)),

@@ -5,7 +5,7 @@ from dataclasses import dataclass
 from typing import Dict, List, Sequence
 
 FIRST = "STARTUP ONCE INIT CODE LOWCODE RODATA DATA BSS ZEROPAGE EXTZP".split()
-SEGMENT = re.compile(r"^\s+(\w+):\s+\d+", re.M)
+SEGMENT = re.compile(r"^\s+(\w+):\s+(\d+)", re.M)
 ALIGNMENT = re.compile(r'Name:\s+"([^"]+)"\s+Flags:\s+\d+\s+Size:\s+\d+\s+Alignment:\s+(\d+)')
 IMPORT, SIZE, NAME = "Index:", re.compile(r"Address size:\s+(0x\w+)"), re.compile(r'Name:\s+"([^"]+)"')
 
@@ -28,16 +28,19 @@ PLACEMENTS = (
     Placement(0x02, 0x0200, 0x0400, 0x40, 0x1200, 3, False), Placement(0x21, 0x1357, 0x2468, 0x23, 0x4321, 7, True),
     Placement(0x02, 0x0300, 0x8000, 0x40, 0x1200, 3, False), Placement(0x02, 0x0200, 0xC000, 0x40, 0x1200, 3, False),
     Placement(0x10, 0x0400, 0xE000, 0x33, 0x3456, 5, False), Placement(0x04, 0x0200, 0x0800, 0x40, 0x0030, 1, False),
+    Placement(0x02, 0x0200, 0x0400, 0x01, 0x1200, 3, False),
 )
 ENOUGH = 2
+# How many bytes fit into one area at the first placement.
+ROOM = 0xFFF0 - 0x0400
 
 
 @dataclass(frozen=True)
 class Needs:
-    """The segments and the imports of an object of cc65's; which of them lie in the zero page, and what the segments have to be
-    aligned to."""
+    """The segments with their sizes and the imports of an object of cc65's; which of them lie in the zero page, and what the segments
+    have to be aligned to."""
 
-    segments: Sequence[str]
+    segments: Dict[str, int]
     alignments: Dict[str, int]
     short_segments: "frozenset[str]"
     imports: Sequence[str]
@@ -51,7 +54,7 @@ def needs_of(object_file: str) -> Needs:
     segments, _, rest = parts.partition("  Imports:")
     imports, _, sizes = rest.partition("  Segment sizes:")
     imported, short = _named(imports)
-    found = [it for it in dict.fromkeys([*FIRST, *SEGMENT.findall(sizes)]) if it != "NULL"]
+    found = {**dict.fromkeys(FIRST, 0), **{name: int(size) for name, size in SEGMENT.findall(sizes) if name != "NULL"}}
     alignments = {it[1]: int(it[2]) for it in ALIGNMENT.finditer(segments)}
     return Needs(found, alignments, _named(segments)[1] | {"ZEROPAGE", "EXTZP"}, imported, short)
 
@@ -69,14 +72,15 @@ def _named(text: str) -> "tuple[List[str], frozenset[str]]":
 
 
 def script_of(needs: Needs, at: Placement) -> str:
-    """Returns a script that links an object alone."""
-    areas = "".join(
-        f'  {name}: start = ${start:04X}, size = ${end - start:04X}, {file};\n'
-        for name, start, end, file in (("Z", at.zero_page, 0x100, 'file = ""'), ("R", at.room, 0xFFF0, 'file = ""'), ("M", at.code, 0xFFF0, "file = %O"))
-    )
+    """Returns a script that links an object alone. Segments that are too large for one area have one each."""
+    is_large = sum(needs.segments.values()) > ROOM
+    parts = [f"M{number}" for number in range(len(needs.segments) if is_large else 1)]
+    places = (("Z", at.zero_page, 0x100, '""'), ("R", at.room, 0xFFF0, '""'), *((it, at.code, 0xFFF0 if len(parts) == 1 else 0x10000, "%O") for it in parts))
+    areas = "".join(f"  {name}: start = ${start:04X}, size = ${end - start:04X}, file = {file};\n" for name, start, end, file in places)
     rows = ""
-    for it in reversed(needs.segments) if at.is_reversed else needs.segments:
-        load, kind = ("Z", "zp") if it in needs.short_segments else ("R", "bss") if it == "BSS" else ("M", "rw")
+    names = list(needs.segments)
+    for number, it in enumerate(reversed(names) if at.is_reversed else names):
+        load, kind = ("Z", "zp") if it in needs.short_segments else ("R", "bss") if it == "BSS" else (parts[number % len(parts)], "rw")
         align = f", align = {needs.alignments[it]}" if needs.alignments.get(it, 1) > 1 else ""
         rows += f"  {it}: load = {load}, type = {kind}{align}, optional = yes;\n"
     symbols = ""

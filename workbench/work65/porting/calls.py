@@ -13,6 +13,8 @@ from work65.porting.known import ModuleState
 
 ASKING = frozenset((".ifdef", ".ifndef", ".defined", ".def"))
 BYTES = frozenset((".byte", ".byt"))
+# Directives of which each element becomes something else.
+LISTS = frozenset((".lobytes", ".hibytes", ".bankbytes", ".faraddr"))
 BLANKS = frozenset((".ifblank", ".ifnblank"))
 
 
@@ -36,6 +38,8 @@ class Calls:
         if any(self.is_changed(it) for it in macros):
             return True
         if any(star_in(it) for it in parts_of(rest)) and any(it.directives & words.DATA for it in macros):
+            return True
+        if any(it.text == "{" for it in rest) and any(it.directives & LISTS for it in macros):
             return True
         if any(it.has_shift for it in macros) and shifts.may_turn_negative(rest, context):
             return True
@@ -63,11 +67,8 @@ class Calls:
     def is_hidden_there(self, macros: List[Macro], rest: Sequence[Token]) -> bool:
         """Returns whether a scope around a call has used a name of it."""
         names = {it.text for it in rest} | {name for it in macros for name in it.names}
-        if self.project.is_measured and not any(it.directives & ASKING for it in macros):
-            return False
-        is_inner = any(it.directives & (ASKING | words.SCOPE_BEGINS) for it in macros)
-        scopes = self.context.scopes if is_inner else self.context.scopes[:-1]
-        return any(not names.isdisjoint(it.used) for it in scopes)
+        is_asked = any(it.directives & ASKING for it in macros)
+        return is_asked and any(not names.isdisjoint(it.used) for it in self.context.scopes)
 
     def has_other_regions(self, macro: Macro) -> bool:
         """Returns whether a macro with cheap names of its own would end the region of those around its call."""

@@ -1,6 +1,6 @@
 """`.constructor` and its like: the tables that cc65's linker makes of them, as a source of its own."""
 from dataclasses import dataclass
-from typing import Dict, Iterable, Iterator, List, Optional, Tuple
+from typing import Dict, Iterable, Iterator, List, Optional, Sequence, Tuple
 
 from work65.frontend import words
 from work65.frontend.expression import value
@@ -39,9 +39,9 @@ def entry_of(statement: Statement, context: Context) -> Tuple[int, str, int]:
     rest = parts[1:]
     if number is None and rest:
         number = DIRECTIVES.get("." + rest[0][0].lower) if rest[0] else None
-        number = value(rest[0], context.value) if number is None else number
+        number = value(rest[0], context.certain) if number is None else number
         rest = rest[1:]
-    priority = value(rest[0], context.value) if rest else MIDDLE
+    priority = value(rest[0], context.certain) if rest else MIDDLE
     if number is None or priority is None or not LEAST <= priority <= MOST or len(rest) > 1:
         raise Unportable(statement.head, "condes", "its table or priority can't be determined")
     return number, parts[0][0].text, priority
@@ -68,9 +68,10 @@ def _table(entry: Entry) -> Optional[Table]:
 
 def source(tables: Iterable[Table], entries: Entries, texts: Iterable[Text]) -> List[str]:
     """Returns the lines of the source with the tables that something asks for; none where nothing does."""
-    used = _used(texts)
+    tables = list(dict.fromkeys(tables))
+    used = _used(texts, [name for it in tables for name in (it.label, it.count) if name])
     found: List[str] = []
-    for it in dict.fromkeys(tables):
+    for it in tables:
         if it.label in used or it.count in used:
             found += _lines(it, entries)
     return ["; The tables of .constructor and its like. This module is the last one to be linked.", *found] if found else []
@@ -91,12 +92,12 @@ def _lines(table: Table, entries: Entries) -> Iterator[str]:
         yield f"{table.count} = {len(names)}"
 
 
-def _used(texts: Iterable[Text]) -> "set[str]":
-    """Returns the names that sources use, not only import."""
+def _used(texts: Iterable[Text], names: Sequence[str]) -> "set[str]":
+    """Returns those of these names that sources use, not only import."""
     found = set()
     for text in texts:
         for line in text.lines:
-            if "__" in line:
+            if any(it in line for it in names):
                 tokens = line_of(line).tokens
                 head = statement_of(tokens, lambda _: False).head
                 if head not in words.LISTS or head == ".forceimport":

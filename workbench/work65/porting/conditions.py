@@ -71,7 +71,7 @@ def opened(text: str, statement: Statement, context: Context, others: Sequence[s
         return replaced(text, statement, [it.asked for it in parts])
     context.blocks.append(OpenCondition())
     lines, asked = counted(text, statement.rest, context, unique)
-    return replaced(text, statement, [*lines, asked])
+    return replaced(text, statement, [*lines, f".if {asked}"])
 
 
 def otherwise(text: str, statement: Statement, context: Context, unique: str) -> List[str]:
@@ -85,7 +85,7 @@ def otherwise(text: str, statement: Statement, context: Context, unique: str) ->
     if parts is not None and len(parts) == 1:
         return replaced(text, statement, [".else", parts[0].asked])
     lines, asked = counted(text, statement.rest, context, unique)
-    return replaced(text, statement, [".else", *lines, asked])
+    return replaced(text, statement, [".else", *lines, f".if {asked}"])
 
 
 def closed(text: str, statement: Statement, context: Context) -> List[str]:
@@ -173,7 +173,7 @@ def _atom(text: str, tokens: Sequence[Token]) -> Optional[str]:
 
 
 def counted(text: str, tokens: Sequence[Token], context: Context, unique: str) -> "tuple[List[str], str]":
-    """Returns a condition with a constant for each function: lines that define them, and the condition."""
+    """Returns an expression with a constant for each function: lines that define them, and the expression."""
     if context.repeats or (context.macro is None and context.scopes and not context.path[-1]):
         raise Unportable(tokens[0].text, "defined", "within a .repeat: write it out")
     lines: List[str] = []
@@ -195,4 +195,4 @@ def counted(text: str, tokens: Sequence[Token], context: Context, unique: str) -
             asked, at, end = asked + name, close + 1, tokens[close].end
         else:
             asked, at, end = asked + it.text, at + 1, it.end
-    return lines, f".if {asked}"
+    return lines, asked

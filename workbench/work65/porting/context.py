@@ -94,9 +94,7 @@ class Context:
     cheap_constants: Dict[str, str] = field(default_factory=dict)
     region: str = ""
     part: int = 0
-    short_names: Set[str] = field(default_factory=set)
     hoisted: Dict[Tuple[str, ...], str] = field(default_factory=dict)
-    differences: Set[str] = field(default_factory=set)
     uncertain: Set[Tuple[str, ...]] = field(default_factory=set)
     variables: Dict[Tuple[str, ...], str] = field(default_factory=dict)
     versions: Dict[str, int] = field(default_factory=dict)
@@ -120,10 +118,6 @@ class Context:
     def segment(self) -> str:
         """The open segment."""
         return self.segments.current
-
-    def is_short(self, segment: Optional[str]) -> bool:
-        """Returns whether a segment is a zero page one, by its name or by a line that opened it."""
-        return segment == "EXTZP" or segment in self.segments.zero_page
 
     @property
     def is_plain(self) -> bool:

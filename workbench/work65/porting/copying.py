@@ -3,7 +3,7 @@ import hashlib
 import os
 import shutil
 import tempfile
-from typing import Dict, Iterator, List, Optional, Sequence, Tuple
+from typing import Dict, Iterator, List, Optional, Sequence, Set, Tuple
 
 from work65.frontend.edits import edited
 from work65.frontend.files import read_bytes
@@ -73,7 +73,7 @@ def _incbin(line: str) -> Optional[Token]:
 
 def _first(name: str, folders: Sequence[str]) -> Optional[str]:
     """Returns the first file of a name in some folders."""
-    return next((it for it in (os.path.join(folder, name) for folder in folders) if os.path.isfile(it)), None)
+    return next((it for it in (os.path.join(folder, name) for folder in folders) if os.path.exists(it) and not os.path.isdir(it)), None)
 
 
 def put(files: Files, folder: str) -> None:
@@ -85,9 +85,34 @@ def put(files: Files, folder: str) -> None:
             it.write(data)
 
 
+def link_others(files: Files, folder: str, copy: str) -> None:
+    """Puts links into a temporary copy to the files that its folder has beside it, without those that `write` removes."""
+    if os.path.isdir(folder):
+        _link_others(os.path.abspath(folder), copy, {os.path.abspath(it) for it in _stale(files, folder)})
+
+
+def _link_others(folder: str, copy: str, gone: Set[str]) -> None:
+    for name in os.listdir(folder):
+        place, link = os.path.join(folder, name), os.path.join(copy, name)
+        if os.path.isdir(place) and (os.path.isdir(link) or any(it.startswith(place + os.sep) for it in gone)):
+            os.makedirs(link, exist_ok=True)
+            _link_others(place, link, gone)
+        elif place not in gone and not os.path.lexists(link):
+            os.symlink(place, link)
+
+
+def _stale(files: Files, folder: str) -> List[str]:
+    """Returns the files of an earlier copy that this one doesn't have, and that are as port wrote them."""
+    old = ((os.path.join(folder, path), total) for path, total in sums_of(folder)
+           if path not in files and not os.path.normpath(path).startswith(("..", "/")))
+    return [it for it, total in old if os.path.isfile(it) and hashlib.sha256(read_bytes(it)).hexdigest() == total]
+
+
 def write(files: Files, folder: str, originals: Sequence[str], is_forced: bool) -> None:
     """Writes a copy whole, or nothing: it is made beside its folder and moved there."""
     places = {path: os.path.join(folder, path) for path in files}
+    if SUMS in files:
+        raise Problem(f"{places[SUMS]}: this name is that of port's own list")
     own = {os.path.realpath(it) for it in originals}
     over = next((it for it in places.values() if os.path.realpath(it) in own), None)
     if over is not None:
@@ -96,6 +121,7 @@ def write(files: Files, folder: str, originals: Sequence[str], is_forced: bool) 
     if changed:
         more = f" (and {len(changed) - 1} more)" if len(changed) > 1 else ""
         raise Problem(f"{changed[0]}{more}: changed since port wrote it; --force overwrites it")
+    stale = _stale(files, folder)
     sums = "".join(f"{hashlib.sha256(data).hexdigest()}  {path}\n" for path, data in sorted(files.items()))
     above = os.path.dirname(os.path.abspath(folder))
     try:
@@ -108,6 +134,8 @@ def write(files: Files, folder: str, originals: Sequence[str], is_forced: bool) 
                     raise Problem(f"{os.path.join(folder, path)}: is a folder")
                 os.makedirs(os.path.dirname(os.path.join(folder, path)), exist_ok=True)
                 shutil.move(os.path.join(room, path), os.path.join(folder, path))
+            for place in stale:
+                os.remove(place)
     except OSError as error:
         raise Problem(f"{error.filename or folder}: {error.strerror}") from error
 

@@ -1,5 +1,5 @@
 """Converts `.define`: numbers become constants, other texts replace their uses."""
-from typing import List, Optional, Sequence, Tuple
+from typing import Callable, List, Optional, Sequence, Tuple
 
 from work65.frontend import words
 from work65.frontend.edits import edited, text_of_tokens
@@ -12,6 +12,7 @@ from work65.porting.line import Unportable, commented_out
 BEFORE = frozenset((",", "#", "(", "=", ":=", "{"))
 AFTER = frozenset((",", ")", "}"))
 UNEXPANDED = frozenset((".define", ".undefine", ".undef"))
+ENDS = words.CONDITIONS | {".else", ".elseif", ".endif"}
 SIGNS = frozenset("<>=:&|*/-+")
 MOST, LONGEST = 200, 10000
 
@@ -42,7 +43,7 @@ def _is_use(tokens: Sequence[Token], at: int, context: Context, is_whole: bool) 
         return False
     if define.is_ambiguous and not define.is_constant:
         raise Unportable(one.text, "define", "it has several values: write the constant or the text out")
-    if not define.is_constant or is_whole and not define.is_ambiguous:
+    if not define.is_constant or is_whole and not define.is_ambiguous and (one.text,) not in context.uncertain:
         return True
     return len(define.tokens) > 1 and not _is_closed(define.tokens) and not _stands_alone(tokens, at)
 
@@ -109,11 +110,13 @@ def _arguments(text: str, tokens: Sequence[Token], at: int, count: int) -> Tuple
     return found, end
 
 
-def defined(text: str, statement: Statement, context: Context, is_single: bool) -> List[str]:
+def defined(text: str, statement: Statement, context: Context, is_single: bool, is_uncertain: Callable[[str], bool]) -> List[str]:
     """Returns the line of a `.define`."""
     if not statement.rest or statement.rest[0].kind is not Kind.NAME:
         raise Unportable(".define", "define")
     name, rest = statement.rest[0], statement.rest[1:]
+    if rest and rest[0].lower in ENDS:
+        raise Unportable(".define", "define-list", "it stands for the line of a condition: write that out")
     parameters: Optional[List[str]] = None
     if rest and rest[0].text == "(":
         close = next((at for at, it in enumerate(rest) if it.text == ")"), len(rest) - 1)
@@ -128,6 +131,8 @@ def defined(text: str, statement: Statement, context: Context, is_single: bool) 
         define.is_constant = bool(rest)
         if rest:
             context.constants[(name.text,)] = None if define.is_ambiguous else _number(rest, context)
+        if rest and is_uncertain(name.text):
+            context.uncertain.add((name.text,))
         comment = text[line_of(text).comment :]
         shown = define.text or "1"
         return [f"{text[: statement.body[0].start]}{name.text} = {shown}{'        ' + comment if comment else ''}"]
@@ -138,4 +143,4 @@ def defined(text: str, statement: Statement, context: Context, is_single: bool) 
 
 def _number(tokens: Sequence[Token], context: Context) -> Optional[int]:
     """Returns the value of a define that is a number."""
-    return value(tokens, context.value)
+    return value(tokens, context.certain)

@@ -1,7 +1,7 @@
 """Where two links of a program first differ: the area, the segment, the module, the line of the original, and the bytes of both."""
 import os
 from dataclasses import dataclass
-from typing import Dict, List, Optional, Tuple
+from typing import Dict, Iterator, List, Optional, Tuple
 
 from work65.frontend.link_script import OUTPUT, read_script, with_files
 from work65.instrumenting.layout import Layout, layout_of
@@ -18,13 +18,13 @@ class LinkedModule:
     leaves: List[Leaf]
 
 
-def first_file(cc65: Linked, bin65: Linked) -> Optional[Tuple[str, int]]:
-    """Returns the first file that differs, and from which byte on."""
+def differing(cc65: Linked, bin65: Linked) -> Iterator[Tuple[str, int]]:
+    """Yields the bytes that differ: the file, and the place in it."""
     for name in sorted({*cc65.files, *bin65.files}):
         a, b = cc65.files.get(name, b""), bin65.files.get(name, b"")
-        if a != b:
-            return name, next((at for at, (x, y) in enumerate(zip(a, b)) if x != y), min(len(a), len(b)))
-    return None
+        yield from ((name, at) for at, (x, y) in enumerate(zip(a, b)) if x != y)
+        if len(a) != len(b):
+            yield name, min(len(a), len(b))
 
 
 class Finder:
@@ -32,7 +32,7 @@ class Finder:
 
     def __init__(self, ported: Ported, script: str, bin65: Linked, modules: Dict[str, LinkedModule]) -> None:
         self.ported, self.bin65, self.modules = ported, bin65, modules
-        text, self.names = with_files(script, "image")
+        text, self.names = with_files(script, OUTPUT)
         self.layout: Optional[Layout] = None
         if bin65.map is not None:
             self.layout = layout_of(read_script(text, "the script"), bin65.map, "the script")
@@ -102,7 +102,7 @@ class Finder:
 
 def difference(cc65: Linked, bin65: Linked, finder: Finder) -> str:
     """Returns what differs first between two links."""
-    found = first_file(cc65, bin65)
+    found = next(differing(cc65, bin65), None)
     if found is None:
         return _unwritten(cc65, bin65)
     name, at = found

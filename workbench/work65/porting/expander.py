@@ -1,46 +1,21 @@
 """Expands calls and repeats, line by line, so that each line sees the changes of the lines before it."""
 import re
 from dataclasses import dataclass, field
-from typing import Dict, List, Optional, Protocol, Sequence
+from typing import Callable, Dict, List, Optional, Sequence
 
 from work65.frontend import words
 from work65.frontend.macros import arguments_of, given_by, substituted
 from work65.frontend.statements import Statement, parts_of, statement_in
 from work65.frontend.tokens import Kind, Token, line_of
-from work65.porting.expansion import HARD, Macro, end_of_repeat
+from work65.porting.calls import Calls
+from work65.porting.expansion import HARD, end_of_repeat
 from work65.porting.line import Unportable
 from work65.porting.logical import Logical
+from work65.porting.renaming import Renaming
 
 MOST_CALLS, DEEPEST = 4000, 600
 MOST_TURNS = 1024
 MOST_LINES, MOST_TEXT, LONGEST = 20000, 1000000, 4096
-
-
-class Host(Protocol):
-    """The walk that receives expanded lines."""
-
-    @property
-    def has_escapes(self) -> bool:
-        """Returns whether a backslash in a string takes the next character with it."""
-
-    @property
-    def is_in_macro(self) -> bool:
-        """Returns whether the lines of a macro are being read."""
-
-    def prepared(self, text: str) -> str:
-        """Returns a line with its defines replaced."""
-
-    def is_written_out(self, statement: Statement) -> bool:
-        """Returns whether a statement is the call of a macro that is expanded."""
-
-    def decided(self, text: str) -> Optional[bool]:
-        """Returns whether a condition holds, None if that is unknown."""
-
-    def counted(self, text: str) -> Optional[int]:
-        """Returns the count of a repeat, where it is known."""
-
-    def emit(self, text: str, following: Sequence[str]) -> None:
-        """Rewrites a line."""
 
 
 @dataclass
@@ -79,8 +54,9 @@ class ExpansionFrame:
 class Expander:
     """Writes one call or repeat out, with all that it calls."""
 
-    def __init__(self, host: Host, macros: Dict[str, Macro], unique: str) -> None:
-        self.host, self.macros = host, macros
+    def __init__(self, names: Renaming, calls: Calls, put: Callable[[str, Sequence[str]], None], unique: str) -> None:
+        self.names, self.calling, self.put, self.macros = names, calls, put, names.context.macros
+        self.has_escapes = names.state.has_escapes
         self.unique = re.sub(r"[^0-9A-Za-z]", "_", unique)
         self.calls = self.written = self.size = 0
         self.frames: List[ExpansionFrame] = []
@@ -100,7 +76,7 @@ class Expander:
     def repeat(self, lines: Sequence[str], text: str, given: Dict[str, str]) -> None:
         """Begins a repeat."""
         parts = parts_of(self.statement(text).rest)
-        count = self.host.counted(text)
+        count = self.names.counted(text)
         if count is None or not 0 <= count <= MOST_TURNS:
             raise Unportable(".repeat", "match", "its count can't be determined: write the call out")
         counter = parts[1][0].text if len(parts) > 1 and parts[1] else ""
@@ -113,7 +89,7 @@ class Expander:
             frame = self.frames[-1]
             if frame.at < len(frame.lines):
                 frame.at += 1
-                self.line(frame, substituted(frame.lines[frame.at - 1], frame.given, self.host.has_escapes))
+                self.line(frame, substituted(frame.lines[frame.at - 1], frame.given, self.has_escapes))
             elif frame.turn + 1 < frame.turns:
                 frame.turn, frame.at = frame.turn + 1, 0
                 if frame.counter:
@@ -123,7 +99,7 @@ class Expander:
 
     def statement(self, text: str) -> Statement:
         """Returns a line's statement."""
-        return statement_in(text, self.host.has_escapes)
+        return statement_in(text, self.has_escapes)
 
     def line(self, frame: ExpansionFrame, text: str) -> None:
         """Reads a line."""
@@ -131,7 +107,7 @@ class Expander:
         if self.size > MOST_TEXT or len(text) > LONGEST:
             raise Unportable(text.strip()[:20], "macro-call", "it comes to too much")
         statement = self.statement(text)
-        if self.host.is_in_macro:
+        if self.names.context.macro is not None:
             self.emit(text)
         elif self.asks(frame, text, statement) or not frame.is_live:
             return
@@ -142,20 +118,20 @@ class Expander:
             self.leave()
         elif statement.head in words.REPEAT_BEGINS:
             self.nested_repeat(frame, text, statement)
-        elif self.host.is_written_out(statement):
+        elif self.calling.is_written_out(statement):
             if statement.label is not None:
                 self.emit(text[: statement.body[0].start].rstrip())
-            prepared = self.host.prepared(text)
+            prepared = self.names.prepared(text)
             self.call(prepared, self.statement(prepared))
         else:
             self.emit(text)
 
     def emit(self, text: str, following: Sequence[str] = ()) -> None:
-        """Gives a line to the host."""
+        """Gives a line to the walk."""
         self.written += 1
         if self.written > MOST_LINES:
             raise Unportable(text.strip()[:20], "macro-call", "it comes to too much")
-        self.host.emit(text, following)
+        self.put(text, following)
 
     def leave(self) -> None:
         """Ends the innermost call; a repeat that is open in it continues to its end, as in cc65."""
@@ -169,7 +145,7 @@ class Expander:
     def nested_repeat(self, frame: ExpansionFrame, text: str, statement: Statement) -> None:
         """Expands a repeat within a call, or leaves it as it is if its lines may stay. Its counter is replaced in arguments, too."""
         end = end_of_repeat([Logical(0, it) for it in frame.lines], frame.at)
-        body = [substituted(it, frame.given, self.host.has_escapes) for it in frame.lines[frame.at : end]]
+        body = [substituted(it, frame.given, self.has_escapes) for it in frame.lines[frame.at : end]]
         frame.at = end + 1
         if any(self.has_to_go(it) for it in body):
             if statement.label is not None:
@@ -181,11 +157,11 @@ class Expander:
 
     def has_to_go(self, text: str) -> bool:
         """Returns whether a repeat with this line must be expanded."""
-        statement = statement_in(text, self.host.has_escapes)
-        tokens = line_of(text, self.host.has_escapes).tokens
-        if statement.head in words.MACRO_EXITS or any(it.lower in HARD for it in tokens):
+        statement = statement_in(text, self.has_escapes)
+        tokens = line_of(text, self.has_escapes).tokens
+        if statement.head in words.MACRO_EXITS | {".include"} or any(it.lower in HARD for it in tokens):
             return True
-        return self.host.is_written_out(statement)
+        return self.calling.is_written_out(statement)
 
     def asks(self, frame: ExpansionFrame, text: str, statement: Statement) -> bool:
         """Goes past the line of a condition; False where it is none."""
@@ -197,7 +173,7 @@ class Expander:
             known = self.answer(text, statement) if frame.is_live else False
             is_dead = not frame.is_live
             if known is None:
-                self.emit(text, [substituted(it, frame.given, self.host.has_escapes) for it in frame.lines[frame.at :]])
+                self.emit(text, [substituted(it, frame.given, self.has_escapes) for it in frame.lines[frame.at :]])
             conditions.append(ExpandedCondition(known is not None, known is not False, is_dead or known is not False))
         elif head in (".elseif", ".else", ".endif") and conditions:
             self.goes_on(conditions, text, head)
@@ -211,7 +187,7 @@ class Expander:
         if not one.is_decided:
             self.emit(text)
         elif head == ".elseif":
-            known = None if one.is_done else self.host.decided(text)
+            known = None if one.is_done else self.names.decided(text)
             if known is None and not one.is_done:
                 raise Unportable(".elseif", "match", "its condition can't be decided: write the call out")
             one.is_live = bool(known) and not one.is_done
@@ -225,7 +201,7 @@ class Expander:
         """Returns whether a condition holds, None if that is unknown."""
         if statement.head in (".ifblank", ".ifnblank"):
             return _is_blank(statement.rest) == (statement.head == ".ifblank")
-        return self.host.decided(text)
+        return self.names.decided(text)
 
 
 def _is_blank(tokens: Sequence[Token]) -> bool:

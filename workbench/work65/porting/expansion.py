@@ -1,13 +1,13 @@
 """Macros, and which of them bin65 can't expand."""
 from dataclasses import dataclass, field
-from typing import Dict, FrozenSet, List, Optional, Sequence, Set
+from typing import Dict, FrozenSet, List, Sequence, Set
 
 from work65.frontend import words
+from work65.frontend.includes import late
 from work65.frontend.statements import block_length, statement_in, statement_of
 from work65.frontend.tokens import Kind, Token, line_of
 from work65.porting.characters import has_text
 from work65.porting.logical import Logical
-from work65.porting.packages import BRANCHES
 
 # Functions of tokens, before which each `.define` is replaced.
 OF_TOKENS = frozenset((".match", ".xmatch", ".left", ".mid", ".right", ".tcount", ".string", ".ident"))
@@ -34,17 +34,16 @@ class Macro:
     has_text: bool = False
     has_shift: bool = False
     has_nested_scopes: bool = False
-    is_placed: bool = False
     is_ambiguous: bool = False
     leaves_repeat: bool = False
     sizes_parameter: bool = False
+    names_file: bool = False
     depth: int = 0
     repeats: int = 0
 
     def add(self, text: str, has_escapes: bool) -> None:
         """Adds a line."""
         self.lines.append(text)
-        self.is_placed = self.is_placed or _is_difference(text)
         tokens = line_of(text, has_escapes).tokens
         self.has_text = self.has_text or has_text(tokens)
         for it in tokens:
@@ -55,6 +54,8 @@ class Macro:
             elif it.kind is Kind.CHEAP:
                 self.cheap.add(it.text)
             self.has_shift = self.has_shift or it.lower in (">>", ".shr")
+        files = zip(tokens, tokens[1:])
+        self.names_file = self.names_file or any(it.lower in (".include", ".incbin") and name.kind is not Kind.STRING for it, name in files)
         sized = zip(tokens, tokens[1:], tokens[2:])
         self.sizes_parameter = self.sizes_parameter or any(it.lower == ".sizeof" and name.text in self.parameters for it, _, name in sized)
         self._note(tokens)
@@ -84,15 +85,11 @@ def _is_cheap_constant(text: str) -> bool:
     return len(tokens) > 1 and tokens[0].kind is Kind.CHEAP and tokens[1].text in ("=", ":=")
 
 
-def hard_macros(macros: Dict[str, Macro], also: FrozenSet[str], spread: Optional[Set[str]]) -> FrozenSet[str]:
+def hard_macros(macros: Dict[str, Macro], also: FrozenSet[str], spread: Set[str]) -> FrozenSet[str]:
     """Returns the macros that must be expanded, because of their own lines or of a macro that they call. `spread` are those whose
-    lines have several sizes, if sizes are measured."""
-    branches = BRANCHES.keys() - macros.keys()
+    lines have several sizes."""
     found = {name for name, it in macros.items() if _is_hard(it) or it.names & also}
-    if spread is not None:
-        found |= spread & macros.keys()
-    else:
-        found |= {name for name, it in macros.items() if it.names & branches or it.is_placed}
+    found |= spread & macros.keys()
     while True:
         more = {name for name, it in macros.items() if name not in found and not it.names.isdisjoint(found)}
         if not more:
@@ -102,24 +99,13 @@ def hard_macros(macros: Dict[str, Macro], also: FrozenSet[str], spread: Optional
 
 def _is_hard(macro: Macro) -> bool:
     """Returns whether a macro's own lines have it expanded. A scope that it opens and closes may stay."""
-    if macro.directives & HARD or macro.has_cheap_constant or macro.leaves_repeat or macro.sizes_parameter:
+    if macro.directives & HARD or macro.has_cheap_constant or macro.leaves_repeat or macro.sizes_parameter or macro.names_file:
+        return True
+    if ".include" in macro.directives and late([".macro m", *macro.lines, ".endmacro"]):
         return True
     if not macro.directives & SCOPES:
         return False
     return macro.has_nested_scopes or macro.depth != 0 or bool(macro.directives & (words.LISTS | {".ifdef", ".ifndef", ".defined", ".def"}))
-
-
-def _is_difference(text: str) -> bool:
-    """Returns whether a line takes the difference of two places as an address, or names it."""
-    if "-" not in text:
-        return False
-    statement = statement_in(text)
-    rest = statement.rest
-    if not rest or rest[0].text in ("#", "("):
-        return False
-    if statement.head not in words.MNEMONICS and rest[0].text not in ("=", ":="):
-        return False
-    return any(it.text == "-" for it in rest) and sum(it.kind is Kind.NAME or it.text == "*" for it in rest) > 1
 
 
 def end_of_repeat(lines: Sequence[Logical], at: int) -> int:

@@ -2,7 +2,7 @@
 from typing import Dict, List, Optional, Tuple
 
 from work65.frontend.edits import edited
-from work65.frontend.link_script import Script, read_script, with_files
+from work65.frontend.link_script import OUTPUT, Script, read_script, with_files
 from work65.frontend.script_sums import number_of
 from work65.frontend.scripts import Entry, entries_in
 from work65.instrumenting.layout import UNWRITTEN, Layout, layout_of
@@ -17,7 +17,7 @@ def filled(text: str, cc65: Linked, bin65: Linked) -> Optional[Tuple[str, List[s
     those of this link."""
     if bin65.map is None:
         return None
-    script = read_script(with_files(text, "image")[0], "the script")
+    script = read_script(with_files(text, OUTPUT)[0], "the script")
     layout = layout_of(script, bin65.map, "the script")
     lengths: Dict[str, int] = {}
     names: List[str] = []

@@ -91,8 +91,8 @@ class Folder:
         return None
 
     def number(self, part: Part) -> Optional[int]:
-        """Returns the value of a part."""
-        return value(part, self.context.value)
+        """Returns the value of a part that is the same in every assembly."""
+        return value(part, self.context.certain)
 
     def sizeof(self, text: str, parts: List[Part]) -> Optional[str]:
         """Returns the size of a structure, or the constant that has a label's."""
@@ -147,7 +147,7 @@ class Folder:
             if found is None and number is None:
                 return None
             values.append(found if found is not None else number)
-        if re.search(r"%[^%dsxXcou0-9.\-]", form):
+        if re.search(r"%[^%dsxXcou0-9.\-]|%[0-9.-]*[0-9]{4}", form):
             return None
         try:
             return _quoted(re.sub("%([0-9.-]*)u", r"%\1d", form) % tuple(_unsigned(form, values)))
@@ -272,9 +272,9 @@ def _kind_of(it: Token, is_exact: bool) -> Tuple[str, str]:
 
 
 def _unsigned(form: str, values: List[object]) -> List[object]:
-    """Returns the values for a form, with those of 64 bits that it shows without a sign."""
+    """Returns the values for a form, with those of 64 bits that it shows without a sign. For ca65 `%x` has one."""
     kinds = [it[-1] for it in re.findall(r"%[0-9.-]*[a-zA-Z]", form.replace("%%", ""))]
-    return [it & (1 << 64) - 1 if isinstance(it, int) and kind in "xXou" else it for it, kind in zip(values, kinds)]
+    return [it & (1 << 64) - 1 if isinstance(it, int) and kind in "Xou" else it for it, kind in zip(values, kinds)]
 
 
 def _quoted(text: str) -> Optional[str]:

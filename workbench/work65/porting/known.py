@@ -6,17 +6,18 @@ from work65.frontend import words
 from work65.frontend.expression import value
 from work65.frontend.statements import Statement, parts_of, statement_in
 from work65.frontend.tokens import Kind, Token
-from work65.porting import defines, forms
+from work65.habits.habit import Finding
+from work65.porting import beyond, defines
 from work65.porting.characters import of_target
 from work65.porting.context import Context, RewrittenLine
 from work65.porting.expansion import HARD, Macro, hard_macros
-from work65.porting.facts import facts_of
+from work65.porting.facts import facts_of, star_in
 from work65.porting.functions import Folder
 from work65.porting.line import Unportable
 from work65.porting.logical import Logical
 from work65.porting.project import Project
 
-BYTES = words.MNEMONICS | words.DATA | {".asciiz", ".tag", ".faraddr", ".lobytes", ".hibytes", ".bankbytes"}
+BYTES = words.MNEMONICS | words.DATA | {".asciiz", ".incbin", ".tag", ".faraddr", ".lobytes", ".hibytes", ".bankbytes"}
 PLACING = words.MNEMONICS | words.PLACING | words.UNDOCUMENTED | {".proc"}
 # Directives that test names without using them.
 ASKING = frozenset((".ifdef", ".ifndef", ".ifblank", ".ifnblank"))
@@ -32,6 +33,9 @@ class ModuleState:
         self.context = Context(of_target(project.target), set(project.features), processor=project.processor)
         self.context.size_name = project.size_name
         self.folder = Folder(self.context, self.sized, self.is_defined, self.bank)
+        if project.is_fixed:
+            self.context.constants.update({(name,): number for name, number in project.names.items()})
+            self.context.labels.update({(name,): "" for name in project.names})
         self.sizes: Dict[Tuple[str, ...], str] = {}
         self.depth = 0
         self.rows: List[RewrittenLine] = []
@@ -40,7 +44,9 @@ class ModuleState:
         self.others: Optional[Tuple[List[Logical], Dict[int, List[str]]]] = None
         self.screen = ""
         self.given: Dict[int, int] = {}
-        self.expanding = self.number = self.here = 0
+        self.expanding = self.number = self.here = self.blocks = 0
+        self.late: List[str] = []
+        self.is_placed = False
         self.hard_key: Tuple[int, int, str, int] = (0, 0, "", 0)
         self.hard_names: FrozenSet[str] = frozenset()
         self.imported: Set[str] = set()
@@ -53,9 +59,8 @@ class ModuleState:
         key = (len(macros), sum(len(it.lines) for it in macros.values()), self.screen, len(texts))
         if key != self.hard_key:
             also = {name for name, it in texts.items() if any(one.lower in HARD for one in it.tokens)}
-            spread = project.spread.macros if project.is_measured else None
             self.hard_key = key
-            self.hard_names = hard_macros(macros, frozenset(also | ({"scrcode"} if self.screen else set())), spread)
+            self.hard_names = hard_macros(macros, frozenset(also | ({"scrcode"} if self.screen else set())), project.spread.macros)
         return self.hard_names
 
     @property
@@ -103,11 +108,12 @@ class ModuleState:
                 return None
         if name in self.project.guards:
             return name in context.defines
-        return None
+        return False if self.project.is_absent(name) else None
 
     def note(self, statement: Statement) -> None:
         """Notes what a line defines, opens and closes."""
         context, head, rest = self.context, statement.head, statement.rest
+        self.note_beyond(statement)
         if context.macro is not None:
             return
         if statement.label is not None and statement.label.kind is Kind.NAME:
@@ -136,9 +142,17 @@ class ModuleState:
             if called is not None:
                 used |= called.names - context.defines.keys()
 
+    def note_beyond(self, statement: Statement) -> None:
+        """Notes a line with a number that cc65's linker takes otherwise, if the linker computes the line's value."""
+        word = "" if statement.head in words.CONDITIONS else beyond.word_in(statement, self.context.value)
+        if word:
+            path, number = self.project.texts[self.path].path, self.lines[self.here].number
+            self.project.beyond.append(Finding(path, number, word, beyond.HABIT, beyond.NOTE))
+
     def note_place(self, statement: Statement) -> None:
         """Notes that the segment has something, and whether it surely has bytes."""
         project, segment, head = self.project, self.context.segment, statement.head
+        self.is_placed = True
         if not all(it.is_live is True for it in self.context.blocks):
             project.segments_perhaps.add(segment)
             return
@@ -166,22 +180,30 @@ class ModuleState:
                 self.note_label(name)
 
     def is_uncertain(self, name: str) -> bool:
-        """Returns whether a name defined here may be undefined or mean something else in another assembly. In its own .ifndef a name is sure."""
-        open_blocks = [it for it in self.context.blocks if it.is_live is None]
-        return name in self.project.names or any(it.guarded != name for it in open_blocks)
+        """Returns whether a name defined here may be undefined or mean something else in another assembly. In its own .ifndef a name is
+        sure if no -D can give it."""
+        project, open_blocks = self.project, [it for it in self.context.blocks if it.is_live is None]
+        if not project.is_fixed and (name in project.names or open_blocks and name not in project.guards):
+            return True
+        return any(it.guarded != name for it in open_blocks)
 
     def note_constant(self, name: str, tokens: Sequence[Token]) -> None:
         """Notes a constant, and whether its value is the same in every assembly."""
         context = self.context
         key = context.path + (name,)
         found = value(tokens, context.value)
-        if found is None and forms.is_difference(tokens, context):
-            context.differences.add(name)
         context.constants[key] = found if context.constants.get(key, found) == found else None
         if self.is_uncertain(name) or found is not None and value(tokens, context.certain) is None:
             context.uncertain.add(key)
-        context.labels.setdefault(key, forms.segment_of(tokens, context))
+        context.labels.setdefault(key, self.segment_of(tokens))
         self.end_part()
+
+    def segment_of(self, tokens: Sequence[Token]) -> str:
+        """Returns the segment in which an expression of one label is an address; nothing where it isn't known."""
+        labels, names = self.context.labels, [it.text for it in tokens if it.kind in (Kind.NAME, Kind.CHEAP, Kind.UNNAMED)]
+        if star_in(tokens):
+            return "" if names else self.context.segment
+        return labels.get((*self.context.path, *names), "") or labels.get((*names,), "") if len(names) == 1 else ""
 
     def end_part(self) -> None:
         """Notes that a constant ends the region of cheap labels for cc65, though not for bin65."""

@@ -58,7 +58,6 @@ def read(text: str, statement: Statement, context: Context, own: Sequence[str]) 
                 found.by_word.setdefault(".importzp", []).append(part[0].text)
             word = SHORT_IMPORTS.get(word, word)
         found.by_word.setdefault(word, []).append(part[0].text)
-    context.short_names |= {name for word in (".importzp", ".globalzp") for name in found.by_word.get(word, ())}
     return found
 
 

@@ -1,4 +1,5 @@
 """Compares the sizes of lines with cc65's, and writes `a:` or `z:` before an operand if bin65 takes another address size."""
+from functools import lru_cache
 from typing import AbstractSet, Callable, Dict, Iterator, List, NamedTuple, Sequence, Set, Tuple
 
 from work65.frontend import words
@@ -129,6 +130,16 @@ class Measure:
             if statement.head in words.MACRO_BEGINS and statement.rest:
                 found.macros.add(statement.rest[0].text)
                 return
+
+
+@lru_cache(maxsize=1 << 16)
+def has_open_size(text: str) -> bool:
+    """Returns whether a line is an instruction whose operand has a name that decides its size."""
+    statement = statement_of(line_of(text).tokens, lambda _: False)
+    is_address = statement.head in words.MNEMONICS - words.BRANCHES - {"jmp", "jsr"} and bool(statement.rest)
+    if not is_address or statement.rest[0].kind is Kind.PREFIX or statement.rest[0].text in "#(<>^":
+        return False
+    return any(it.kind is Kind.NAME and it.lower not in words.REGISTERS for it in statement.rest)
 
 
 def _begins(lines: Sequence[str]) -> Dict[int, int]:

@@ -2,21 +2,21 @@
 import os
 import sys
 from dataclasses import dataclass
-from typing import Dict, Iterator, List, Optional, Sequence, Tuple
+from typing import Dict, Iterable, Iterator, List, Optional, Sequence, Tuple
 
 from work65.frontend import words
 from work65.frontend.files import Text, text_of
 from work65.frontend.survey import Survey, surveyed
-from work65.frontend.tokens import line_of
+from work65.frontend.tokens import line_of, value_of
 from work65.habits import scripts as script_habits
 from work65.habits import sources as source_habits
 from work65.habits.habit import Finding, Habit
-from work65.porting import condes, imported, packages, scripts
+from work65.porting import condes, packages, scripts
 from work65.porting.leaves import Line
 from work65.porting.project import OWN, Project, Spread
 from work65.porting.script_rows import Usage
 from work65.porting.statements import KEPT
-from work65.porting.tools import Options
+from work65.porting.tools import Options, in_decimal
 from work65.porting.walk import Walk
 from work65.progress import Progress
 
@@ -36,27 +36,26 @@ def read_project(paths: Sequence[str], options: Options) -> Project:
             texts[os.path.relpath(os.path.abspath(it), base)] = text_of(it)
         progress.step()
     progress.end()
-    names = frozenset(it.split("=")[0] for it in options.define)
+    names = {name: value_of(in_decimal(number)) for name, number in ((*it.split("=", 1), "0")[:2] for it in options.define)}
     include, kept = [os.path.abspath(it) for it in options.include], KEPT.intersection(options.features)
-    return Project(base, texts, include, options.target, names, options.processor.lower(), kept, symbols=dict(options.symbols))
+    return Project(base, texts, include, options.target, names, options.processor.lower(), kept, symbols=dict(options.symbols),
+                   is_fixed=options.is_fixed, sources=list(texts) if options.is_fixed else [])
 
 
 @dataclass
 class Ported:
-    """The converted files, the original line of each line, the constructs that can't be converted, and the imports whose sign matters, which
-    only a comparison of the whole program tests."""
+    """The converted files, the original line of each line, and the constructs that can't be converted."""
 
     project: Project
     texts: Dict[str, Text]
     origins: Dict[str, List[int]]
     findings: List[Finding]
-    imports: List[Finding]
 
     def __post_init__(self) -> None:
         self.names = {name: path for path, names in self.project.variants.items() for name in names}
         self.places = {os.path.realpath(self.project.texts[path].path): path for path in self.project.variants}
 
-    def say(self, more: Sequence[Finding]) -> None:
+    def say(self, more: Iterable[Finding]) -> None:
         """Adds findings at lines that have none."""
         unique = {(it.path, it.line): it for it in [*more, *reversed(self.findings)]}
         self.findings = sorted(unique.values(), key=lambda it: (it.path, it.line))
@@ -74,16 +73,16 @@ class Ported:
         return f"{path}:{number}" if line is None else f"{self.project.texts[line.path].path}:{line.number}"
 
 
-def ported(project: Project, is_measured: bool = False, spread: Optional[Spread] = None, given: Sequence[Text] = ()) -> Ported:
-    """Brings all files over. Where forms are measured later, none is guessed; `spread` is what has to be expanded by then, and
-    `given` are scripts that aren't in the tree."""
-    project.is_measured, project.spread = is_measured, spread or Spread()
+def ported(project: Project, spread: Spread, given: Sequence[Text] = ()) -> Ported:
+    """Brings all files over. `spread` is what cc65's objects showed so far, and `given` are scripts that aren't in the tree."""
+    project.spread = spread
     project.scripts = {path: it for path, it in project.texts.items() if it.is_script}
     project.texts = {path: it for path, it in project.texts.items() if not it.is_script}
     project.survey()
     project.modules_walked = project.modules()
     sys.setrecursionlimit(max(sys.getrecursionlimit(), FRAMES))
     all_scripts = [*project.scripts.values(), *given]
+    project.starts = scripts.starts_of(all_scripts[0]) if len(all_scripts) == 1 else {}
     if len(all_scripts) == 1 and project.has_banks():
         project.banks = scripts.banks_of(all_scripts[0])
         project.label_segments = _walk(project)
@@ -94,8 +93,8 @@ def ported(project: Project, is_measured: bool = False, spread: Optional[Spread]
     findings = list(project.findings.values()) + list(_left(project, found, origins))
     for path, text in project.scripts.items():
         found[path] = _as_text(path, *script_lines(project, text, findings))
-    made = Ported(project, found, origins, [], list(imported.found_in(project, project.below_zero)))
-    made.say([*([] if is_measured else reversed(made.imports)), *reversed(findings)])
+    made = Ported(project, found, origins, [])
+    made.say(reversed(findings))
     return made
 
 
@@ -117,8 +116,6 @@ def _walk(project: Project) -> Dict[str, Dict[Tuple[str, ...], str]]:
         walk = Walk(project, it)
         walk.whole()
         found[it] = {key: segment for key, segment in walk.context.labels.items() if segment}
-        constants = walk.context.constants.items()
-        project.below_zero[it] = {key[0]: value for key, value in constants if len(key) == 1 and value is not None and value < 0}
         progress.step()
     progress.end()
     for path in list(project.texts):
@@ -176,9 +173,9 @@ def _target_lines(project: Project, path: str) -> Iterator[Tuple[int, str]]:
 
 def _left(project: Project, found: Dict[str, Text], origins: Dict[str, List[int]]) -> Iterator[Finding]:
     """Yields what bin65 still refuses, at the lines where it was."""
-    names = words.defined_by(project.target) | project.names
+    names = words.defined_by(project.target) | project.names.keys()
     tree = surveyed(found.values(), (), names)
-    tree.features.discard("string_escapes")
+    tree.features = project.tree.features - {"string_escapes"}
     for it in source_habits.found_in([_without_dead_calls(it, origins[it.path], tree) for it in found.values()], tree):
         numbers = origins[it.path]
         if numbers[min(it.line, len(numbers)) - 1] == 0:

@@ -1,16 +1,17 @@
 """A program of cc65's, built by its own tools as it is and by bin65 from a copy within the profile; the images are compared."""
 import os
 from dataclasses import dataclass, field, replace
-from typing import Dict, List, Optional, Sequence, Union
+from typing import List, Optional, Sequence, Union
 
 from work65.commands.check import said
+from work65.frontend import words
 from work65.frontend.files import read_bytes, text_of
 from work65.frontend.link_script import OUTPUT
 from work65.habits.habit import Finding
-from work65.porting import filling, known_differences
-from work65.porting.difference import difference, first_file
+from work65.porting import script_files, signs
+from work65.porting.difference import difference, differing
 from work65.porting.measuring import FORMS, Measure, Pair
-from work65.porting.port import Ported, ported, read_project, script_lines
+from work65.porting.port import PLACE, Ported, ported, read_project, script_lines
 from work65.porting.project import Spread
 from work65.porting.tools import Linked, Options, Refused
 from work65.porting.verdict import Judge, whole_text
@@ -20,6 +21,8 @@ from work65.program import Program
 SAME, OTHER, NOT_COMPARED = 0, 1, 2
 # The difference between an absolute and a short opcode, and the maximum number of forms that are corrected by an image.
 SHORT_TO_FAR, MOST = 8, 200
+# How long ca65 may take for a source of a project.
+SECONDS = 120
 
 
 @dataclass(frozen=True)
@@ -46,13 +49,14 @@ class Comparison:
 
     def __init__(self, program: Program, line: SecondOptions, room: str, has_cc65: bool) -> None:
         self.line, self.has_cc65 = line, has_cc65
-        self.script = text_of(line.script)
+        self.script = script_files.with_output(text_of(line.script), line.image or "a.out")
+        options = replace(line.options, seconds=SECONDS, is_fixed=True)
         paths = [*line.sources, *(it for library in line.libraries for it in library.members)]
 
         def port(spread: Spread) -> Ported:
-            return ported(read_project(paths, line.options), has_cc65, spread, [self.script])
+            return ported(read_project(paths, options), spread, [self.script])
 
-        self.verifier = Verifier(program, line.options, room, port)
+        self.verifier = Verifier(program, options, room, port)
         base = self.verifier.ported.project.base
 
         def keys(names: Sequence[str]) -> List[str]:
@@ -62,15 +66,15 @@ class Comparison:
         lines, _ = script_lines(self.verifier.ported.project, self.script, self.left)
         theirs, ours = whole_text(self.script.lines), whole_text(lines)
         libraries = [Library(it.name, keys(it.members)) for it in line.libraries]
-        self.whole = Whole(theirs, ours, keys(line.sources), libraries)
+        self.whole = Whole(line.script, theirs, ours, keys(line.sources), libraries)
 
     def answer(self) -> Answer:
         """Returns the report on the program."""
+        self.verifier.put()
         try:
             cc65 = self.theirs()
         except Refused as why:
-            return Answer([f"cc65's own tools refuse it: {why}"], NOT_COMPARED)
-        self.verifier.put()
+            return Answer([f"cc65's own tools refuse it: {why.lines[0]}", *why.lines[1:]], NOT_COMPARED)
         bin65 = self.ours()
         if self.has_cc65 and not (isinstance(bin65, Linked) and self.is_same(cc65, bin65)):
             self.verifier.settle(self.whole.modules())
@@ -82,50 +86,41 @@ class Comparison:
             bin65 = self.ours()
         if isinstance(bin65, Refused):
             return Answer(self.refused(bin65), NOT_COMPARED)
-        notes: List[str] = []
-        if not self.is_same(cc65, bin65):
-            bin65 = self.filled(cc65, bin65, notes)
-        if self.is_same(cc65, bin65):
+        filled = [] if self.is_same(cc65, bin65) else self.verifier.filled(self.whole, cc65, bin65, self.is_same)
+        notes = [f"{self.line.script}: {it} has no bytes: bin65's file is filled up to it (MIGRATING: {PLACE.heading})" for it in filled]
+        if filled or self.is_same(cc65, bin65):
             return self.same(cc65, notes)
         differs = difference(cc65, bin65, self.verifier.finder(self.whole, bin65))
-        imports = self.verifier.ported.imports
-        heading = "" if imports else known_differences.heading(self.script, bin65, differs)
-        causes = [f"MIGRATING: {heading}"] if heading else []
-        return Answer([differs, *causes, *(said(it) for it in [*self.verifier.ported.findings, *self.left, *imports])], OTHER)
+        causes = [*self.verifier.ported.findings, *self.left]
+        if self.has_cc65:
+            causes += [it for it in signs.found_in(self.verifier) if f" {it.path}:{it.line} " in f"{differs} "]
+        return Answer([differs, *(map(said, causes) if causes else ["not explained by MIGRATING"])], OTHER)
 
     def same(self, cc65: Linked, notes: List[str]) -> Answer:
         """Returns the report on files that are the same. If the script writes none, no image was compared."""
-        written = known_differences.written_by(self.script)
+        refused = [said(it) for it in self.left if it.habit is not PLACE]
+        if refused:
+            return Answer(refused, NOT_COMPARED)
+        written = script_files.written_by(self.script)
         if not written:
             return Answer([f"{self.line.script}: no area is written to a file: there is no image to compare"], OTHER)
         files = cc65.files or {name: b"" for name in written}
         return Answer([f"the same image: {self.named(name)}, {len(data)} bytes" for name, data in files.items()] + notes)
 
-    def filled(self, cc65: Linked, bin65: Linked, notes: List[str]) -> Linked:
-        """Returns the link with areas filled up to rows that nobody uses, where that makes the images the same; each row is noted."""
-        found = filling.filled(self.whole.ours, cc65, bin65)
-        if found is None:
-            return bin65
-        before, self.whole = self.whole, replace(self.whole, ours=found[0])
-        again = self.ours()
-        if isinstance(again, Linked) and self.is_same(cc65, again):
-            notes += [f"{self.line.script}: {it} has no bytes: bin65's file is filled up to it (MIGRATING: {known_differences.UNUSED})" for it in found[1]]
-            return again
-        self.whole = before
-        return bin65
-
     def is_mended(self, cc65: Linked, bin65: Linked) -> bool:
-        """Returns whether an instruction took the other form at the first byte that differs, and has it now."""
-        found = first_file(cc65, bin65)
-        spot = None if found is None else self.verifier.finder(self.whole, bin65).leaf(*found)
-        if found is None or spot is None or spot[1] != 0 or spot[0].size not in FORMS:
-            return False
-        theirs, ours = (side.files.get(found[0], b"")[found[1] :][:1] for side in (cc65, bin65))
-        step = SHORT_TO_FAR if spot[0].size == 2 else -SHORT_TO_FAR
-        if not theirs or not ours or theirs[0] - ours[0] != step:
-            return False
-        measure = Measure(self.verifier.ported)
-        return measure.put(spot[0].lines[-1], Pair(spot[0].size ^ 1, spot[0]))
+        """Returns whether the first instruction with another opcode took the other form, and has it now. Bytes of data and of operands
+        may differ before it, since they are addresses."""
+        finder, measure = self.verifier.finder(self.whole, bin65), Measure(self.verifier.ported)
+        for name, at in differing(cc65, bin65):
+            leaf, offset = finder.leaf(name, at) or (None, 0)
+            if leaf is None or offset or measure.head(leaf.lines[-1]) not in words.MNEMONICS:
+                continue
+            theirs, ours = (side.files.get(name, b"")[at : at + 1] for side in (cc65, bin65))
+            step = SHORT_TO_FAR if leaf.size == 2 else -SHORT_TO_FAR
+            if leaf.size not in FORMS or not theirs or theirs[0] - ours[0] != step:
+                return False
+            return measure.put(leaf.lines[-1], Pair(leaf.size ^ 1, leaf))
+        return False
 
     def theirs(self) -> Linked:
         """Returns the result of cc65's tools, or the given image instead."""
@@ -133,10 +128,8 @@ class Comparison:
 
     def given(self, image: str) -> Linked:
         """Returns the image that was named, and beside it the files that the script names."""
-        files: Dict[str, bytes] = {}
-        for name in known_differences.files_of(self.script):
-            place = image if name == OUTPUT else os.path.join(os.path.dirname(image), name)
-            files[name] = read_bytes(place)
+        places = {it: image if it == OUTPUT else os.path.join(os.path.dirname(image), it) for it in script_files.written_by(self.script)}
+        files = {name: read_bytes(it) for name, it in places.items() if name == OUTPUT or os.path.exists(it)}
         return Linked({name: it for name, it in files.items() if it})
 
     def ours(self) -> Union[Linked, Refused]:
@@ -161,4 +154,4 @@ class Comparison:
         if found:
             return found
         text = str(why)
-        return [Judge(self.verifier).translated(text) if not text.startswith("script:") else f"{self.line.script}{text[6:]}"]
+        return [text if text.startswith(f"{self.line.script}:") else Judge(self.verifier).translated(text)]

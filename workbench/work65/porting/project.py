@@ -22,6 +22,7 @@ from work65.porting.logical import Logical, logical_lines
 
 OWN = "work65"
 BANK = re.compile(r"\.bank\b", re.I)
+ASKING = re.compile(r"^[ \t]*\.(?:else)?if.*|\.def(?:ined)?\s*\([^()]*\)", re.I)
 WORD = re.compile(r"[A-Za-z_]\w*", re.A)
 ALL_TARGET_NAMES = frozenset().union(*map(words.defined_by, words.TARGETS))
 
@@ -56,7 +57,7 @@ class Project:
     texts: Dict[str, Text]
     include_folders: Sequence[str]
     target: Optional[str]
-    names: FrozenSet[str] = frozenset()
+    names: Dict[str, Optional[int]] = field(default_factory=dict)
     processor: str = "6502"
     features: FrozenSet[str] = frozenset()
     tree: Survey = field(default_factory=Survey)
@@ -74,8 +75,9 @@ class Project:
     variants: Dict[str, List[str]] = field(default_factory=dict)
     modules_walked: List[str] = field(default_factory=list)
     scripts: Dict[str, Text] = field(default_factory=dict)
-    is_measured: bool = False
     spread: Spread = field(default_factory=Spread)
+    is_fixed: bool = False
+    sources: List[str] = field(default_factory=list)
     segments: Set[str] = field(default_factory=set)
     segments_there: Set[str] = field(default_factory=set)
     segments_perhaps: Set[str] = field(default_factory=set)
@@ -83,14 +85,15 @@ class Project:
     symbols: Dict[str, int] = field(default_factory=dict)
     entries: Dict[Tuple[int, str], int] = field(default_factory=dict)
     banks: Dict[str, int] = field(default_factory=dict)
+    starts: Dict[str, int] = field(default_factory=dict)
     label_segments: Dict[str, Dict[Tuple[str, ...], str]] = field(default_factory=dict)
-    below_zero: Dict[str, Dict[str, int]] = field(default_factory=dict)
+    beyond: List[Finding] = field(default_factory=list)
     doubtful: List[Tuple[str, int, Unportable]] = field(default_factory=list)
     own_sources: List[str] = field(default_factory=list)
-    guessed: Dict[Line, str] = field(default_factory=dict)
     _waiting: List[str] = field(default_factory=list)
     _is_looking: bool = False
     _words: Optional[Set[str]] = None
+    _mentioned: Optional[Set[str]] = None
     _logical: Dict[str, List[Logical]] = field(default_factory=dict)
     _globals: Dict[str, List[str]] = field(default_factory=dict)
 
@@ -117,7 +120,7 @@ class Project:
     def _look_at(self, path: str) -> None:
         """Notes what a file includes, which sizes it asks for, and what it defines."""
         guard = guard_of(self.texts[path].lines)
-        self.guards |= {guard} - self.names if guard is not None else set()
+        self.guards |= {guard} - self.names.keys() if guard is not None else set()
         targets = words.defined_by(self.target)
         macro, parameters = "", _names(())
         for text in self.texts[path].lines:
@@ -146,11 +149,9 @@ class Project:
                 self.undefined_names.add(statement.rest[0].text)
 
     def modules(self) -> List[str]:
-        """Returns the files that no other includes, sources first."""
+        """Returns the files that no other includes, or the sources that are given in the order of a link."""
         inside = set().union(*self.included.values()) if self.included else set()
-        own = [it for it in self.texts if not it.startswith(OWN + os.sep)]
-        first = [it for it in own if it not in inside]
-        return first + [it for it in own if it in inside and not it.lower().endswith((".inc", ".mac"))]
+        return self.sources or [it for it in self.texts if it not in inside and not it.startswith(OWN + os.sep)]
 
     @property
     def words(self) -> Set[str]:
@@ -166,8 +167,19 @@ class Project:
                 if name != path:
                     del self.texts[name]
         self.outputs, self.findings, self.variants, self.entries = {}, {}, {}, {}
-        self.doubtful, self.packages = [], set()
+        self.doubtful, self.beyond, self.packages = [], [], set()
         self._words = None
+
+    def is_absent(self, name: str) -> bool:
+        """Returns whether the tree only asks for a name, and no -D gives it."""
+        if self._mentioned is None:
+            lines = (line for text in self.texts.values() for line in text.lines)
+            self._mentioned = {it for line in lines for it in WORD.findall(ASKING.sub("", line))}
+        return self.is_fixed and name not in self._mentioned and name not in self.names
+
+    def is_first(self, module: str) -> bool:
+        """Returns whether a module is the first one of the program's link for sure."""
+        return self.modules_walked[:1] == [module] and (self.is_fixed or len(self.modules_walked) == 1)
 
     def has_banks(self) -> bool:
         """Returns whether a source asks for a bank."""
@@ -234,7 +246,7 @@ class Project:
             found = os.path.relpath(place, self.base)
             if found in self.texts:
                 return found, name if folder in self.include_folders else self.relative(found, path)
-            if os.path.isfile(place):
+            if os.path.exists(place) and not os.path.isdir(place):
                 return self._added(found, text_of(place), path, name)
         own = os.path.join(OWN, name)
         text = None if own in self.texts else asminc_file(name, self.include_folders)

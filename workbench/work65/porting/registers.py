@@ -1,5 +1,5 @@
 """`.org` before labels and room alone, as for the registers of a machine: each label is a constant."""
-from typing import List, Optional, Sequence
+from typing import Dict, List, Optional, Sequence
 
 from work65.frontend import words
 from work65.frontend.expression import value
@@ -11,7 +11,7 @@ from work65.porting.logical import Logical
 
 UNITS = {".byte": 1, ".byt": 1, ".word": 2, ".addr": 2, ".dbyt": 2, ".dword": 4}
 PASSED = words.SEGMENT_WORDS | {".segment", ".pushseg", ".popseg"}
-ENDS = frozenset((".reloc", ".org"))
+ENDS = frozenset((".reloc", ".org", "*"))
 
 
 def opened(text: str, statement: Statement, context: Context, following: Sequence[Logical], is_last: bool) -> List[str]:
@@ -30,6 +30,14 @@ def opened(text: str, statement: Statement, context: Context, following: Sequenc
             raise Unportable(".org", "org")
     context.place = number
     return [commented_out(text)]
+
+
+def is_given(statement: Statement, context: Context, starts: Dict[str, int], following: Sequence[Logical]) -> bool:
+    """Returns whether an .org before all that a program places is where the script begins the segment, and counts up to the end."""
+    number = value(statement.rest, context.certain)
+    if statement.label is not None or not context.is_plain or context.blocks or number is None or number != starts.get(context.segment):
+        return False
+    return not any(statement_in(it.text).head in ENDS | PASSED for it in following)
 
 
 def closed(text: str, context: Context) -> List[str]:

@@ -11,6 +11,8 @@ from work65.porting.known import ModuleState
 from work65.porting.line import Unportable
 
 Edit = Tuple[int, int, str]
+# Functions whose result is a string or a name.
+SPELLED = frozenset((".concat", ".sprintf", ".string", ".ident"))
 ASKED = frozenset((".ifdef", ".ifndef"))
 MOST_ROUNDS = 20
 # The bits of a condition that cc65 takes.
@@ -199,8 +201,9 @@ class Renaming:
         return statement_of(line_of(text, self.state.has_escapes).tokens, self.project.is_macro)
 
     def prepared(self, text: str) -> str:
-        """Returns a line with all its defines replaced."""
-        return spelling.respelled(defines.expanded(text, self.context, self.state.has_escapes, is_whole=True), self.context)
+        """Returns a line with all its defines and functions of strings replaced, as cc65 does before it splits the line into arguments."""
+        text = spelling.respelled(defines.expanded(text, self.context, self.state.has_escapes, is_whole=True), self.context)
+        return text if facts_of(text, self.state.has_escapes).directives.isdisjoint(SPELLED) else self.settled(text, is_asked=False)
 
     def decided(self, text: str) -> Optional[bool]:
         """Returns what a condition evaluates to, None if unknown."""

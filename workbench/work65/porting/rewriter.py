@@ -6,13 +6,13 @@ from work65.frontend.edits import edited
 from work65.frontend.expression import scoped_name, value
 from work65.frontend.statements import Statement, statement_of
 from work65.frontend.tokens import Kind, Token, line_of
-from work65.porting import condes, conditions, defines, forms, guards, lists, packages, ranges, registers, shifts, spelling
+from work65.porting import condes, conditions, defines, guards, lists, packages, ranges, registers, shifts, spelling
 from work65.porting import statements, structures
 from work65.porting.characters import as_elements
 from work65.porting.context import OpenScope
 from work65.porting.expansion import Macro
 from work65.porting.facts import facts_of
-from work65.porting.imported import AUTOIMPORT, Lists
+from work65.porting.imported import AUTOIMPORT, names_of
 from work65.porting.known import ModuleState
 from work65.porting.leaves import Line
 from work65.porting.line import Unportable, commented_out, replaced
@@ -57,10 +57,10 @@ class Rewriter:
             named = self.named(at, text, statement)
             if named is not None:
                 return named
-        if head in words.MNEMONICS and self.project.is_measured:
-            self.guess(at, statement)
-        elif head in words.MNEMONICS:
-            text = forms.prefixed(text, forms.prefix_for(statement, context))
+        if conditions.asks(statement.rest) and statement.label is None and (statement.is_constant or head in words.DATA):
+            lines, asked = conditions.counted(text, statement.rest, context, self.state.unique(at))
+            self.state.note(statement)
+            return replaced(text, statement, [*lines, f"{statement.body[0].text} {asked}"])
         shifts.refuse(statement.body, context)
         if "force_range" in context.features:
             text = ranges.cut(text, statement, context)
@@ -72,12 +72,6 @@ class Rewriter:
                 return self.with_size(found, statement)
         self.state.note(statement)
         return self.with_size([text], statement)
-
-    def guess(self, at: int, statement: Statement) -> None:
-        """Notes the size prefix that a line needs by the rules, which count if the line isn't assembled, so isn't measured."""
-        prefix = forms.prefix_for(statement, self.context)
-        if prefix and self.state.lines is self.project.logical(self.state.path):
-            self.project.guessed[Line(self.state.path, self.state.lines[at].number)] = prefix
 
     def named(self, at: int, text: str, statement: Statement) -> Optional[List[str]]:
         """Returns the lines in place of a long branch, an undocumented instruction or a call of scrcode; None for anything else."""
@@ -95,14 +89,14 @@ class Rewriter:
         """Returns the function that rewrites each directive."""
         context = self.context
         found: Dict[str, Handler] = {
-            ".define": lambda at, text, it: defines.defined(text, it, context, self.project.is_single(it)),
+            ".define": lambda at, text, it: defines.defined(text, it, context, self.project.is_single(it), self.state.is_uncertain),
             ".undefine": lambda at, text, it: self.undefined(text, it), ".undef": lambda at, text, it: self.undefined(text, it),
             ".macpack": lambda at, text, it: self.package(text, it), ".autoimport": lambda at, text, it: self.autoimport(text, it),
             ".elseif": lambda at, text, it: self.other_question(at, text, it),
             ".endif": lambda at, text, it: conditions.closed(text, it, context), ".else": lambda at, text, it: self.other(text, it),
             ".endproc": lambda at, text, it: self.end_of_scope(text, it), ".endscope": lambda at, text, it: self.end_of_scope(text, it),
             ".local": lambda at, text, it: self.names.local(text, it), "::": lambda at, text, it: self.global_constant(at, text, it),
-            ".org": self.org, ".reloc": lambda at, text, it: registers.closed(text, context),
+            ".org": self.org, "*": self.org, ".reloc": lambda at, text, it: registers.closed(text, context),
         }
         found.update({it: lambda at, text, one: structures.opened(text, one, context) for it in structures.OPENERS})
         found.update({it: lambda at, text, one: structures.closed(text, one, context) for it in structures.CLOSERS})
@@ -233,7 +227,13 @@ class Rewriter:
         """Rewrites an .org."""
         if "string_escapes" in self.context.features:
             raise Unportable(".org", "org")
-        return registers.opened(text, statement, self.context, self.state.lines[at + 1 :], self.state.depth == 1 and not self.state.expanding)
+        if statement.head == "*":
+            statement = statement._replace(body=(statement.body[0], *statement.body[2:]))
+        state, following = self.state, self.state.lines[at + 1 :]
+        is_first = self.project.is_first(state.module) and state.depth == 1 and not state.is_placed
+        if is_first and registers.is_given(statement, self.context, self.project.starts, following):
+            return [commented_out(text)]
+        return registers.opened(text, statement, self.context, following, state.depth == 1 and not state.expanding)
 
     def global_constant(self, at: int, text: str, statement: Statement) -> List[str]:
         """Rewrites a definition of a global name: without its `::`, and before all scopes."""
@@ -322,7 +322,7 @@ class Rewriter:
         names = self.project.spread.imports.get(self.state.module)
         if names is None or not self.context.is_plain:
             raise Unportable(".autoimport", "autoimport", AUTOIMPORT if names is None else "")
-        new = [it for it in names if it not in Lists(self.project, self.state.module).imported | self.state.imported]
+        new = [it for it in names if it not in names_of(self.project, self.state.module) | self.state.imported]
         self.state.imported |= set(new)
         return lists.of_imports(text, statement, new)
 
@@ -359,10 +359,8 @@ class Rewriter:
         self.state.note(statement)
         if self.project.is_own_macro(statement.body[0].text):
             return [text]
-        if self.project.is_measured and context.macro is not None:
+        if context.macro is not None:
             return [text]
-        if context.macro is not None and any(it.text in context.parameters for it in target):
-            raise Unportable(statement.head, "longbranch", "its target is a parameter: write the short or the long branch")
         first = statement.body[0]
         near = edited(text, [(first.start, first.end, f"{statement.head}{packages.NEAR}")])
         if len(target) == 1 and target[0].kind is Kind.CHEAP:

@@ -13,6 +13,11 @@ SAME_LEVEL = frozenset(("*", "/", "&", "^", "<<", ">>", ".mod", ".bitand", ".bit
 NOTE = "a shift of a negative number gives other bytes: divide if the remainder is 0"
 
 
+def has_shift(tokens: Sequence[Token]) -> bool:
+    """Returns whether a line shifts to the right, so that it may get another value than in cc65."""
+    return any(it.lower in SHIFTS for it in tokens)
+
+
 def refuse(tokens: Sequence[Token], context: Context) -> None:
     """Refuses a shift to the right of what may be negative."""
     for at, it in enumerate(tokens):

@@ -169,7 +169,7 @@ def codes_of(text: str, statement: Statement, context: Context) -> List[int]:
         if len(part) == 1 and part[0].kind is Kind.CHARACTER:
             found += context.charmap.of(part[0].text[1])
             continue
-        number = value(part, context.value)
+        number = value(part, context.certain)
         if number is None or not 0 <= number < 256:
             raise Unportable(text_of_tokens(text, part) or "scrcode", "scrcode", "its value isn't known here: write the code")
         found.append(number)
@@ -185,7 +185,7 @@ def change_charmap(statement: Statement, context: Context) -> None:
             context.charmap = context.saved_charmaps.pop()
     else:
         parts = parts_of(statement.rest)
-        numbers = [value(it, context.value) for it in parts]
+        numbers = [value(it, context.certain) for it in parts]
         if len(numbers) != 2 or numbers[0] is None or numbers[1] is None:
             raise Unportable(".charmap", "charmap", "its numbers can't be determined: write the codes as numbers")
         context.charmap = context.charmap.copied()

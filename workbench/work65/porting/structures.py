@@ -6,7 +6,6 @@ from work65.frontend.edits import text_of_tokens
 from work65.frontend.expression import scoped_name, value
 from work65.frontend.statements import Statement
 from work65.frontend.tokens import Kind, Token, line_of
-from work65.porting import forms
 from work65.porting.context import Context, Structure
 from work65.porting.line import Unportable, commented_out
 
@@ -140,7 +139,7 @@ def member(text: str, statement: Statement, context: Context) -> List[str]:
 
 def _moved(text: str, tokens: Sequence[Token], it: Structure, context: Context) -> List[str]:
     """Returns a .org in a structure, which sets the offset of the next member."""
-    found = value(tokens[1:], context.value)
+    found = value(tokens[1:], context.certain)
     if found is None:
         raise Unportable(".org", "struct", "its value can't be determined: write the offsets out")
     if it.word == ".union":
@@ -180,10 +179,10 @@ def _member_size(text: str, tokens: Sequence[Token], context: Context) -> Tuple[
         unit = UNITS[head.lower]
         if not rest:
             return str(unit), unit
-        count = value(rest, context.value)
+        count = value(rest, context.certain)
         return f"{unit} * ({text_of_tokens(text, rest)})", None if count is None else unit * count
     if head.lower == ".res" and rest:
-        return f"({text_of_tokens(text, rest)})", value(rest, context.value)
+        return f"({text_of_tokens(text, rest)})", value(rest, context.certain)
     if head.lower == ".tag" and rest:
         name, at = scoped_name(rest, 0)
         if at == len(rest):
@@ -209,10 +208,8 @@ def _enumerated(text: str, tokens: Sequence[Token], it: Structure, context: Cont
     if name.kind is not Kind.NAME or (len(tokens) > 1 and tokens[1].text not in ("=", ":=")):
         raise Unportable(name.text, "enum")
     if len(tokens) > 2:
-        found = value(tokens[2:], lambda one: context.value(one))
+        found = value(tokens[2:], context.certain)
         shown, it.base = text_of_tokens(text, tokens[2:]), name.text
-        if found is None and forms.is_difference(tokens[2:], context):
-            context.differences.add(name.text)
     else:
         found = it.value
         shown = it.offset if found is None else str(found)

@@ -22,16 +22,25 @@ EXPORT = re.compile(r"(\S+) +([0-9A-F]{6,16}) +([A-Z]{1,6})(?= |$)")
 USED = "R"
 C_NUMBER = re.compile(r"0[xX]([0-9A-Fa-f]+)|0[0-7]+")
 WIDTH = 0xFFFFFFFF
-SECONDS, MEMORY, MOST_SAID = 8, 1 << 30, 1 << 16
+MEMORY, MOST_SAID = 1 << 30, 1 << 16
 
 
 class Refused(Exception):
-    """The message of a tool that rejects a source or a link."""
+    """The message of a tool that rejects a source or a link: its first error, and all its lines."""
+
+    def __init__(self, lines: Sequence[str]) -> None:
+        super().__init__(next((it for it in lines if "rror" in it), lines[0]))
+        self.lines = lines
+
+    def of_script(self, name: str) -> "Refused":
+        """Returns the same message with a script's own name."""
+        return Refused([re.sub(r"(?<!\S)script(?=[(:])", lambda _: name, it, count=1) for it in self.lines])
 
 
 @dataclass(frozen=True)
 class Options:
-    """The options that a Makefile passes to ca65, and the symbols that it passes to ld65."""
+    """The options that a Makefile passes to ca65, the symbols that it passes to ld65, how long ca65 may take for a
+    source, and whether no other -D will be given."""
 
     target: Optional[str] = None
     include: Sequence[str] = ()
@@ -40,6 +49,8 @@ class Options:
     processor: str = "6502"
     features: Sequence[str] = ()
     symbols: Dict[str, int] = field(default_factory=dict)
+    seconds: int = 8
+    is_fixed: bool = False
 
 
 @dataclass
@@ -61,31 +72,28 @@ def missing() -> Optional[str]:
     return next((it for it in NAMES if shutil.which(it) is None), None)
 
 
-def _limit() -> None:
-    """Limits a tool's time and memory: ca65 expands some sources without an end."""
-    resource.setrlimit(resource.RLIMIT_CPU, (SECONDS, SECONDS))
-    resource.setrlimit(resource.RLIMIT_AS, (MEMORY, MEMORY))
+def ran(words: Sequence[str], folder: str, seconds: int = 0) -> None:
+    """Runs a tool, some within a limited time and memory: ca65 expands some sources without an end. If it fails, raises its message."""
+    def limit() -> None:
+        resource.setrlimit(resource.RLIMIT_CPU, (seconds, seconds))
+        resource.setrlimit(resource.RLIMIT_AS, (MEMORY, MEMORY))
 
-
-def ran(words: Sequence[str], folder: str, is_limited: bool = False) -> None:
-    """Runs a tool; where it refuses, the first line with its error is raised. One that says no end of it is ended."""
-    how = _limit if is_limited else None
     try:
-        tool = subprocess.Popen(words, cwd=folder, stdin=subprocess.DEVNULL, stdout=subprocess.PIPE, stderr=subprocess.STDOUT, preexec_fn=how)
+        tool = subprocess.Popen(words, cwd=folder, stdin=subprocess.DEVNULL, stdout=subprocess.PIPE, stderr=subprocess.STDOUT,
+                                preexec_fn=limit if seconds else None)
     except OSError as error:
         raise Problem(f"{words[0]} can't be run: {error.strerror}") from error
     with tool:
         try:
             text = b"" if tool.stdout is None else tool.stdout.read(MOST_SAID)
-            if len(text) < MOST_SAID:
-                tool.wait()
+            while tool.stdout is not None and tool.stdout.read(MOST_SAID):
+                pass
+            tool.wait()
         finally:
             tool.kill()
     if tool.returncode:
-        said = text.decode("utf-8", "replace").strip().split("\n")
-        if not said[0]:
-            said = [f"it comes to no end in {SECONDS} seconds and {MEMORY >> 20} MB"]
-        raise Refused(next((line for line in said if "rror" in line), said[0]))
+        said = text.decode("utf-8", "replace").rstrip().split("\n")
+        raise Refused(said if said[0] else [f"it took more than {seconds} seconds or {MEMORY >> 20} MB"])
 
 
 def other_exports(cc65: Linked, bin65: Linked) -> List[str]:
@@ -107,7 +115,7 @@ def _room(room: str, script: str) -> Dict[str, str]:
     """Puts a script into an empty folder, with plain names for its files; answers what these stand for."""
     shutil.rmtree(room, ignore_errors=True)
     os.makedirs(room)
-    text, names = with_files(script, "image")
+    text, names = with_files(script, OUTPUT)
     with open(os.path.join(room, "script"), "w", encoding="latin-1", newline="") as it:
         it.write(text)
     return {**names, "image": OUTPUT}
@@ -121,14 +129,15 @@ class Theirs:
         self.words += [w for it in options.data for w in ("--bin-include-dir", it)]
         self.words += ["--cpu", options.processor, *(w for it in options.features for w in ("--feature", it))]
         self.words += ["-t", options.target] if options.target and options.target != "none" else []
+        self.seconds = options.seconds
 
     def assemble(self, source: str, made: str, tree: Optional[LinkedTree] = None) -> None:
         """Assembles a source, with what the debug file needs; or the file that represents it in a tree of links."""
         if tree is None:
-            ran(["ca65", "-g", *self.words, "-o", made, source], os.getcwd(), True)
+            ran(["ca65", "-g", *self.words, "-o", made, source], os.getcwd(), self.seconds)
             return
         words = [f"-I{tree.inside(os.path.realpath(it[2:]))}" if it.startswith("-I") else it for it in self.words]
-        ran(["ca65", "-g", *words, "-o", made, tree.inside(source)], tree.here, True)
+        ran(["ca65", "-g", *words, "-o", made, tree.inside(source)], tree.here, self.seconds)
 
     def archive(self, library: str, members: Sequence[str], folder: str) -> None:
         """Makes a library of objects."""
@@ -159,7 +168,7 @@ class Ours:
     """bin65, run in the copy."""
 
     def __init__(self, program: Program, copy: str, include: Iterable[str], define: Sequence[str]) -> None:
-        self.program, self.copy, self.define = program, copy, [_in_decimal(it) for it in define]
+        self.program, self.copy, self.define = program, copy, ["=".join(map(in_decimal, it.split("=", 1))) for it in define]
         self.include = [it for it in include if os.path.isdir(os.path.join(copy, it))]
         self.words = [f"-D{it}" for it in self.define] + [f"-I{it}" for it in self.include]
 
@@ -182,11 +191,10 @@ class Ours:
         return found
 
 
-def _in_decimal(define: str) -> str:
-    """Returns what -D gives, with a number as C writes it (0x12, 012) in decimal: bin65 doesn't take those."""
-    name, _, number = define.partition("=")
+def in_decimal(number: str) -> str:
+    """Returns a number that C writes otherwise (0x12, 012) in decimal, and any other text as it is."""
     found = C_NUMBER.fullmatch(number)
-    return define if found is None else f"{name}={int(found[1], 16) if found[1] else int(number, 8)}"
+    return number if found is None else str(int(found[1], 16) if found[1] else int(number, 8))
 
 
 def _text(room: str, name: str) -> str:

@@ -1,14 +1,15 @@
 """The report of a comparison: whether the program or each source alone is the same, what differs, and what wasn't compared."""
 import os
-from dataclasses import dataclass, field, replace
-from typing import List
+from dataclasses import dataclass, field
+from typing import List, Sequence
 
 from work65.diagnosing.message import message_of
 from work65.frontend.link_script import OUTPUT
-from work65.porting import filling, known_differences
+from work65.porting import copying, script_files, signs
 from work65.porting.difference import Finder, LinkedModule, difference
+from work65.porting.leaves import Line
 from work65.porting.port import Ported
-from work65.porting.tools import Linked, Options, Refused
+from work65.porting.tools import Options, Refused
 from work65.porting.verify import Outcome, Port, Verifier, Whole, is_same
 from work65.program import Program
 
@@ -18,9 +19,10 @@ SHOWN = 3
 
 @dataclass
 class Verdict:
-    """The copy, what differs or is refused, and what was compared."""
+    """The copy with its files as they were compared, what differs or is refused, and what was compared."""
 
     ported: Ported
+    files: copying.Files
     lines: List[str] = field(default_factory=list)
     last: str = ""
 
@@ -41,23 +43,32 @@ class ScriptLink:
         return f"by {self.script}: the same ({self.files})" if self.files else f"not by {self.script}: {self.refusal}"
 
 
-def compared(program: Program, options: Options, room: str, port: Port) -> Verdict:
-    """Compares: the program by each script of the tree with which cc65 links it, and if there is none, each source alone."""
-    verifier = Verifier(program, options, room, port)
+def compared(program: Program, options: Options, room: str, port: Port, folder: str) -> Verdict:
+    """Compares the copy as it lies in its folder: the program by each script of the tree with which cc65 links it, and if there is none, each source alone."""
+    verifier = Verifier(program, options, room, port, folder)
     verifier.put()
     judge = Judge(verifier)
-    if judge.is_same_program():
-        verifier.guess(it.debug for it in judge.links)
-        return Verdict(verifier.ported, [], judge.said_of_program())
-    verifier.settle(verifier.modules)
-    verifier.guess(it.debug for it in verifier.outcomes.values())
-    lines, last = judge.said_of_sources()
-    if judge.is_same_program():
+    lines: List[str] = []
+    is_same = judge.is_same_program()
+    if not is_same:
+        verifier.settle(verifier.modules)
+        lines, last = judge.said_of_sources()
+        is_same = judge.is_same_program()
+    if is_same:
         last = judge.said_of_program()
     else:
         lines = lines or [it.where for it in judge.links if it.where]
-        verifier.ported.say(verifier.ported.imports)
-    return Verdict(verifier.ported, lines, last)
+        verifier.ported.say([*verifier.ported.project.beyond, *signs.found_in(verifier)])
+    debugs = [*(it.debug for it in judge.links), *(it.debug for it in verifier.outcomes.values())]
+    return Verdict(verifier.ported, verifier.files, lines, last + said_of_lines(verifier.ported, verifier.unmeasured(debugs)))
+
+
+def said_of_lines(ported: Ported, lines: Sequence[Line]) -> str:
+    """Returns what is said of lines whose operand's size wasn't measured."""
+    if not lines:
+        return ""
+    more = f" and {len(lines) - 1} more lines" if len(lines) > 1 else ""
+    return f"; not assembled here, so of unknown size: {ported.project.texts[lines[0].path].path}:{lines[0].number}{more}"
 
 
 class Judge:
@@ -78,7 +89,7 @@ class Judge:
         """Returns the program of all sources of the tree, by one of its scripts."""
         ported = self.verifier.ported
         texts = [whole_text(ported.project.scripts[script].lines), whole_text(ported.texts[script].lines)]
-        return Whole(texts[0], texts[1], self.verifier.modules)
+        return Whole(script, texts[0], texts[1], self.verifier.modules)
 
     def is_same_program(self) -> bool:
         """Links by each script with which cc65 does. Returns whether it does with one, and all that it makes is the same."""
@@ -88,7 +99,7 @@ class Judge:
     def linked(self, script: str) -> ScriptLink:
         """Links the program by a script with both tools."""
         found = ScriptLink(script)
-        written = known_differences.written_by(self.verifier.ported.project.scripts[script])
+        written = script_files.written_by(self.verifier.ported.project.scripts[script])
         if not written:
             found.refusal = f"no area of {script} is written to a file: the whole program wasn't compared"
             return found
@@ -110,20 +121,11 @@ class Judge:
         shown = ", ".join(f"{'the image' if name == OUTPUT else name}, {len(data)} bytes" for name, data in files.items())
         if is_same(cc65, bin65):
             found.files = shown
-        elif filled_up := self.filled_up(whole, cc65, bin65):
+        elif filled_up := self.verifier.filled(whole, cc65, bin65, is_same):
             found.files = f"{shown}; without the fill up to {', '.join(filled_up)}"
         else:
             found.where = f"{script}: {difference(cc65, bin65, self.verifier.finder(whole, bin65))}"
         return found
-
-    def filled_up(self, whole: Whole, cc65: Linked, bin65: Linked) -> List[str]:
-        """Returns the rows that nobody uses up to which cc65 alone fills its files, if these differ by nothing else."""
-        found = filling.filled(whole.ours, cc65, bin65)
-        try:
-            again = None if found is None else self.verifier.linked_by_bin65(replace(whole, ours=found[0]))
-        except Refused:
-            return []
-        return [] if found is None or again is None or not is_same(cc65, again) else found[1]
 
     def said_of_program(self) -> str:
         """Returns the last line, if the program is the same."""

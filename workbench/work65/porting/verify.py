@@ -11,12 +11,11 @@ from work65.frontend.linked_tree import LinkedTree
 from work65.instrumenting.build import Builder, BuildOptions
 from work65.instrumenting.copies import Constants
 from work65.instrumenting.sources import Closure
-from work65.porting import alone, copying, unasserted
+from work65.porting import alone, copying, filling, unasserted
 from work65.porting.difference import Finder, LinkedModule
-from work65.porting.forms import prefixed
 from work65.porting.imported import AUTOIMPORT
 from work65.porting.leaves import Leaf, Line, of_debug_file, of_marks
-from work65.porting.measuring import Measure, Pair
+from work65.porting.measuring import Measure, Pair, has_open_size
 from work65.porting.port import Ported
 from work65.porting.project import Spread
 from work65.porting.statements import SIZE_UNKNOWN
@@ -55,8 +54,9 @@ class Library:
 
 @dataclass(frozen=True)
 class Whole:
-    """A program: the texts of its script for both linkers, its sources in the order of the link, and its libraries."""
+    """A program: the name of its script, the texts of that for both linkers, its sources in the order of the link, and its libraries."""
 
+    script: str
     theirs: str
     ours: str
     sources: List[str]
@@ -70,8 +70,9 @@ class Whole:
 class Verifier:
     """Compares a tree with its copy, and mends the copy."""
 
-    def __init__(self, program: Program, options: Options, room: str, port: Port) -> None:
-        self.program, self.options, self.room, self.port = program, options, room, port
+    def __init__(self, program: Program, options: Options, room: str, port: Port, folder: str = "") -> None:
+        self.program, self.options, self.room, self.port, self.folder = program, options, room, port, folder
+        self.files: copying.Files = {}
         self.theirs = Theirs(options)
         self.made: Dict[str, Union[str, Refused]] = {}
         self.needs: Dict[str, alone.Needs] = {}
@@ -101,9 +102,11 @@ class Verifier:
         return Ours(self.program, self.copy, [it for it in include if not it.startswith("..")], self.options.define)
 
     def put(self) -> None:
-        """Writes the copy as it is by now."""
+        """Writes the copy as it is by now, with links to what else will lie in its folder."""
         shutil.rmtree(self.copy, ignore_errors=True)
-        copying.put(copying.files_of(self.ported, self.options.data), self.copy)
+        self.files = copying.files_of(self.ported, self.options.data)
+        copying.put(self.files, self.copy)
+        copying.link_others(self.files, self.folder, self.copy)
 
     def their_object(self, module: str) -> str:
         """Returns the object that ca65 makes of a source, made once."""
@@ -130,11 +133,13 @@ class Verifier:
     def linked_by_cc65(self, whole: Whole) -> Linked:
         """Returns the program as cc65's tools link the original, with the exports that its objects use."""
         inputs = [self.their_object(it) for it in whole.sources]
-        for library in whole.libraries:
-            made = os.path.join(self.room, f"theirs-{os.path.basename(library.name)}")
-            self.theirs.archive(made, [self.their_object(it) for it in library.members], self.room)
-            inputs.append(made)
-        found = self.theirs.link_with(whole.theirs, inputs, os.path.join(self.room, "link"), self.options.symbols)
+        for number, library in enumerate(whole.libraries):
+            inputs.append(os.path.join(self.room, f"theirs{number}.lib"))
+            self.theirs.archive(inputs[-1], [self.their_object(it) for it in library.members], self.room)
+        try:
+            found = self.theirs.link_with(whole.theirs, inputs, os.path.join(self.room, "link"), self.options.symbols)
+        except Refused as why:
+            raise why.of_script(whole.script) from None
         return replace(found, exports={it: value for it, value in found.exports.items() if it in found.used})
 
     def linked_by_bin65(self, whole: Whole) -> Linked:
@@ -142,12 +147,23 @@ class Verifier:
         numbers = {it: number for number, it in enumerate(whole.modules())}
         made = {it: self.our_object(it, f"{number}.o") for it, number in numbers.items()}
         inputs = [made[it] for it in whole.sources]
-        for library in whole.libraries:
-            name = os.path.join(self.room, os.path.basename(library.name))
-            self.ours().archive(name, [made[it] for it in library.members], self.room)
-            inputs.append(name)
+        for number, library in enumerate(whole.libraries):
+            inputs.append(os.path.join(self.room, f"ours{number}.lib"))
+            self.ours().archive(inputs[-1], [made[it] for it in library.members], self.room)
         inputs += [self.our_object(it, f"own{number}.o") for number, it in enumerate(self.ported.project.own_sources)]
-        return self.ours().link(whole.ours, inputs, os.path.join(self.room, "link"))
+        try:
+            return self.ours().link(whole.ours, inputs, os.path.join(self.room, "link"))
+        except Refused as why:
+            raise why.of_script(whole.script) from None
+
+    def filled(self, whole: Whole, cc65: Linked, bin65: Linked, is_equal: Callable[[Linked, Linked], bool]) -> List[str]:
+        """Returns the rows that nobody uses up to which cc65 alone fills its files, if these differ by nothing else."""
+        found = filling.filled(whole.ours, cc65, bin65)
+        try:
+            again = None if found is None else self.linked_by_bin65(replace(whole, ours=found[0]))
+        except Refused:
+            return []
+        return [] if found is None or again is None or not is_equal(cc65, again) else found[1]
 
     def finder(self, whole: Whole, bin65: Linked) -> Finder:
         """Returns what finds the lines of bytes of the program."""
@@ -161,13 +177,15 @@ class Verifier:
     def settle(self, modules: Sequence[str]) -> None:
         """Compares each source alone, and mends forms until nothing changes."""
         pending = set(modules)
-        for _ in range(ROUNDS):
+        for left in range(ROUNDS, 0, -1):
             self.put()
             progress = Progress("sources compared", len(pending))
             for it in sorted(pending):
                 self.outcomes[it] = self.outcome(it)
                 progress.step()
             progress.end()
+            if left == 1:  # nothing is edited after the last comparison
+                break
             longer = {it for it in pending if self.is_lengthened(it)}
             differing = {it for it in pending if self.outcomes[it].debug and not self.outcomes[it].is_same}
             measure = self.measured(differing)
@@ -211,8 +229,7 @@ class Verifier:
         folder = tempfile.mkdtemp(dir=self.room)
         theirs, ours = os.path.join(folder, "theirs.o"), os.path.join(self.room, "ours.o")
         unasserted.their_object(self.ported, self.theirs, module, os.path.join(folder, "root"), theirs)
-        files = copying.files_of(self.ported, self.options.data)
-        unasserted.our_copy(files, self.ours(), os.path.join(folder, "copy")).assemble(module, ours)
+        unasserted.our_copy(self.files, self.ours(), os.path.join(folder, "copy")).assemble(module, ours)
         self.linked_trees.append(os.path.join(folder, "root"))
         return theirs, ours
 
@@ -261,15 +278,13 @@ class Verifier:
         sizes = {it.size for it in leaves if it.lines[-1] == origin}
         return sizes == {3} and measure.put(line, Pair(3, Leaf("", 0, 2, (line,))))
 
-    def guess(self, debugs: Iterable[str]) -> None:
-        """Puts size prefixes by the rules before operands of lines that weren't assembled, such as those for another -D."""
-        guessed = self.ported.project.guessed
-        met = {line for debug in debugs for it in of_debug_file(debug, self.key) for line in it.lines} if guessed else set()
-        for path, text in self.ported.texts.items() if guessed.keys() - met else ():
-            for number, line in enumerate(text.lines, 1):
-                origin = self.ported.origin(Line(path, number))
-                if origin is not None and origin not in met:
-                    text.lines[number - 1] = prefixed(line, guessed.get(origin, ""))
+    def unmeasured(self, debugs: Iterable[str]) -> List[Line]:
+        """Returns the lines with an operand of a size that isn't written there, if no debug file has them."""
+        met = {line for debug in debugs for it in of_debug_file(debug, self.key) for line in it.lines}
+        project = self.ported.project
+        paths = sorted(project.outputs.keys() & project.texts.keys())
+        lines = [(Line(path, it.number), it.text) for path in dict.fromkeys(self.ported.names[it] for it in paths) for it in project.logical(path)]
+        return [line for line, text in lines if line not in met and has_open_size(text)]
 
     def measured(self, modules: Set[str]) -> Measure:
         """Returns the sizes of the lines of these sources, and of those that share a file with them in which a line differs."""

@@ -4,9 +4,10 @@ from typing import List, Optional, Sequence
 
 from work65.frontend import words
 from work65.frontend.edits import edited
+from work65.frontend.includes import late
 from work65.frontend.statements import Statement, statement_of
 from work65.frontend.tokens import Kind, line_of
-from work65.porting import conditions, defines, forms, spelling, structures
+from work65.porting import conditions, defines, shifts, spelling, structures
 from work65.porting.calls import Calls
 from work65.porting.context import OpenCondition, RewrittenLine
 from work65.porting.expander import Expander
@@ -64,6 +65,8 @@ class Walk:
         row = RewrittenLine(number, [text])
         self.state.rows.append(row)
         self.state.here, self.rewriter.original = at, text
+        if "\xff" in text:
+            self.state.cannot(number, Unportable("$FF", "form", "cc65 takes a byte $FF as the end of the file: write it as a number"))
         if self.context.is_dead and not self.goes_on(text):
             self.pass_by(row, text)
             return at + 1
@@ -116,7 +119,7 @@ class Walk:
             return None
         label = text[: statement.body[0].start].rstrip() if statement.label is not None else ""
         prepared = self.names.prepared(text)
-        expander = Expander(self, context.macros, self.state.unique(at))
+        expander = Expander(self.names, self.calls, self.emit, self.state.unique(at))
         expander.call(prepared, self.names.parsed(prepared))
         self.write_out(at, row, expander, label)
         return at + 1
@@ -126,9 +129,9 @@ class Walk:
         end = end_of_repeat(self.state.lines, at + 1)
         texts = [it.text for it in self.state.lines[at + 1 : end]]
         is_spread = Line(self.state.path, self.state.lines[at].number) in self.project.spread.repeats
-        if not is_spread and not any(self.has_to_go(here, it) for here, it in enumerate(texts, at + 1)):
+        if not is_spread and not late([".repeat", *texts, ".endrepeat"]) and not any(self.has_to_go(here, it) for here, it in enumerate(texts, at + 1)):
             return None
-        expander = Expander(self, self.context.macros, self.state.unique(at))
+        expander = Expander(self.names, self.calls, self.emit, self.state.unique(at))
         expander.repeat(texts, self.state.lines[at].text, {})
         label = self.state.lines[at].text[: statement.body[0].start].rstrip() if statement.label is not None else ""
         self.write_out(at, row, expander, label)
@@ -145,6 +148,7 @@ class Walk:
         context, text = self.context, self.state.lines[at].text
         saved, depths = (self.state.lines, self.state.rows, self.state.others), (len(context.blocks), len(context.scopes))
         self.state.number, self.state.rows = self.state.lines[at].number, []
+        self.state.blocks = self.state.blocks if self.state.expanding else depths[0]
         self.state.expanding += 1
         try:
             if label:
@@ -157,17 +161,17 @@ class Walk:
         finally:
             self.state.expanding -= 1
             self.state.lines, self.state.rows, self.state.others = saved
-        row.lines = lines if self.state.expanding else [commented_out(text), *merged(lines)]
+        row.lines = lines if self.state.expanding else [commented_out(text), *merged(lines), *self.read_late()]
+
+    def read_late(self) -> List[str]:
+        """Returns the .include lines of an expansion: cc65 reads these files after its other lines, the last one first."""
+        waiting, self.state.late = self.state.late[::-1], []
+        return [line for it in waiting for line in self.include(it, self.names.parsed(it))]
 
     def emit(self, text: str, following: Sequence[str]) -> None:
         """Rewrites a line of a call that is expanded."""
         self.state.lines = [Logical(self.state.number, it) for it in (text, *following)]
         self.line(0)
-
-    @property
-    def is_in_macro(self) -> bool:
-        """Returns whether the lines of a macro are being read."""
-        return self.context.macro is not None
 
     def goes_on(self, text: str) -> bool:
         """Returns whether a line ends the lines that are left out, or begins others."""
@@ -199,10 +203,6 @@ class Walk:
         facts = facts_of(text, has_escapes)
         self.state.keep_line(text)
         if self.is_left(facts, has_escapes):
-            if self.project.is_measured and forms.may_differ(facts.tokens, facts.names, context, False):
-                plain = statement_of(facts.tokens, self.project.is_macro)
-                if plain.head in words.MNEMONICS:
-                    self.rewriter.guess(at, plain)
             self.note_plain(facts)
             return [text]
         if not facts.tokens:
@@ -247,7 +247,7 @@ class Walk:
         if facts.directives & FUNCTIONS or ".include" in facts.directives or facts.is_long:
             return False
         names = facts.names
-        if forms.may_differ(facts.tokens, names, context, self.project.is_measured):
+        if shifts.has_shift(facts.tokens):
             return False
         if not self.state.sized_names.isdisjoint(names) or self.label_splits(facts):
             return False
@@ -279,6 +279,11 @@ class Walk:
         """Rewrites an .include, and walks its file."""
         if not statement.rest or statement.rest[0].kind is not Kind.STRING:
             return [text]
+        if self.state.expanding:
+            if any(it.is_live is None for it in self.context.blocks[self.state.blocks :]):
+                raise Unportable(".include", "include-late", "whether it is reached can't be determined: write the call out")
+            self.state.late.append(text)
+            return []
         token = statement.rest[0]
         name = token.text.strip('"')
         path, spelled = self.project.include(self.state.path, name)
@@ -287,24 +292,3 @@ class Walk:
             if written != path:
                 spelled = self.project.relative(written, self.state.path)
         return [text] if spelled == name else [edited(text, [(token.start, token.end, f'"{spelled}"')])]
-
-    @property
-    def has_escapes(self) -> bool:
-        """Returns whether a backslash in a string takes the next character with it."""
-        return self.state.has_escapes
-
-    def prepared(self, text: str) -> str:
-        """Returns a line with all its defines replaced."""
-        return self.names.prepared(text)
-
-    def is_written_out(self, statement: Statement) -> bool:
-        """Returns whether a statement is the call of a macro that is expanded in the copy."""
-        return self.calls.is_written_out(statement)
-
-    def decided(self, text: str) -> Optional[bool]:
-        """Returns whether a condition holds, None if that is unknown."""
-        return self.names.decided(text)
-
-    def counted(self, text: str) -> Optional[int]:
-        """Returns the count of a repeat, None if it is unknown."""
-        return self.names.counted(text)

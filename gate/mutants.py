@@ -157,7 +157,8 @@ def changed(lines):
         folder = f"{ROOT}/crates/{crate}"
         names = {it.path for it in reader.functions(folder)
                  if not lines.get(os.path.relpath(it.file, ROOT), set()).isdisjoint(range(it.first, it.last + 1))}
-        tries = {it: functions_of(it, folder) for it in reader.edits_of(folder)}
+        # (those of must-fail/ `rt ci` tries)
+        tries = {it: functions_of(it, folder) for it in reader.edits_of(folder) if "/mutants/" in it}
         found += [(edit, functions) for edit, functions in tries.items() if not names.isdisjoint(functions)]
     return sorted(found, key=lambda it: zlib.crc32(f"{head} {name_of(it[0])}".encode()))[:MOST]
 
@@ -219,45 +220,46 @@ def refusal(status, said):
     return next((f"{file}:{line}: {error}" for file, line, error in PLACE.findall(said) if not LACKS_A_NAME.search(error)), None)
 
 
-def tried_alone(compiler, crate, edits):
-    """Tries mutants of a crate, each with the functions that it changes, and returns what was found of each: whether it is
-    refused, and why. The proof of a function uses the contracts of others and never their bodies, so only these functions
-    are checked."""
-    kept, folder = f"{compiler.room}/{crate}", f"{ROOT}/crates/{crate}"
+def seed(compiler, crate, edits):
+    """Proves the functions that mutants of a crate change, as they are, and returns how to name those of one, and why it failed or
+    None. The proof of a function uses the contracts of others and never their bodies, so only these functions are checked."""
     # (status 2: a check names a function otherwise)
     for asked in (lambda own: {*own}, lambda own: {reader.module_of(it.file) for it in own.values()}):
-        status, said = compiler.check(crate, {}, set().union(*(asked(own) for _, own in edits)), kept)
+        status, said = compiler.check(crate, {}, set().union(*(asked(own) for _, own in edits)), f"{compiler.room}/{crate}")
         if status != 2:
             break
     counted = re.search(r"^only=(\d+) proved=(\d+)\Z", said, re.M)
-    if status or not counted or counted[1] != counted[2]:
-        return {edit: (False, f"its functions are not proved as they are: {said[-300:]}") for edit, _ in edits}
+    is_proved = not status and counted and counted[1] == counted[2]
+    return asked, None if is_proved else f"its functions are not proved as they are: {said[-300:]}"
 
-    def one(found):
-        edit, own = found
-        with tempfile.TemporaryDirectory(dir=compiler.room) as over:
-            shutil.copytree(kept, f"{over}/kept", copy_function=link)
-            texts = {path: now for path, (_, now) in reader.edited(edit, folder)[0].items()}
-            status, said = compiler.check(crate, texts, asked(own), f"{over}/kept")
-        why, last = refusal(status, said), " / ".join(said.split("\n")[-3:])
-        return edit, (bool(why), why or f"NOT REFUSED: its check ended with status {status}: {last}")
 
-    with ThreadPoolExecutor(2) as workers:
-        return dict(workers.map(one, edits))
+def tried_alone(compiler, edit, names):
+    """Tries a mutant over what its seed kept, and returns whether it is refused, and why."""
+    crate = name_of(edit).partition("/")[0]
+    with tempfile.TemporaryDirectory(dir=compiler.room) as over:
+        shutil.copytree(f"{compiler.room}/{crate}", f"{over}/kept", copy_function=link)
+        texts = {path: now for path, (_, now) in reader.edited(edit, f"{ROOT}/crates/{crate}")[0].items()}
+        status, said = compiler.check(crate, texts, names, f"{over}/kept")
+    why, last = refusal(status, said), " / ".join(said.split("\n")[-3:])
+    return bool(why), why or f"NOT REFUSED: its check ended with status {status}: {last}"
 
 
 def try_changed():
     """Tries mutants of changed functions, and returns what was found of each: whether it is refused, and why."""
     os.nice(5)
-    found = {}
-    with tempfile.TemporaryDirectory(prefix="mutants-") as room:
-        # (`rt ci` may put back what was built before, once it ends)
-        compiler, tries = Compiler(room), changed(changed_lines())
+    with tempfile.TemporaryDirectory(prefix="mutants-") as room, ThreadPoolExecutor(2) as workers:
+        # (at once: when it ends, `rt ci` may put back what was built before)
+        compiler, tries, by_crate = Compiler(room), changed(changed_lines()), {}
         say(f"{len(tries)} mutants of functions that were changed in the {HOURS} hours before the last commit")
-        for crate in sorted({name_of(edit).partition("/")[0] for edit, _ in tries}):
-            found.update(tried_alone(compiler, crate, [it for it in tries if name_of(it[0]).startswith(f"{crate}/")]))
-            say(f"{crate}: {len(found)} of {len(tries)} tried")
-    return found
+        for edit, own in tries:
+            by_crate.setdefault(name_of(edit).partition("/")[0], []).append((edit, own))
+        seeds = dict(zip(by_crate, workers.map(lambda it: seed(compiler, *it), by_crate.items())))
+
+        def one(edit, own):
+            asked, why = seeds[name_of(edit).partition("/")[0]]
+            return (False, why) if why else tried_alone(compiler, edit, asked(own))
+
+        return dict(zip((edit for edit, _ in tries), workers.map(lambda it: one(*it), tries)))
 
 
 def main(words):

@@ -122,7 +122,7 @@ def ported(tries, name, target, text, has_cc65):
         if has_cc65:
             theirs = image(["ca65", *(["-t", target] if target else [])], ["ld65"], "a.s", folder)
             tries.check(name, theirs == ours, f"cc65 {theirs if isinstance(theirs, str) else theirs.hex(' ')}, bin65 {ours.hex(' ')}")
-            tries.check(f"{name}, what was compared", ran.stdout == ALONE, ran.stdout)
+            tries.check(f"{name}, what was compared", ran.stdout.startswith(ALONE.rstrip()), ran.stdout)
         if has_cc65 and name.startswith("kept-"):
             with open(f"{folder}/out/a.s", encoding="utf-8") as it:
                 copy = it.read()

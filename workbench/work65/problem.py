@@ -12,4 +12,5 @@ class Problem(Exception):
 
 def complain(text: str) -> None:
     """Prints a message on standard error."""
-    print(f"work65: {text}".encode("utf-8", "surrogateescape").decode("utf-8", "backslashreplace"), file=sys.stderr)
+    shown = text.encode("utf-8", "surrogateescape").decode("utf-8", "backslashreplace")
+    print(f"work65: {shown}", file=sys.stderr)

@@ -112,7 +112,8 @@ def _causes(message: Message, entry: Optional[pages.PageEntry], text: Optional[T
         yield from (f"It is: {it}." for it in rows_for(text.lines, message.line - 1, entry))
     if message.text in ("statement not understood", "directive not understood", "bad character", "bad number", "no such addressing form"):
         for it in sources.found_in([text], tree, Files(texts, ()), texts[1:]):
-            if (it.path, it.line) == (text.path, message.line) and it.habit.name not in ("form", "include-file", "incbin-file"):
+            is_here = (it.path, it.line) == (text.path, message.line)
+            if is_here and it.habit.name not in ("form", "include-file", "incbin-file"):
                 yield f"{it.word}: {it.cure} (MIGRATING: {it.habit.heading})"
 
 
@@ -126,10 +127,11 @@ def _uses(names: Sequence[str], line: Sequence[str]) -> Iterator[str]:
 
 
 def _called(text: Text, line: int, tree: Survey) -> str:
-    """Returns the name of the macro that a line calls, empty if it calls none that is defined before it."""
+    """Returns the macro that a line calls, empty if it calls none that is defined before it."""
     body = statement_in(text.lines[line - 1]).body
     places = tree.macros.get(body[0].text, []) if body else []
-    return body[0].text if any(path != text.path or number < line for path, number in places) else ""
+    is_before = any(path != text.path or number < line for path, number in places)
+    return body[0].text if is_before else ""
 
 
 def _counted(count: int, what: str) -> str:

@@ -46,7 +46,8 @@ def run(arguments: argparse.Namespace) -> int:
         built = build(program, wanted_of(arguments), folder, Constants.LABELS)
     names, image = all_names(built), built.files.get(OUTPUT, b"")
     if arguments.format in ("mesen", "fceux"):
-        names = [it for it in names if it.name not in built.layout.script.exports or it.address in REGISTERS]
+        symbols = built.layout.script.exports
+        names = [it for it in names if it.name not in symbols or it.address in REGISTERS]
     if arguments.format == "fceux" and arguments.output is not None:
         write_beside(arguments.output, image, names)
     else:

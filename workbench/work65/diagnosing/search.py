@@ -230,7 +230,7 @@ class Search:
     # Errors that follow from others.
 
     def defined(self) -> Set[str]:
-        """Returns the names that the copy still defines: no error about them follows from a line that was removed."""
+        """Returns the names that the copy still defines: no error follows from a lack of them."""
         if self.left is None:
             first = text_of(self.arguments.source)
             files = [first, *followed([first], self.arguments.include)]

@@ -5,7 +5,7 @@ from typing import Callable, Dict, Iterator, List, Optional
 from work65.frontend.link_script import OUTPUT
 from work65.instrumenting.names import NamedAddress
 
-# The header of an NES cartridge's file, which isn't part of its memory, and what its fifth byte counts.
+# The header of an NES cartridge's file, which isn't in its memory; its fifth byte counts these.
 HEADER, PROGRAM = 16, 0x4000
 BANK = 0x4000
 

@@ -56,7 +56,7 @@ class Section:
 
 
 class Use(NamedTuple):
-    """A statement whose value has an import: the import's name, and the file and line of the statement."""
+    """A statement whose value has an import: the name of that, and the statement's place."""
 
     name: str
     file: str

@@ -65,8 +65,8 @@ def names_in(text: Text) -> Iterator[str]:
 
 
 def late(lines: Iterable[str]) -> List[Tuple[str, int]]:
-    """Returns each .include of a macro or repeat that isn't its only statement: the macro's name, if it is in one, and the line. cc65
-    reads the file after all lines of the expansion, bin65 in its place."""
+    """Returns each .include of a macro or repeat with other statements: the macro, if there is one,
+    and the line. cc65 reads the file after all lines of the expansion, bin65 in its place."""
     found: Dict[int, str] = {}
     opened: List[Tuple[str, List[int], int]] = []
     for number, line in enumerate(lines, 1):
@@ -76,7 +76,8 @@ def late(lines: Iterable[str]) -> List[Tuple[str, int]]:
             name, numbers, count = opened.pop()
             found.update({it: name for it in numbers if count > 1})
         if head or statement.label is not None:
-            opened = [(name, [*numbers, number] if head == ".include" else numbers, count + 1) for name, numbers, count in opened]
+            more = [number] if head == ".include" else []
+            opened = [(name, [*numbers, *more], count + 1) for name, numbers, count in opened]
         if head in words.MACRO_BEGINS and statement.rest:
             opened.append((statement.rest[0].text, [], 0))
         elif head in words.REPEAT_BEGINS:

@@ -226,8 +226,10 @@ class Reader:
             if first.lower not in words.MNEMONICS:
                 return
         word = line.tokens[min(at, len(line.tokens) - 1)].text
-        named = (it for it, sign in NAMING.items() if it in self.tree.features and any(sign in one.text for one in body))
-        yield word, BY_NAME["form"], next((f"a name that `.feature {it}` allows: rename it" for it in named), "")
+        signs = "".join(it.text for it in body)
+        allowed = [it for it, sign in NAMING.items() if it in self.tree.features and sign in signs]
+        note = f"a name that `.feature {allowed[0]}` allows: rename it" if allowed else ""
+        yield word, BY_NAME["form"], note
 
 
 def _is_continued(line: LexedLine, text: str) -> bool:
@@ -247,7 +249,8 @@ def found_in(texts: List[Text], tree: Survey, files: Optional[Files] = None, inc
         reader = Reader(text, tree, files)
         found += reader.findings()
         found += [(None, Finding(text.path, number, name, BY_NAME["cheap-twice"])) for number, name in cheap.twice(text)]
-        found += [(macro or None, Finding(text.path, number, ".include", BY_NAME["include-late"])) for macro, number in late(text.lines)]
+        for macro, number in late(text.lines):
+            found.append((macro or None, Finding(text.path, number, ".include", BY_NAME["include-late"])))
         calls += [(*it, text.path) for it in reader.calls]
         waiting += [left.pop(it) for it in sorted(reader.includes) if it in left]
     by_caller: Dict[Optional[str], List[str]] = {}

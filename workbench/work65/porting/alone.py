@@ -37,8 +37,8 @@ ROOM = 0xFFF0 - 0x0400
 
 @dataclass(frozen=True)
 class Needs:
-    """The segments with their sizes and the imports of an object of cc65's; which of them lie in the zero page, and what the segments
-    have to be aligned to."""
+    """The segments with their sizes and the imports of an object of cc65's; which of them lie in the
+    zero page, and what the segments have to be aligned to."""
 
     segments: Dict[str, int]
     alignments: Dict[str, int]
@@ -54,7 +54,8 @@ def needs_of(object_file: str) -> Needs:
     segments, _, rest = parts.partition("  Imports:")
     imports, _, sizes = rest.partition("  Segment sizes:")
     imported, short = _named(imports)
-    found = {**dict.fromkeys(FIRST, 0), **{name: int(size) for name, size in SEGMENT.findall(sizes) if name != "NULL"}}
+    found = dict.fromkeys(FIRST, 0)
+    found.update({name: int(size) for name, size in SEGMENT.findall(sizes) if name != "NULL"})
     alignments = {it[1]: int(it[2]) for it in ALIGNMENT.finditer(segments)}
     return Needs(found, alignments, _named(segments)[1] | {"ZEROPAGE", "EXTZP"}, imported, short)
 
@@ -72,15 +73,19 @@ def _named(text: str) -> "tuple[List[str], frozenset[str]]":
 
 
 def script_of(needs: Needs, at: Placement) -> str:
-    """Returns a script that links an object alone. Segments that are too large for one area have one each."""
+    """Returns a script that links an object alone. Segments that don't fit together have an area each."""
     is_large = sum(needs.segments.values()) > ROOM
     parts = [f"M{number}" for number in range(len(needs.segments) if is_large else 1)]
-    places = (("Z", at.zero_page, 0x100, '""'), ("R", at.room, 0xFFF0, '""'), *((it, at.code, 0xFFF0 if len(parts) == 1 else 0x10000, "%O") for it in parts))
-    areas = "".join(f"  {name}: start = ${start:04X}, size = ${end - start:04X}, file = {file};\n" for name, start, end, file in places)
+    end = 0x10000 if is_large else 0xFFF0
+    places = [("Z", at.zero_page, 0x100, '""'), ("R", at.room, 0xFFF0, '""')]
+    places += [(it, at.code, end, "%O") for it in parts]
+    areas = "".join(f"  {name}: start = ${start:04X}, size = ${end - start:04X}, file = {file};\n"
+                    for name, start, end, file in places)
     rows = ""
     names = list(needs.segments)
     for number, it in enumerate(reversed(names) if at.is_reversed else names):
-        load, kind = ("Z", "zp") if it in needs.short_segments else ("R", "bss") if it == "BSS" else (parts[number % len(parts)], "rw")
+        load, kind = ("R", "bss") if it == "BSS" else (parts[number % len(parts)], "rw")
+        load, kind = ("Z", "zp") if it in needs.short_segments else (load, kind)
         align = f", align = {needs.alignments[it]}" if needs.alignments.get(it, 1) > 1 else ""
         rows += f"  {it}: load = {load}, type = {kind}{align}, optional = yes;\n"
     symbols = ""

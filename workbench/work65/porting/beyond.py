@@ -7,27 +7,31 @@ from work65.frontend.tokens import Kind, Token, value_of
 from work65.habits.habit import Habit
 
 HABIT = Habit("beyond", "", "Numbers of more than 32 bits", "")
-NOTE = "cc65's linker takes a number from $80000000 as one below 0: the result may depend on where the program is placed"
+NOTE = ("cc65's linker takes a number from $80000000 as one below 0:"
+        " the result may depend on where the program is placed")
 # The least number that ld65 takes otherwise than bin65.
 LEAST = 1 << 31
 SHIFTS = frozenset(("<<", ".shl"))
 
 
 def word_in(statement: Statement, lookup: Lookup) -> str:
-    """Returns the first word of an expression that only the linker computes and that has such a number; nothing where there is none."""
-    rest = statement.rest[1:] if statement.is_constant or statement.rest[:1] and statement.rest[0].text == "#" else statement.rest
-    for part in parts_of(rest):
-        if any(_may_be(it, lookup) for it in part) and value(part, lookup) is None and _has_beyond(part, lookup):
+    """Returns the first word of an expression that only the linker computes and that has such a
+    number; nothing where there is none."""
+    is_after = statement.is_constant or any(it.text == "#" for it in statement.rest[:1])
+    for part in parts_of(statement.rest[is_after:]):
+        is_likely = any(_may_be(it, lookup) for it in part)
+        if is_likely and value(part, lookup) is None and _has_beyond(part, lookup):
             return part[0].text
     return ""
 
 
 def _may_be(it: Token, lookup: Lookup) -> bool:
-    found = value_of(it.text) if it.kind is Kind.NUMBER else lookup(it.text) if it.kind is Kind.NAME else None
+    found = value_of(it.text) if it.kind is Kind.NUMBER else None
+    found = lookup(it.text) if it.kind is Kind.NAME else found
     return it.lower in SHIFTS or found is not None and not -LEAST <= found < LEAST
 
 
 def _has_beyond(part: Sequence[Token], lookup: Lookup) -> bool:
     """Returns whether tokens of an expression give such a number by themselves."""
-    ends = range(len(part) + 1)
-    return any(not -LEAST <= (value(part[begin:end], lookup) or 0) < LEAST for end in ends for begin in range(end))
+    parts = (part[begin:end] for end in range(len(part) + 1) for begin in range(end))
+    return any(not -LEAST <= (value(it, lookup) or 0) < LEAST for it in parts)

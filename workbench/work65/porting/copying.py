@@ -73,7 +73,8 @@ def _incbin(line: str) -> Optional[Token]:
 
 def _first(name: str, folders: Sequence[str]) -> Optional[str]:
     """Returns the first file of a name in some folders."""
-    return next((it for it in (os.path.join(folder, name) for folder in folders) if os.path.exists(it) and not os.path.isdir(it)), None)
+    places = (os.path.join(folder, name) for folder in folders)
+    return next((it for it in places if os.path.exists(it) and not os.path.isdir(it)), None)
 
 
 def put(files: Files, folder: str) -> None:
@@ -86,15 +87,17 @@ def put(files: Files, folder: str) -> None:
 
 
 def link_others(files: Files, folder: str, copy: str) -> None:
-    """Puts links into a temporary copy to the files that its folder has beside it, without those that `write` removes."""
+    """Puts links into a temporary copy to what its folder has and `write` neither makes nor removes."""
     if os.path.isdir(folder):
-        _link_others(os.path.abspath(folder), copy, {os.path.abspath(it) for it in _stale(files, folder)})
+        stale = {os.path.abspath(it) for it in _stale(files, folder)}
+        _link_others(os.path.abspath(folder), copy, stale)
 
 
 def _link_others(folder: str, copy: str, gone: Set[str]) -> None:
     for name in os.listdir(folder):
         place, link = os.path.join(folder, name), os.path.join(copy, name)
-        if os.path.isdir(place) and (os.path.isdir(link) or any(it.startswith(place + os.sep) for it in gone)):
+        has_gone = any(it.startswith(place + os.sep) for it in gone)
+        if os.path.isdir(place) and (has_gone or os.path.isdir(link)):
             os.makedirs(link, exist_ok=True)
             _link_others(place, link, gone)
         elif place not in gone and not os.path.lexists(link):
@@ -102,10 +105,14 @@ def _link_others(folder: str, copy: str, gone: Set[str]) -> None:
 
 
 def _stale(files: Files, folder: str) -> List[str]:
-    """Returns the files of an earlier copy that this one doesn't have, and that are as port wrote them."""
+    """Returns the files of an earlier copy that this one doesn't have, if they are as port wrote them."""
     old = ((os.path.join(folder, path), total) for path, total in sums_of(folder)
            if path not in files and not os.path.normpath(path).startswith(("..", "/")))
-    return [it for it, total in old if os.path.isfile(it) and hashlib.sha256(read_bytes(it)).hexdigest() == total]
+    return [it for it, total in old if os.path.isfile(it) and _sum(read_bytes(it)) == total]
+
+
+def _sum(data: bytes) -> str:
+    return hashlib.sha256(data).hexdigest()
 
 
 def write(files: Files, folder: str, originals: Sequence[str], is_forced: bool) -> None:
@@ -122,7 +129,7 @@ def write(files: Files, folder: str, originals: Sequence[str], is_forced: bool) 
         more = f" (and {len(changed) - 1} more)" if len(changed) > 1 else ""
         raise Problem(f"{changed[0]}{more}: changed since port wrote it; --force overwrites it")
     stale = _stale(files, folder)
-    sums = "".join(f"{hashlib.sha256(data).hexdigest()}  {path}\n" for path, data in sorted(files.items()))
+    sums = "".join(f"{_sum(data)}  {path}\n" for path, data in sorted(files.items()))
     above = os.path.dirname(os.path.abspath(folder))
     try:
         os.makedirs(above, exist_ok=True)
@@ -146,7 +153,7 @@ def _changed(files: Files, places: Dict[str, str], folder: str) -> Iterator[str]
     for path, place in places.items():
         if os.path.isfile(place):
             now = read_bytes(place)
-            if now != files[path] and written.get(path) != hashlib.sha256(now).hexdigest():
+            if now != files[path] and written.get(path) != _sum(now):
                 yield place
 
 

@@ -143,9 +143,9 @@ class ModuleState:
                 used |= called.names - context.defines.keys()
 
     def note_beyond(self, statement: Statement) -> None:
-        """Notes a line with a number that cc65's linker takes otherwise, if the linker computes the line's value."""
-        word = "" if statement.head in words.CONDITIONS else beyond.word_in(statement, self.context.value)
-        if word:
+        """Notes a line with a number that cc65's linker takes otherwise, if it computes the value."""
+        word = beyond.word_in(statement, self.context.value)
+        if word and statement.head not in words.CONDITIONS:
             path, number = self.project.texts[self.path].path, self.lines[self.here].number
             self.project.beyond.append(Finding(path, number, word, beyond.HABIT, beyond.NOTE))
 
@@ -180,12 +180,12 @@ class ModuleState:
                 self.note_label(name)
 
     def is_uncertain(self, name: str) -> bool:
-        """Returns whether a name defined here may be undefined or mean something else in another assembly. In its own .ifndef a name is
-        sure if no -D can give it."""
-        project, open_blocks = self.project, [it for it in self.context.blocks if it.is_live is None]
-        if not project.is_fixed and (name in project.names or open_blocks and name not in project.guards):
-            return True
-        return any(it.guarded != name for it in open_blocks)
+        """Returns whether a name defined here may be undefined or mean something else in another
+        assembly. In its own .ifndef a name is sure if no -D can give it."""
+        project = self.project
+        open_blocks = [it for it in self.context.blocks if it.is_live is None]
+        is_given = name in project.names or bool(open_blocks) and name not in project.guards
+        return is_given and not project.is_fixed or any(it.guarded != name for it in open_blocks)
 
     def note_constant(self, name: str, tokens: Sequence[Token]) -> None:
         """Notes a constant, and whether its value is the same in every assembly."""
@@ -199,11 +199,12 @@ class ModuleState:
         self.end_part()
 
     def segment_of(self, tokens: Sequence[Token]) -> str:
-        """Returns the segment in which an expression of one label is an address; nothing where it isn't known."""
-        labels, names = self.context.labels, [it.text for it in tokens if it.kind in (Kind.NAME, Kind.CHEAP, Kind.UNNAMED)]
-        if star_in(tokens):
-            return "" if names else self.context.segment
-        return labels.get((*self.context.path, *names), "") or labels.get((*names,), "") if len(names) == 1 else ""
+        """Returns the segment in which an expression of one label is an address, if it is known."""
+        labels, context = self.context.labels, self.context
+        names = [it.text for it in tokens if it.kind in (Kind.NAME, Kind.CHEAP, Kind.UNNAMED)]
+        if star_in(tokens) or len(names) != 1:
+            return context.segment if star_in(tokens) and not names else ""
+        return labels.get((*context.path, names[0]), "") or labels.get((names[0],), "")
 
     def end_part(self) -> None:
         """Notes that a constant ends the region of cheap labels for cc65, though not for bin65."""

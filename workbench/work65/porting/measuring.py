@@ -136,8 +136,9 @@ class Measure:
 def has_open_size(text: str) -> bool:
     """Returns whether a line is an instruction whose operand has a name that decides its size."""
     statement = statement_of(line_of(text).tokens, lambda _: False)
-    is_address = statement.head in words.MNEMONICS - words.BRANCHES - {"jmp", "jsr"} and bool(statement.rest)
-    if not is_address or statement.rest[0].kind is Kind.PREFIX or statement.rest[0].text in "#(<>^":
+    if statement.head not in words.MNEMONICS - words.BRANCHES - {"jmp", "jsr"} or not statement.rest:
+        return False
+    if statement.rest[0].kind is Kind.PREFIX or statement.rest[0].text in "#(<>^":
         return False
     return any(it.kind is Kind.NAME and it.lower not in words.REGISTERS for it in statement.rest)
 

@@ -21,6 +21,7 @@ from work65.program import Program
 SAME, OTHER, NOT_COMPARED = 0, 1, 2
 # The difference between an absolute and a short opcode, and the maximum number of forms that are corrected by an image.
 SHORT_TO_FAR, MOST = 8, 200
+UNEXPLAINED = "not explained by MIGRATING"
 # How long ca65 may take for a source of a project.
 SECONDS = 120
 
@@ -86,15 +87,18 @@ class Comparison:
             bin65 = self.ours()
         if isinstance(bin65, Refused):
             return Answer(self.refused(bin65), NOT_COMPARED)
-        filled = [] if self.is_same(cc65, bin65) else self.verifier.filled(self.whole, cc65, bin65, self.is_same)
-        notes = [f"{self.line.script}: {it} has no bytes: bin65's file is filled up to it (MIGRATING: {PLACE.heading})" for it in filled]
-        if filled or self.is_same(cc65, bin65):
-            return self.same(cc65, notes)
+        if self.is_same(cc65, bin65):
+            return self.same(cc65, [])
+        filled = self.verifier.filled(self.whole, cc65, bin65, self.is_same)
+        if filled:
+            said_of = f"has no bytes: bin65's file is filled up to it (MIGRATING: {PLACE.heading})"
+            return self.same(cc65, [f"{self.line.script}: {it} {said_of}" for it in filled])
         differs = difference(cc65, bin65, self.verifier.finder(self.whole, bin65))
         causes = [*self.verifier.ported.findings, *self.left]
         if self.has_cc65:
-            causes += [it for it in signs.found_in(self.verifier) if f" {it.path}:{it.line} " in f"{differs} "]
-        return Answer([differs, *(map(said, causes) if causes else ["not explained by MIGRATING"])], OTHER)
+            shown = f"{differs} "
+            causes += [it for it in signs.found_in(self.verifier) if f" {it.path}:{it.line} " in shown]
+        return Answer([differs, *(map(said, causes) if causes else [UNEXPLAINED])], OTHER)
 
     def same(self, cc65: Linked, notes: List[str]) -> Answer:
         """Returns the report on files that are the same. If the script writes none, no image was compared."""
@@ -108,8 +112,8 @@ class Comparison:
         return Answer([f"the same image: {self.named(name)}, {len(data)} bytes" for name, data in files.items()] + notes)
 
     def is_mended(self, cc65: Linked, bin65: Linked) -> bool:
-        """Returns whether the first instruction with another opcode took the other form, and has it now. Bytes of data and of operands
-        may differ before it, since they are addresses."""
+        """Returns whether the first instruction with another opcode took the other form, and has it
+        now. Bytes of data and of operands may differ before it, since they are addresses."""
         finder, measure = self.verifier.finder(self.whole, bin65), Measure(self.verifier.ported)
         for name, at in differing(cc65, bin65):
             leaf, offset = finder.leaf(name, at) or (None, 0)
@@ -128,9 +132,11 @@ class Comparison:
 
     def given(self, image: str) -> Linked:
         """Returns the image that was named, and beside it the files that the script names."""
-        places = {it: image if it == OUTPUT else os.path.join(os.path.dirname(image), it) for it in script_files.written_by(self.script)}
-        files = {name: read_bytes(it) for name, it in places.items() if name == OUTPUT or os.path.exists(it)}
-        return Linked({name: it for name, it in files.items() if it})
+        found = {}
+        for name in script_files.written_by(self.script):
+            place = image if name == OUTPUT else os.path.join(os.path.dirname(image), name)
+            found[name] = read_bytes(place) if name == OUTPUT or os.path.exists(place) else b""
+        return Linked({name: it for name, it in found.items() if it})
 
     def ours(self) -> Union[Linked, Refused]:
         """Returns what bin65 makes of the copy, or what it says."""

@@ -32,10 +32,14 @@ def opened(text: str, statement: Statement, context: Context, following: Sequenc
     return [commented_out(text)]
 
 
-def is_given(statement: Statement, context: Context, starts: Dict[str, int], following: Sequence[Logical]) -> bool:
-    """Returns whether an .org before all that a program places is where the script begins the segment, and counts up to the end."""
-    number = value(statement.rest, context.certain)
-    if statement.label is not None or not context.is_plain or context.blocks or number is None or number != starts.get(context.segment):
+def is_given(statement: Statement, context: Context, starts: Dict[str, int],
+             following: Sequence[Logical]) -> bool:
+    """Returns whether an .org before all that a program places is where the script begins the segment,
+    and counts up to the end."""
+    number, is_plain = value(statement.rest, context.certain), context.is_plain and not context.blocks
+    if statement.label is not None or not is_plain or number is None:
+        return False
+    if number != starts.get(context.segment):
         return False
     return not any(statement_in(it.text).head in ENDS | PASSED for it in following)
 

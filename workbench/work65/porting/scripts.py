@@ -57,11 +57,12 @@ def starts_of(text: Text) -> Dict[str, int]:
     """Returns where the first segment of each area begins, if the area's start is a number."""
     blocks = blocks_of(words_of("\n".join(text.lines)))
     numbers, found = _numbers(blocks), {}
-    rows = {it.get("LOAD")[0].text: it for it in reversed(entries_of(blocks, "SEGMENTS")) if it.get("LOAD")}
+    entries = [it for it in entries_of(blocks, "SEGMENTS") if it.get("LOAD")]
+    rows = {it.get("LOAD")[0].text: it for it in reversed(entries)}
     for area in entries_of(blocks, "MEMORY"):
         row, start = rows.get(area.name.text), value_of(area.get("START"), numbers)
-        if row is not None and start is not None and not any(row.get(it) for it in ("RUN", "START", "OFFSET")):
-            found[row.name.text] = start
+        if row is not None and not any(row.get(it) for it in ("RUN", "START", "OFFSET")):
+            found.update({} if start is None else {row.name.text: start})
     return found
 
 

@@ -1,6 +1,6 @@
-"""Lines that depend on the sign of an imported constant: cc65's linker has those below 0 as numbers above 0.
+"""Lines that depend on the sign of an imported constant: for cc65's linker each is above 0.
 
-Each module that imports such a constant is linked by both linkers together with an object that defines it."""
+Each module with such an import is linked by both linkers together with an object that defines it."""
 import os
 from dataclasses import replace
 from typing import Dict, Iterator, List, Set
@@ -17,7 +17,8 @@ from work65.porting.tools import Refused
 from work65.porting.verify import Verifier
 from work65.problem import Problem
 
-NOTE = "cc65 imports a negative constant as a positive number: export it with `& $FFFF`, or include its definition"
+NOTE = ("cc65 imports a negative constant as a positive number:"
+        " export it with `& $FFFF`, or include its definition")
 
 
 def exported(verifier: Verifier) -> Dict[str, int]:
@@ -28,7 +29,8 @@ def exported(verifier: Verifier) -> Dict[str, int]:
             made = read_object(read_bytes(verifier.our_object(it)))
         except (Problem, Refused):
             continue
-        found.update({name: form for name, form in made.exports if isinstance(form, int) and not 0 <= form < LEAST})
+        values = {name: form for name, form in made.exports if isinstance(form, int)}
+        found.update({name: it for name, it in values.items() if not 0 <= it < LEAST})
     return found
 
 
@@ -46,12 +48,14 @@ def found_in(verifier: Verifier) -> Iterator[Finding]:
             needs = replace(needs, imports=[it for it in needs.imports if it not in given])
             for line in sorted(_lines(verifier, module, needs, [theirs, ours], given)):
                 text = verifier.ported.project.texts[line.path]
-                named = [it.text for it in line_of(text.lines[line.number - 1]).tokens if it.text in given]
-                yield Finding(text.path, line.number, [*named, *given][0], HABIT, NOTE)
+                tokens = line_of(text.lines[line.number - 1]).tokens
+                word = next((it.text for it in tokens if it.text in given), list(given)[0])
+                yield Finding(text.path, line.number, word, HABIT, NOTE)
 
 
-def _lines(verifier: Verifier, module: str, needs: alone.Needs, objects: List[str], given: Dict[str, int]) -> Set[Line]:
-    """Returns the lines whose bytes differ where both linkers take a module with these constants."""
+def _lines(verifier: Verifier, module: str, needs: alone.Needs, objects: List[str],
+           given: Dict[str, int]) -> Set[Line]:
+    """Returns the lines whose bytes differ if both linkers link a module with these constants."""
     source, more = (os.path.join(verifier.room, it) for it in ("constants.s", "constants"))
     with open(source, "w", encoding="latin-1") as it:
         it.writelines(f".export {name}\n{name} = {value}\n" for name, value in given.items())
@@ -64,7 +68,8 @@ def _lines(verifier: Verifier, module: str, needs: alone.Needs, objects: List[st
             bin65 = verifier.ours().link(script, [objects[1], f"{more}.bin65"], room)
         except Refused:
             continue
-        finder = Finder(verifier.ported, script, bin65, {"ours.o": LinkedModule(module, verifier.leaves(module) or [])})
+        linked = LinkedModule(module, verifier.leaves(module) or [])
+        finder = Finder(verifier.ported, script, bin65, {"ours.o": linked})
         leaves = [finder.leaf(*it) for it in differing(cc65, bin65)]
         lines = [verifier.ported.origin(it[0].lines[-1]) for it in leaves if it is not None]
         return {it for it in lines if it is not None}

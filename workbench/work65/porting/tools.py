@@ -34,13 +34,14 @@ class Refused(Exception):
 
     def of_script(self, name: str) -> "Refused":
         """Returns the same message with a script's own name."""
-        return Refused([re.sub(r"(?<!\S)script(?=[(:])", lambda _: name, it, count=1) for it in self.lines])
+        own = re.compile(r"(?<!\S)script(?=[(:])")
+        return Refused([own.sub(lambda _: name, it, count=1) for it in self.lines])
 
 
 @dataclass(frozen=True)
 class Options:
-    """The options that a Makefile passes to ca65, the symbols that it passes to ld65, how long ca65 may take for a
-    source, and whether no other -D will be given."""
+    """The options that a Makefile passes to ca65, the symbols that it passes to ld65, how long ca65 may
+    take for a source, and whether no other -D will be given."""
 
     target: Optional[str] = None
     include: Sequence[str] = ()
@@ -73,14 +74,15 @@ def missing() -> Optional[str]:
 
 
 def ran(words: Sequence[str], folder: str, seconds: int = 0) -> None:
-    """Runs a tool, some within a limited time and memory: ca65 expands some sources without an end. If it fails, raises its message."""
+    """Runs a tool, some within a limited time and memory: ca65 expands some sources without an end.
+    If it fails, raises its message."""
     def limit() -> None:
         resource.setrlimit(resource.RLIMIT_CPU, (seconds, seconds))
         resource.setrlimit(resource.RLIMIT_AS, (MEMORY, MEMORY))
 
     try:
-        tool = subprocess.Popen(words, cwd=folder, stdin=subprocess.DEVNULL, stdout=subprocess.PIPE, stderr=subprocess.STDOUT,
-                                preexec_fn=limit if seconds else None)
+        tool = subprocess.Popen(words, cwd=folder, stdin=subprocess.DEVNULL, stdout=subprocess.PIPE,
+                                stderr=subprocess.STDOUT, preexec_fn=limit if seconds else None)
     except OSError as error:
         raise Problem(f"{words[0]} can't be run: {error.strerror}") from error
     with tool:
@@ -192,7 +194,7 @@ class Ours:
 
 
 def in_decimal(number: str) -> str:
-    """Returns a number that C writes otherwise (0x12, 012) in decimal, and any other text as it is."""
+    """Returns a number as C writes it (0x12, 012) in decimal, and any other text as it is."""
     found = C_NUMBER.fullmatch(number)
     return number if found is None else str(int(found[1], 16) if found[1] else int(number, 8))
 

@@ -19,7 +19,7 @@ SHOWN = 3
 
 @dataclass
 class Verdict:
-    """The copy with its files as they were compared, what differs or is refused, and what was compared."""
+    """The copy, its files as they were compared, what differs or is refused, and what was compared."""
 
     ported: Ported
     files: copying.Files
@@ -44,7 +44,8 @@ class ScriptLink:
 
 
 def compared(program: Program, options: Options, room: str, port: Port, folder: str) -> Verdict:
-    """Compares the copy as it lies in its folder: the program by each script of the tree with which cc65 links it, and if there is none, each source alone."""
+    """Compares the copy as it lies in its folder: the program by each script of the tree with which
+    cc65 links it, and if there is none, each source alone."""
     verifier = Verifier(program, options, room, port, folder)
     verifier.put()
     judge = Judge(verifier)
@@ -60,7 +61,8 @@ def compared(program: Program, options: Options, room: str, port: Port, folder: 
         lines = lines or [it.where for it in judge.links if it.where]
         verifier.ported.say([*verifier.ported.project.beyond, *signs.found_in(verifier)])
     debugs = [*(it.debug for it in judge.links), *(it.debug for it in verifier.outcomes.values())]
-    return Verdict(verifier.ported, verifier.files, lines, last + said_of_lines(verifier.ported, verifier.unmeasured(debugs)))
+    last += said_of_lines(verifier.ported, verifier.unmeasured(debugs))
+    return Verdict(verifier.ported, verifier.files, lines, last)
 
 
 def said_of_lines(ported: Ported, lines: Sequence[Line]) -> str:
@@ -68,7 +70,8 @@ def said_of_lines(ported: Ported, lines: Sequence[Line]) -> str:
     if not lines:
         return ""
     more = f" and {len(lines) - 1} more lines" if len(lines) > 1 else ""
-    return f"; not assembled here, so of unknown size: {ported.project.texts[lines[0].path].path}:{lines[0].number}{more}"
+    place = f"{ported.project.texts[lines[0].path].path}:{lines[0].number}"
+    return f"; not assembled here, so of unknown size: {place}{more}"
 
 
 class Judge:

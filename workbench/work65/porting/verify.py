@@ -54,7 +54,8 @@ class Library:
 
 @dataclass(frozen=True)
 class Whole:
-    """A program: the name of its script, the texts of that for both linkers, its sources in the order of the link, and its libraries."""
+    """A program: the name of its script, the texts of that for both linkers, its sources in the order
+    of the link, and its libraries."""
 
     script: str
     theirs: str
@@ -70,8 +71,10 @@ class Whole:
 class Verifier:
     """Compares a tree with its copy, and mends the copy."""
 
-    def __init__(self, program: Program, options: Options, room: str, port: Port, folder: str = "") -> None:
-        self.program, self.options, self.room, self.port, self.folder = program, options, room, port, folder
+    def __init__(self, program: Program, options: Options, room: str, port: Port,
+                 folder: str = "") -> None:
+        self.program, self.options, self.room = program, options, room
+        self.port, self.folder = port, folder
         self.files: copying.Files = {}
         self.theirs = Theirs(options)
         self.made: Dict[str, Union[str, Refused]] = {}
@@ -156,8 +159,10 @@ class Verifier:
         except Refused as why:
             raise why.of_script(whole.script) from None
 
-    def filled(self, whole: Whole, cc65: Linked, bin65: Linked, is_equal: Callable[[Linked, Linked], bool]) -> List[str]:
-        """Returns the rows that nobody uses up to which cc65 alone fills its files, if these differ by nothing else."""
+    def filled(self, whole: Whole, cc65: Linked, bin65: Linked,
+               is_equal: Callable[[Linked, Linked], bool]) -> List[str]:
+        """Returns the unused rows up to which cc65 alone fills its files, if these differ by nothing
+        else."""
         found = filling.filled(whole.ours, cc65, bin65)
         try:
             again = None if found is None else self.linked_by_bin65(replace(whole, ours=found[0]))
@@ -279,11 +284,11 @@ class Verifier:
         return sizes == {3} and measure.put(line, Pair(3, Leaf("", 0, 2, (line,))))
 
     def unmeasured(self, debugs: Iterable[str]) -> List[Line]:
-        """Returns the lines with an operand of a size that isn't written there, if no debug file has them."""
-        met = {line for debug in debugs for it in of_debug_file(debug, self.key) for line in it.lines}
-        project = self.ported.project
-        paths = sorted(project.outputs.keys() & project.texts.keys())
-        lines = [(Line(path, it.number), it.text) for path in dict.fromkeys(self.ported.names[it] for it in paths) for it in project.logical(path)]
+        """Returns the lines with an operand whose size isn't written there, if no debug file has them."""
+        leaves = (leaf for it in debugs for leaf in of_debug_file(it, self.key))
+        met, project = {line for it in leaves for line in it.lines}, self.ported.project
+        paths = dict.fromkeys(self.ported.names[it] for it in sorted(project.outputs))
+        lines = [(Line(path, it.number), it.text) for path in paths for it in project.logical(path)]
         return [line for line, text in lines if line not in met and has_open_size(text)]
 
     def measured(self, modules: Set[str]) -> Measure:

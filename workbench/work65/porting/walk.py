@@ -28,6 +28,8 @@ from work65.porting.rewriter import UNLABELLED, Rewriter
 DEEPEST = 256
 BANK = re.compile(r"\.bank\s*\([^()]*\)", re.I)
 ASKED = frozenset((".if", ".elseif"))
+END = "cc65 takes a byte $FF as the end of the file: write it as a number"
+UNSURE = "whether it is reached can't be determined: write the call out"
 # Features for which each line is examined.
 ALL_LINES = frozenset(("bracket_as_indirect", "force_range"))
 
@@ -66,7 +68,7 @@ class Walk:
         self.state.rows.append(row)
         self.state.here, self.rewriter.original = at, text
         if "\xff" in text:
-            self.state.cannot(number, Unportable("$FF", "form", "cc65 takes a byte $FF as the end of the file: write it as a number"))
+            self.state.cannot(number, Unportable("$FF", "form", END))
         if self.context.is_dead and not self.goes_on(text):
             self.pass_by(row, text)
             return at + 1
@@ -164,7 +166,8 @@ class Walk:
         row.lines = lines if self.state.expanding else [commented_out(text), *merged(lines), *self.read_late()]
 
     def read_late(self) -> List[str]:
-        """Returns the .include lines of an expansion: cc65 reads these files after its other lines, the last one first."""
+        """Returns the .include lines of an expansion: cc65 reads the files after its other lines, the
+        last one first."""
         waiting, self.state.late = self.state.late[::-1], []
         return [line for it in waiting for line in self.include(it, self.names.parsed(it))]
 
@@ -281,7 +284,7 @@ class Walk:
             return [text]
         if self.state.expanding:
             if any(it.is_live is None for it in self.context.blocks[self.state.blocks :]):
-                raise Unportable(".include", "include-late", "whether it is reached can't be determined: write the call out")
+                raise Unportable(".include", "include-late", UNSURE)
             self.state.late.append(text)
             return []
         token = statement.rest[0]

@@ -1,7 +1,7 @@
 """Checks the pages for those who verify or maintain bin65: calls, clauses, modules of definitions, names, files and counts that they cite
 exist, claims are short, and so are paragraphs, also those of pages for users.
 
-A row of PROVED has a claim, its calls, their clauses, and the modules of specs/ that define the clauses' terms, under a heading with the
+A row of CLAIMS has a claim, its calls, their clauses, and the modules of specs/ that define the clauses' terms, under a heading with the
 crate's name. A clause without a name is cited by a text that it contains, in parentheses; 'law' cites all clauses of a law; 'same' repeats
 the calls of the row before."""
 import functools
@@ -12,7 +12,7 @@ import re
 CLAIM_WORDS = 25
 PARAGRAPH = 600
 # Pages whose citations are checked, and others of which only the paragraphs are.
-PAGES = ("PROVED", "ARCHITECTURE", "DECISIONS", "THEOREM", "one-program")
+PAGES = ("PROVED", "CLAIMS", "TRUST", "ARCHITECTURE", "DECISIONS", "THEOREM", "one-program")
 OTHERS = ("README", "CONTRIBUTING", "CHANGELOG", *(f"docs/{it}" for it in ("LANGUAGE", "TUTORIAL", "DEBUGGING", "RELEASE", "SCRIPTS", "EDITORS", "MESSAGES", "FORMATS")))
 
 CLAUSE = re.compile(r"\b(?:requires|ensures)\s*(\w*)\s*\{")
@@ -121,7 +121,7 @@ def is_near(root, crate, module, text, files):
     return any((crate, module) in uses(module_file(root, *it)) for it in used if defines(root, *it, text))
 
 
-# ---- The rows of PROVED.
+# ---- The rows of CLAIMS.
 
 
 def rows(text):
@@ -228,11 +228,11 @@ def why_page(root, page):
 
 
 def looked_at(root):
-    """Yields each row of PROVED and each page, with the reason why it is wrong, or None."""
-    found = list(rows(without_code(read(f"{root}/docs/PROVED.md"))))
+    """Yields each row of CLAIMS and each page, with the reason why it is wrong, or None."""
+    found = list(rows(without_code(read(f"{root}/docs/CLAIMS.md"))))
     crates = {it: Crate(root, it) for it in {crate for crate, _ in found}}
     for crate, cells in found:
-        yield f"PROVED, {crate}: {cells[0]}", why_row(root, crates, crate, cells)
+        yield f"CLAIMS, {crate}: {cells[0]}", why_row(root, crates, crate, cells)
     for page in PAGES:
         yield page, why_page(root, page)
     for page in OTHERS:

@@ -168,6 +168,10 @@ def real(checks):
     shared = image & reach(it, ("tools65", "OneProgram", "IsObjectOf"), ("whole65", "Equality", "IsLinkedTo"))
     share = f"{100 * lines(it, shared) // lines(it, image)} % of the lines"
     checks[f"docs/TRUST.md states {share}"] = share in trust
+    text = " ".join(" ".join(it.file(path).items[name][1]) for path, name in [*items, it.found("tools65", "OneProgram", "OneProgramLaw")])
+    for page in ("THEOREM", "PROVED"):
+        for quote in re.findall(r"^```\n((?:RunHasOutcome|AreObjectsOf) .*?)^```$", pages.read(f"docs/{page}.md"), re.M | re.S):
+            checks[f"docs/{page}.md quotes {quote.split()[0]}"] = " ".join(quote.split()) in " ".join(text.split())
     order = re.search(r"^## Reading order$(.*?)^## ", proved, re.M | re.S)[1]
     named = {(crate, module) for crate, of in re.findall(r"(\w+65) ((?:`\w+`(?:, )?)+)", order) for module in re.findall(r"\w+", of)}
     there = {(path.split("/")[1], path.split("/")[-1][:-5]) for path, _ in items if path.endswith(".antt")}

@@ -2,31 +2,27 @@
 """Writes into one file the definitions that the clauses `done`, `fits`, `failed` and `one_program` of run, run_line and both functions with
 streams reach, and no others, without imports. A module comes after those that it uses, and the four contracts come last, so each name is
 defined above its uses, except for definitions that use each other. A type of the code is shown as it is declared or, if it has one, as its model.
-
 usage: audit.py [FILE [ROOT]]    (default: audit-out/statement.txt). The last lines count what was written, without comments.
 Names are resolved token by token, by the imports of their file; std's aren't followed. One that is imported, used and not defined fails."""
 import collections
 import functools
+import itertools
 import os
 import re
 import sys
 
 ROOT = os.path.dirname(os.path.dirname(os.path.realpath(__file__)))
 RUNNING = "crates/tools65/src/running.rt"
-CALL = re.compile(r"(?:^///.*\n)*^pub fn run(?:_line)?(?:_with_streams)?<(?:.*\n)*?(?=\{$)", re.M)
-CLAUSE = re.compile(r"    ensures (?:done|fits|failed|one_program) \{(?:.*\n)*?(?=    ensures|\Z)")
 HEAD = re.compile(r"((?:abbrev |unfoldable |pub |record |data )*)([^\s:({]+)(?= :| [({]|$)")
 WORD = re.compile(r"[^\W\d][\w-]*(?:\.[^\W\d][\w-]*)*|[^\w\s(){},;:.\[\]]+")
 USE = re.compile(r"^ *(?:pub |ghost )*use Rattle\.(\w+)\.specs\.([\w.]+?)(?:\.\{([^}]*)\}|(?: as (\w+))?)(?:;|$)", re.M)
 CODE_USE = re.compile(r"^(?:pub )?use ((?:\w+::)+)(\w+|\{[^;]*\});", re.M)
 TYPE = re.compile(r"((?:^ *///.*\n)*)(?:^#\[.*\n)*(^pub (?:struct|enum) (\w+)[^;{]*(?:;|\{\n(?:.*\n)*?\})|^ *pub const (\w+): [^=]*=[^;]*;)", re.M)
 MODEL = r"(?s)^impl(?:<[^\n]*>)? Model for %s\b(?:(?!\n\}).)*?    ghost Value = \{ (.*?) \};"
-BOUND = re.compile(r"[({]((?:\w+ )+):|λ ((?:\w+ )*\w+)\.")
 
 
 class File:
     """A module of definitions or a file of code: what it declares, as (comment, lines) by name, and what its imports mean."""
-
     def __init__(self, text, is_code):
         self.items, self.owners, self.names, self.text = {}, {}, {}, text
         for crate, module, names, alias in USE.findall(text):
@@ -43,8 +39,8 @@ class File:
             comment = [it for it in lines if it.startswith("--")]
             if lines := lines[len(comment):]:
                 self.items[name := HEAD.match(lines[0])[2]] = (comment, lines)
-                fields = [it.split(" : ")[0].split() for it in lines[1:] if re.match(r"  [^ -]", it)]
-                self.owners.update((word, name) for it in fields for word in it if " data " in f" {lines[0]}")
+                fields = [it for it in lines[1:] if re.match(r"  [^ -]", it) and " data " in f" {lines[0]}"]
+                self.owners.update((word, name) for it in fields for word in it.split(" : ")[0].split())
         self.owners.update((name, name) for name in self.items)
 
 
@@ -69,8 +65,7 @@ class Repository:
         if file := self.file(path := f"crates/{crate}/specs/{module.replace('.', '/')}.antt"):
             if name in file.owners or name in file.names:
                 return (path, file.owners[name]) if name in file.owners else self.found(*file.names[name])
-        self.lost.add(f"{crate} {module} has no {name}")
-        return None
+        return self.lost.add(f"{crate} {module} has no {name}")
 
     def type_of(self, path, name):
         if not (file := self.file(path)) or name in file.items or name not in file.outside:
@@ -90,54 +85,59 @@ class Repository:
         return self.found(*named) if named else self.type_of(path, front)
 
     def uses(self, path, lines):
+        """Returns what lines of a file use, as (path, name), by the token."""
         found, names = {}, self.file(path).names
         for clause in re.split(r"\n(?! )", "\n".join(it for it in lines if not it.lstrip().startswith(("--", "//")))):
-            is_whole = path.endswith(".rt") or ((mark := HEAD.match(clause)) and mark[1])
-            head, _, body = ("", "", clause) if is_whole else clause.partition(" =")
-            bound = {word for it in BOUND.findall(clause) for word in " ".join(it).split()}
+            is_head = path.endswith(".rt") or ((mark := HEAD.match(clause)) and mark[1])
+            head, body = ("", clause) if is_head else clause.partition(" =")[::2]
+            bound = {word for it in re.findall(r"[({]((?:\w+ )+):|λ ((?:\w+ )*\w+)\.", clause) for word in " ".join(it).split()}
             # (texts and names of fields are no uses; on the left a constructor is one, and a variable hides a function of its name)
             body = re.sub(r"((?:^  |[{;])\s*(?:pub )?)[^\W\d]\w*(?= [:=] |: )", r"\1", re.sub(r'"[^"\n]*"', "", body), flags=re.M)
             left = {it: to for it in WORD.findall(head)[1:] if (to := self.meaning(path, it))}
-            heads = {it: self.file(file).items[name][1][0] for it, (file, name) in left.items() if name == names.get(it, ("", "", it))[2]}
-            bound |= {it for it, line in heads.items() if re.match("(abbrev|unfoldable) ", line)}
+            firsts = {it: self.file(file).items[name][1][0] for it, (file, name) in left.items() if name == names.get(it, (it,))[-1]}
+            bound |= {it for it, line in firsts.items() if re.match("(abbrev|unfoldable) ", line)}
             used = [it for it in [*left, *WORD.findall(body)] if it.split(".")[0] not in bound]
-            found.update((to, None) for it in used if (to := self.meaning(path, it)))
-        return list(found)
+            found.update((it, to) for it in used if (to := self.meaning(path, it)))
+        return found
 
 
 def statement(it):
-    """Returns the text of the four contracts, and what they reach, as (path, name), in the order of writing, with what each uses."""
-    contracts = "\n".join(CALL.findall(it.file(RUNNING).text))
-    first = it.uses(RUNNING, CLAUSE.findall(contracts))
-    waiting, uses, units = list(first), {}, collections.defaultdict(list)
+    """Returns the text of the contracts, what they reach in the order of writing, and what each of these uses. A module is one piece."""
+    call = r"(?:^///.*\n)*^pub fn run(?:_line)?(?:_with_streams)?<(?:.*\n)*?(?=\{$)"
+    contracts = "\n".join(re.findall(call, it.file(RUNNING).text, re.M))
+    first = it.uses(RUNNING, re.findall(r"    ensures (?:done|fits|failed|one_program) \{(?:.*\n)*?(?=    ensures|\Z)", contracts))
+    waiting, uses, units = [*first.values()], {}, collections.defaultdict(list)
     while waiting:
         if (item := waiting.pop()) not in uses:
-            uses[item] = [to for to in it.uses(item[0], it.file(item[0]).items[item[1]][1]) if to != item]
-            waiting += uses[item]
-    # (a module is written in one piece, and so is a type of the code)
+            uses[item] = {token: to for token, to in it.uses(item[0], it.file(item[0]).items[item[1]][1]).items() if to != item}
+            waiting += uses[item].values()
     unit_of = {item: item[0] if item[0].endswith(".antt") else item for item in uses}
     for item in sorted(uses, key=lambda x: list(it.file(x[0]).items).index(x[1])):
         units[unit_of[item]].append(item)
     def visit(unit):
         own = units.pop(unit, [])
-        return [x for item in own for to in uses[item] for x in visit(unit_of[to])] + own
-    return contracts, [x for item in first for x in visit(unit_of[item])], uses
+        return [x for item in own for to in uses[item].values() for x in visit(unit_of[to])] + own
+    return contracts, [x for item in first.values() for x in visit(unit_of[item])], uses
 
 
 def counted(it, items):
-    """Returns how many definitions, modules, types and lines there are."""
     these, types = ([x for x in items if x[0].endswith(kind)] for kind in (".antt", ".rt"))
     a, b = (sum(bool(x) and not re.match(r" *(--|//)", x) for path, name in of for x in it.file(path).items[name][1]) for of in (these, types))
     return f"{len(these):,} definitions in {len({x[0] for x in these})} modules, {a:,} lines; {len(types)} types of the code, {b:,} lines"
 
 
 def main(target=f"{ROOT}/audit-out/statement.txt", root=ROOT):
-    (contracts, items, _), lines, before = statement(it := Repository(root)), [__doc__.split("\n\n")[0]], None
-    for path, name in items:
-        title = f"-- ======== {path.split('/')[1]}, {path.split('/', 3)[3]}: {re.match('(?:--|//!)? ?(.*)', it.file(path).text)[1]}"
-        lines += [*([""] if path == before else ["", title, ""]), *it.file(path).items[name][0], *it.file(path).items[name][1]]
-        before = path
-    crates = {path.split("/")[1]: [x for x in items if x[0].split("/")[1] == path.split("/")[1]] for path, _ in items}
+    contracts, items, uses = statement(it := Repository(root))
+    lines, crates, times = [__doc__.split("\nusage")[0]], collections.defaultdict(list), collections.Counter(name for _, name in items)
+    for path, group in itertools.groupby(items, lambda x: x[0]):
+        own, file, (_, crate, _, place) = list(group), it.file(path), path.split("/", 3)
+        # (constructors and variants need no note: they are in the types that are shown)
+        used = {(token, file.names.get(token, token.split("."))[-1], *to) for item in own for token, to in uses[item].items() if to[0] != path}
+        notes = [f"{token} is {'that' if token == name else name} of {to.split('/')[1]}, {to.split('/', 3)[3]}" for token, real, to, name in sorted(used)
+                 if it.file(to).owners.get(real, name if to.endswith(".rt") else real) == real and (token != name or times[name] > 1)]
+        lines += ["", f"-- ======== {crate}, {place}: {re.match('(?:--|//!)? ?(.*)', file.text)[1]}", *(f"-- Here {x}." for x in notes)]
+        lines += [x for _, name in own for x in ("", *file.items[name][0], *file.items[name][1])]
+        crates[crate] += own
     ends = [f"{crate}: {counted(it, of)}" for crate, of in [*crates.items(), ("all", items)]]
     os.makedirs(os.path.dirname(os.path.abspath(target)), exist_ok=True)
     with open(target, "w", encoding="utf-8") as out:

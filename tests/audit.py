@@ -130,6 +130,7 @@ def made_up(checks):
         checks["made up: the counts"] = status == 0 and said[-1] == f"all: {COUNTS}" and text.endswith(f"-- all: {COUNTS}\n")
         checks["made up: counts by crate"] = [it.split(":")[0] for it in said] == ["low65", "tools65", "all"]
         checks["made up: a model in place of a type"] = "pub type Boxed -- by its model: Tree" in text and "hidden" not in text
+        checks["made up: what renamed names mean"] = "Command.antt: Commands.\n-- Here trees.Tree is Tree of low65, Trees.antt.\n-- Here weight is size of low65, Trees.antt.\n" in text
         checks["made up: no imports, comments, the contract"] = not re.search(r"^use ", text, re.M) and "-- a tree\n" in text and "ensures later" in text
         lost = FILES["crates/low65/specs/Trees.antt"].replace("size", "extent")
         status, said, _ = run(root, {"crates/low65/specs/Trees.antt": lost})
@@ -145,7 +146,7 @@ def reach(it, *names):
     while waiting:
         if (item := waiting.pop()) not in found:
             found.add(item)
-            waiting += it.uses(item[0], it.file(item[0]).items[item[1]][1])
+            waiting += it.uses(item[0], it.file(item[0]).items[item[1]][1]).values()
     return found
 
 
@@ -160,8 +161,8 @@ def real(checks):
     status, said, _ = run(pages.ROOT)
     checks["each name that is used is defined"] = status == 0
     place = {item: at for at, item in enumerate(items)}
-    early = [(item, to) for item in items for to in uses[item] if place[to] > place[item]]
-    checks["each name is defined above its uses"] = all(item in uses[to] for item, to in early) and len(place) == len(items)
+    early = [(item, to) for item in items for to in uses[item].values() if place[to] > place[item]]
+    checks["each name is defined above its uses"] = all(item in uses[to].values() for item, to in early) and len(place) == len(items)
     trust, proved = pages.read("docs/TRUST.md"), pages.read("docs/PROVED.md")
     checks[f"docs/TRUST.md states {said[-1]}"] = STATED.findall(trust) == [said[-1].partition(": ")[2]]
     image = reach(it, ("tools65", "OneProgram", "HasImage"))

@@ -131,10 +131,10 @@ def main(target=f"{ROOT}/audit-out/statement.txt", root=ROOT):
     lines, crates, times = [__doc__.split("\nusage")[0]], collections.defaultdict(list), collections.Counter(name for _, name in items)
     for path, group in itertools.groupby(items, lambda x: x[0]):
         own, file, (_, crate, _, place) = list(group), it.file(path), path.split("/", 3)
-        # (constructors and variants need no note: they are in the types that are shown)
         used = {(token, file.names.get(token, token.split("."))[-1], *to) for item in own for token, to in uses[item].items() if to[0] != path}
+        used = [(*x, name if to.endswith(".rt") else real) for x in sorted(used) for _, real, to, name in [x]]
         notes = [f"{token} is {'that' if token == name else name} of {to[7:].replace('/specs/', ', ').replace('/src/', ', ')}"
-                 for token, real, to, name in sorted(used) if it.file(to).owners.get(real, name if to.endswith(".rt") else real) == real and (token != name or times[name] > 1)]
+                 for token, real, to, name, other in used if it.file(to).owners.get(real, other) == real and (token != name or times[name] > 1)]
         lines += ["", f"-- ======== {crate}, {place}: {re.match('(?:--|//!)? ?(.*)', file.text)[1]}", *(f"-- Here {x}." for x in notes)]
         lines += [x for _, name in own for x in ("", *file.items[name][0], *file.items[name][1])]
         crates[crate] += own

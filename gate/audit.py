@@ -38,7 +38,7 @@ class File:
             lines = [it for it in part.strip("\n").split("\n") if not re.match(r"(pub )?use |pub mod |infix", it)]
             comment = [it for it in lines if it.startswith("--")]
             if lines := lines[len(comment):]:
-                self.items[name := HEAD.match(lines[0])[2]] = (comment, lines)
+                self.items[(name := HEAD.match(lines[0])[2])] = (comment, lines)
                 fields = [it for it in lines[1:] if re.match(r"  [^ -]", it) and " data " in f" {lines[0]}"]
                 self.owners.update((word, name) for it in fields for word in it.split(" : ")[0].split())
         self.owners.update((name, name) for name in self.items)

@@ -168,6 +168,10 @@ def real(checks):
     checks["each name is defined above its uses"] = all(item in uses[to].values() for item, to in early) and len(place) == len(items)
     trust, proved = pages.read("docs/TRUST.md"), pages.read("docs/PROVED.md")
     checks[f"docs/TRUST.md states {said[-1]}"] = STATED.findall(trust) == [said[-1].partition(": ")[2]]
+    # (there is a log only after `make program`, and it has these lines only at its end)
+    log = "crates/bin65/out/prove.log"
+    if assumed := re.findall("^axioms .*", pages.read(log) if os.path.exists(f"{pages.ROOT}/{log}") else "", re.M):
+        checks["docs/TRUST.md has the axioms of the program's proof"] = assumed == re.findall("^axioms .*", trust, re.M)
     image = reach(it, ("tools65", "OneProgram", "HasImage"))
     shared = image & reach(it, ("tools65", "OneProgram", "IsObjectOf"), ("whole65", "Equality", "IsLinkedTo"))
     share = f"{100 * lines(it, shared) // lines(it, image)} % of the lines"

@@ -3,7 +3,7 @@
 PREFIX ?= /usr/local
 PROGRAM := crates/bin65/out/bin65
 
-.PHONY: try example test program mutants install uninstall release bench clean
+.PHONY: try example test program mutants audit install uninstall release bench clean
 
 # Builds the program after every function below it is proved; does nothing if no source changed.
 program:
@@ -30,6 +30,12 @@ test:
 mutants:
 	@python3 gate/mutants.py $(CRATE)
 
+# Writes audit-out/statement.txt: the definitions that the clauses of run and its three variants reach, in the order in which they can be
+# read, and then these contracts. Needs no program.
+audit:
+	@python3 gate/audit.py
+	@echo 'audit-out/statement.txt has them.'
+
 bench: program
 	@python3 bench/run.py $(abspath $(PROGRAM))
 
@@ -46,4 +52,4 @@ release: program
 	@python3 gate/release.py pack $(abspath $(PROGRAM)) release
 
 clean:
-	rm -rf crates/*/out example/out bench-out release
+	rm -rf crates/*/out example/out audit-out bench-out release

@@ -1,7 +1,7 @@
 """Checks the pages for those who verify or maintain bin65: calls, clauses, modules of definitions, names and files that they
 cite exist.
 
-A row of PROVED has a claim, its calls, their clauses, and the modules of specs/ that define the clauses' terms, under a
+A row of CLAIMS has a claim, its calls, their clauses, and the modules of specs/ that define the clauses' terms, under a
 heading with the crate's name. A clause without a name is cited by a text that it contains, in parentheses; 'law' cites all
 clauses of a law; 'same' repeats the calls of the row before."""
 import functools
@@ -11,7 +11,7 @@ import re
 
 import reader
 
-PAGES = ("PROVED", "ARCHITECTURE", "DECISIONS", "THEOREM", "one-program")
+PAGES = ("PROVED", "CLAIMS", "TRUST", "ARCHITECTURE", "DECISIONS", "THEOREM", "one-program")
 
 MODULE = re.compile(r"(?:(\w+65) )?`((?:Internal/)?[A-Z]\w*)`")
 CITED = re.compile(r"\b(\w+65) ((?:`(?:Internal/)?[A-Z]\w*`(?:, | and )?)+)")
@@ -141,7 +141,7 @@ def why_page(root, page):
 
 
 def looked_at(root):
-    """Yields each row of PROVED and each page, with the reason why it is wrong, or None."""
-    for crate, cells in rows(without_code(read(f"{root}/docs/PROVED.md"))):
-        yield f"PROVED, {crate}: {cells[0]}", why_row(root, crate, cells)
+    """Yields each row of CLAIMS and each page, with the reason why it is wrong, or None."""
+    for crate, cells in rows(without_code(read(f"{root}/docs/CLAIMS.md"))):
+        yield f"CLAIMS, {crate}: {cells[0]}", why_row(root, crate, cells)
     yield from ((page, why_page(root, page)) for page in PAGES)

@@ -32,6 +32,7 @@ TEXTS = [
     ("the tools of the gate", ["python3", "tests/gate.py"]),
     ("the renaming tool", ["python3", "tests/rename.py"]),
     ("links of pages", ["python3", "tests/links.py"]),
+    ("what the statement reaches", ["python3", "tests/audit.py"]),
     ("types of work65", ["python3", "tests/workbench_types.py"]),
     ("units of work65", ["python3", "tests/workbench_units.py"]),
     ("completions", ["python3", "tests/completion.py"]),

@@ -1,9 +1,9 @@
 #!/usr/bin/env python3
 """Evaluates programs of one or several modules as one program, and compares the images with those of separate assembly and linking.
 
-The expected image is computed from the sources alone (whole/): for each segment one list of the statements of all modules, the address of
+The expected image is computed from the sources alone (reference/): for each segment one list of the statements of all modules, the address of
 each statement, and the value of each expression from its tree. No object is made; only the size of a statement depends on what its own
-module knows at its line. The programs are the cases of tests/cases that link sources which whole/sources.py can parse, and random ones.
+module knows at its line. The programs are the cases of tests/cases that link sources which reference/sources.py can parse, and random ones.
 
 usage: one_program.py BIN65 [SEED]. Both must make the same files, or both reject the program; in cases/programs.txt, whose cases have at
 most one fault and of which none may be skipped, for the same reason. The last line is 'N passed, M failed'."""

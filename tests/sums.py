@@ -1,6 +1,6 @@
 #!/usr/bin/env python3
 """Tests random scripts whose areas have sums as start and size: the program's placement of areas and rows, read from its map, is compared with
-that of the model of scripts (whole/scripts.py), and so is the reason of a rejection.
+that of the model of scripts (reference/scripts.py), and so is the reason of a rejection.
 
 usage: sums.py BIN65 [SEED [SCRIPTS]]. The last line is 'N passed, M failed'."""
 

@@ -30,7 +30,7 @@ import naming
 
 BY_IMPORT = ("definition", "lemma", "type", "function", "variant", "spec-module", "proof-module", "source-module")
 BY_POSITION = ("method", "field", "label", "variable", "word")
-PAGES = ("PROVED", "ARCHITECTURE", "DECISIONS", "THEOREM", "one-program")
+PAGES = ("PROVED", "CLAIMS", "TRUST", "ARCHITECTURE", "DECISIONS", "THEOREM", "one-program")
 PRELUDE = "/opt/rattle/rattle/std/specs/Prelude.antt"
 MAKER = "docs/tables/make_instructions.py"
 # Where the toolchain and the proofs have a module's or a type's name again.

@@ -153,7 +153,7 @@ def pairs(tries, folder):
 def searched(tries, folder):
     """Tests that the page's search finds what `check` finds."""
     command = re.search(r"```sh\n(grep.*?)```", pages.read("docs/MIGRATING.md"), re.S)[1]
-    unseen = ("cheap-twice", "incbin-file", "include-file", "zero-page-import", "in-scope", "processor", "macro-call", "form", "undocumented", "text", "quote", "colons")
+    unseen = ("cheap-twice", "include-late", "incbin-file", "include-file", "zero-page-import", "in-scope", "processor", "macro-call", "form", "undocumented", "text", "quote", "colons")
     for name, text in CASES.items():
         if not name.startswith("script-") and name not in unseen:
             pages.put(f"{folder}/a.s", text.replace(" <", "") + "\n")

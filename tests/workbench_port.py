@@ -426,6 +426,16 @@ def other_names(tries):
             tries.check(f"lines of another -D: {names}", (ran.returncode, ran.stdout) == (0, f"{ALONE.rstrip()}{more}\n"), ran)
 
 
+def beside(tries):
+    """A file that lies in the copy's folder takes part in the comparison."""
+    with tempfile.TemporaryDirectory() as folder:
+        for name, text in (("p/src/a.s", '.include "d.inc"\n .byte D\n'), ("p/i/d.inc", "D = 4\n"), ("out/src/d.inc", "D = 9\n")):
+            os.makedirs(os.path.dirname(f"{folder}/{name}"), exist_ok=True)
+            pages.put(f"{folder}/{name}", text)
+        ran = tries.inside("port", "p", "-I", "p/i", "-o", "out", folder=folder)
+        tries.check("a file beside the copy", ran.returncode == 1 and "(cc65 and bin65: 04 and 09)" in ran.stdout, ran)
+
+
 def ended(tries):
     """A run that is ended leaves no file."""
     with tempfile.TemporaryDirectory() as folder:
@@ -558,6 +568,7 @@ def main():
         mixed(tries)
         ended(tries)
         other_names(tries)
+        beside(tries)
         several_scripts(tries)
         options(tries)
     examples(tries)

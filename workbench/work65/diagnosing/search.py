@@ -250,10 +250,9 @@ class Search:
         kind = message.text.split(":")[0]
         if kind in FOLLOWING and kind != "undefined name":
             wanted |= {it.text for it in line_of(fault.line).tokens if it.kind in (Kind.NAME, Kind.CHEAP)}
-            wanted -= recovery.defined_by(statement_in(fault.line))
+            wanted -= recovery.defined_by(statement_in(fault.line)) | self.defined()
         if kind.endswith(" twice"):
             return ""
-        wanted -= self.defined()
         line = message.line or 0
         places = {place for name in wanted for place in self.names.get(name, ()) if place != (message.file, line)}
         if kind not in ANYWHERE:

@@ -75,7 +75,7 @@ def _named(text: str) -> "tuple[List[str], frozenset[str]]":
 def script_of(needs: Needs, at: Placement) -> str:
     """Returns a script that links an object alone. Segments that don't fit together have an area each."""
     is_large = sum(needs.segments.values()) > ROOM
-    parts = [f"M{number}" for number in range(len(needs.segments) if is_large else 1)]
+    parts = [f"M{number}" for number in range(len(needs.segments))] if is_large else ["M"]
     end = 0x10000 if is_large else 0xFFF0
     places = [("Z", at.zero_page, 0x100, '""'), ("R", at.room, 0xFFF0, '""')]
     places += [(it, at.code, end, "%O") for it in parts]

@@ -1,7 +1,7 @@
 """Writes objects and libraries of bin65 (docs/FORMATS.md)."""
 import re
 import struct
-from typing import Dict, Iterable, List, NamedTuple, Optional, Sequence, Tuple, Union
+from typing import Dict, Iterable, Literal, NamedTuple, Optional, Sequence, Tuple, Union
 
 from work65.formats.objects import Fill, Form, Import, Operation, Place
 from work65.problem import Problem
@@ -10,7 +10,10 @@ from work65.translating.forms import MOST_NODES, node_count
 
 HEAD, LIBRARY_HEAD = b"R65o\x02", b"R65l\x01"
 FILE, IMPORT, SECTION, LITERAL, FILL, VALUE, EXPORT, ASSERT, END = 9, 1, 2, 3, 4, 5, 6, 7, 8
-MOST_IN_RECORD, MOST_IN_SECTION, GREATEST_EXPONENT = 4096, 16_777_216, 15
+MOST_IN_RECORD, MOST_IN_SECTION, GREATEST_EXPONENT, MOST_IN_NAME = 4096, 16_777_216, 15, 255
+RECORD, VALUE_HEAD, LOCATION = struct.Struct("<BH"), struct.Struct("<BHBII"), struct.Struct("<II")
+SECTION_HEAD, NUMBER_FORM, PLACE_FORM, IMPORT_FORM = map(struct.Struct, ("<IB", "<Bq", "<BIq", "<BI"))
+INDEX = struct.Struct("<I")
 NAME = re.compile("[!-~]{1,255}")
 # The bytes of each width, and the smallest and the greatest value that fit.
 BYTE, WORD, WORD_HIGH_FIRST, DWORD, BRANCH = range(5)
@@ -59,12 +62,12 @@ class Module(NamedTuple):
 
     name: str
     imports: Sequence[str] = ()
-    sections: Iterable[Section] = ()
+    sections: Sequence[Section] = ()
     exports: Iterable[Export] = ()
     assertions: Iterable[Assertion] = ()
 
 
-class CannotBeWritten(Problem):
+class Untranslatable(Problem):
     """What bin65's format can't hold: the module, the position and the reason."""
 
     def __init__(self, module: str, position: Optional[Position], reason: str) -> None:
@@ -73,11 +76,155 @@ class CannotBeWritten(Problem):
         self.module, self.position, self.reason = module, position, reason
 
 
+def record(kind: int, body: bytes) -> bytes:
+    """Returns a record."""
+    return RECORD.pack(kind, len(body)) + body
+
+
+class ObjectWriter:
+    """Writes one object. The body is written first, as its files and imports become known by it."""
+
+    def __init__(self, module: Module) -> None:
+        self.module = module
+        self.body = bytearray()
+        self.files: Dict[str, int] = {}
+        self.imports: Dict[str, int] = {}
+        self.sections: Dict[str, int] = {}
+        self.literal, self.fill = bytearray(), 0
+
+    def refuse(self, position: Optional[Position], reason: str) -> Untranslatable:
+        """Returns the message on what can't be written."""
+        return Untranslatable(self.module.name, position, reason)
+
+    def name(self, name: str, position: Optional[Position] = None) -> bytes:
+        """Returns the bytes of a name."""
+        if not NAME.fullmatch(name):
+            raise self.refuse(position, f"a name with more than {MOST_IN_NAME} bytes or with other bytes than 21 to 7E: {name[:40]}")
+        return name.encode("ascii")
+
+    def location(self, position: Optional[Position]) -> Tuple[int, int]:
+        """Returns the number of a file, and a line."""
+        file, line = position or ("", 0)
+        return self.files.setdefault(file, len(self.files)), line
+
+    def form(self, form: Form) -> bytes:
+        """Returns the bytes of a form."""
+        kind = type(form)
+        if kind is Place:
+            return PLACE_FORM.pack(1, self.sections[form.section], form.offset)  # type: ignore[union-attr]
+        if kind is Import:
+            return IMPORT_FORM.pack(2, self.imports.setdefault(form.name, len(self.imports)))  # type: ignore[union-attr]
+        if kind is int:
+            return NUMBER_FORM.pack(0, form)
+        return b"%c%b" % (form.code, b"".join(map(self.form, form.parts)))  # type: ignore[union-attr]
+
+    def whole_form(self, form: Form, position: Optional[Position]) -> bytes:
+        """Returns the bytes of a form that isn't a part of another one."""
+        found = self.form(form)
+        if len(found) > MOST_NODES and node_count(form) > MOST_NODES:
+            raise self.refuse(position, f"an expression of more than {MOST_NODES} numbers, names and operations")
+        return found
+
+    def flush(self) -> None:
+        """Writes the literal or the fill that waits for more of its kind."""
+        for at in range(0, len(self.literal), MOST_IN_RECORD):
+            self.body += record(LITERAL, self.literal[at : at + MOST_IN_RECORD])
+        if self.fill:
+            self.body += record(FILL, INDEX.pack(self.fill))
+        self.literal, self.fill = bytearray(), 0
+
+    def add_literal(self, data: bytes) -> None:
+        """Adds bytes."""
+        if self.fill:
+            self.flush()
+        self.literal += data
+
+    def add_fill(self, size: int) -> None:
+        """Adds bytes that the linker fills."""
+        if self.literal:
+            self.flush()
+        self.fill += size
+
+    def add_value(self, value: Value) -> None:
+        """Adds a value, as bytes if it is a number."""
+        width, form, position = value
+        if type(form) is int:
+            lowest, greatest = RANGES[width]
+            if not lowest <= form <= greatest:
+                raise self.refuse(position, f"a value is out of range: {form}")
+            order: Literal["big", "little"] = "big" if width == WORD_HIGH_FIRST else "little"
+            self.add_literal(form.to_bytes(SIZES[width], order, signed=form < 0))
+            return
+        if self.literal or self.fill:
+            self.flush()
+        found = self.whole_form(form, position)
+        self.body += VALUE_HEAD.pack(VALUE, 9 + len(found), width, *self.location(position))
+        self.body += found
+
+    def add_fragments(self, section: Section) -> int:
+        """Adds the content of a section. Returns its size."""
+        size = 0
+        for fragment in section.fragments:
+            if isinstance(fragment, bytes):
+                size += len(fragment)
+                self.add_literal(fragment)
+            elif isinstance(fragment, Value):
+                size += SIZES[fragment.width]
+                self.add_value(fragment)
+            else:
+                size += fragment.size
+                self.add_fill(fragment.size)
+            if size > MOST_IN_SECTION:
+                raise self.refuse(None, f"segment {section.name} has more than {MOST_IN_SECTION} bytes")
+        self.flush()
+        return size
+
+    def section_record(self, section: Section, size: int) -> bytes:
+        """Returns the record of a section."""
+        exponent = section.alignment.bit_length() - 1
+        if section.alignment != 1 << max(exponent, 0) or exponent > GREATEST_EXPONENT:
+            most = 1 << GREATEST_EXPONENT
+            raise self.refuse(None, f"segment {section.name} has the alignment {section.alignment}, no power of two up to {most}")
+        return record(SECTION, SECTION_HEAD.pack(size, exponent) + self.name(section.name))
+
+    def add_exports(self, exports: Iterable[Export]) -> None:
+        """Adds exports."""
+        known = set()
+        for name, form, position in exports:
+            if name in known:
+                raise self.refuse(position, f"a second export of {name}")
+            known.add(name)
+            body = self.name(name, position)
+            head = bytes((len(body),)) + body + LOCATION.pack(*self.location(position))
+            self.body += record(EXPORT, head + self.whole_form(form, position))
+
+    def add_assertions(self, assertions: Iterable[Assertion]) -> None:
+        """Adds assertions."""
+        for it in assertions:
+            text = it.text[:MOST_IN_NAME]
+            head = bytes((it.is_error,)) + LOCATION.pack(*self.location(it.position)) + bytes((len(text),)) + text
+            self.body += record(ASSERT, head + self.whole_form(it.form, it.position))
+
+    def write(self) -> bytes:
+        """Returns the bytes of the object."""
+        for name in self.module.imports:
+            self.imports.setdefault(name, len(self.imports))
+        for it in self.module.sections:
+            if self.sections.setdefault(it.name, len(self.sections)) != len(self.sections) - 1:
+                raise self.refuse(None, f"a second section of segment {it.name}")
+        sections = [self.section_record(it, self.add_fragments(it)) for it in self.module.sections]
+        self.add_exports(self.module.exports)
+        self.add_assertions(self.module.assertions)
+        files = [record(FILE, file_name(it)) for it in self.files]
+        imports = [record(IMPORT, self.name(it)) for it in self.imports]
+        return b"".join((HEAD, *files, *imports, *sections, self.body, record(END, b"")))
+
+
+def file_name(name: str) -> bytes:
+    """Returns a source's name in UTF-8; bytes that aren't UTF-8 are shown by their numbers."""
+    return name.encode("utf-8", "backslashreplace")[:MOST_IN_RECORD].decode("utf-8", "ignore").encode()
+
+
 def written(module: Module) -> bytes:
     """Returns the bytes of an object."""
-    raise NotImplementedError
-
-
-def write_library(members: Sequence[Tuple[str, bytes]], name: str) -> bytes:
-    """Returns the bytes of a library of objects, in this order. Messages name the library by `name`."""
-    raise NotImplementedError
+    return ObjectWriter(module).write()

@@ -75,6 +75,8 @@ class _SumReader:
         self.at += 1
         if word.text == "-":
             return -self.factor()
+        if word.text == "+":
+            return self.factor()
         if word.text == "(":
             found = self.sum()
             if not self.is_at(")"):

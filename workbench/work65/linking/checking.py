@@ -1,0 +1,86 @@
+"""Checks one link: cc65's linker and bin65 make its files, and both are compared."""
+import os
+import shutil
+from typing import Dict, List, Mapping, NamedTuple, Optional, Sequence
+
+from work65.frontend.files import read_bytes
+from work65.linking import theirs
+from work65.linking.call import Call, read_call
+from work65.linking.comparing import DIFFERENT, SAME, UNKNOWN, Verdict, compared, moved
+from work65.linking.plan import MAP, Plan, plan_of
+from work65.linking.run import linked
+from work65.problem import Problem
+from work65.program import Program
+from work65.signals import folder_for_a_while
+
+REPEAT = "link.txt"
+
+
+class Tools(NamedTuple):
+    """The programs of a check: cc65's linker and bin65, and the folder in which to keep what bin65 linked, "" for none."""
+
+    linker: str
+    program: Program
+    kept: str = ""
+
+
+def checked(words: Sequence[str], tools: Tools, is_done: bool) -> Optional[Verdict]:
+    """Checks a link by its command line; None if it is none. If `is_done`, cc65's linker has made its files already."""
+    call = None
+    try:
+        call = read_call(words, os.environ, tools.linker)
+        if call is None:
+            return None
+        with folder_for_a_while() as folder:
+            return _checked(call, tools, folder, is_done)
+    except Problem as problem:
+        return Verdict(UNKNOWN, f"{call.output if call else 'a link'}: not compared: {problem}", {})
+
+
+def _checked(call: Call, tools: Tools, folder: str, is_done: bool) -> Verdict:
+    """Checks a link in a folder. The addresses are compared where cc65's linker makes a map, which it may refuse for a link that it
+    makes without."""
+    plan = plan_of(call)
+    ours = linked(plan, tools.program, folder)
+    if tools.kept:
+        keep(plan, folder, tools.kept)
+    said = ""
+    try:
+        other = theirs.link(call, tools.linker, folder)
+        files = _made(plan) if is_done else other.files
+        said = moved(other, ours)
+    except Problem as problem:
+        if not is_done:
+            raise
+        files, said = _made(plan), ""
+        lacking = f"; addresses not compared: {problem}"
+    else:
+        lacking = ""
+    found = compared(plan, files, ours)
+    if found.verdict == SAME and said:
+        return Verdict(DIFFERENT, f"{call.output}: the same image, but other addresses: {said}", found.sizes)
+    return found._replace(text=found.text + lacking)
+
+
+def _made(plan: Plan) -> Dict[str, bytes]:
+    """Returns the files that cc65's linker has made where it ran."""
+    names = dict.fromkeys(it.file for it in plan.parts if it.file)
+    return {name: read_bytes(name) for name in names if os.path.isfile(name)}
+
+
+def keep(plan: Plan, folder: str, kept: str) -> None:
+    """Copies what bin65 links, and its map, to a new folder, with the command that repeats the link."""
+    base, number = os.path.basename(plan.call.output) or "link", 1
+    while True:
+        room = os.path.join(kept, base if number == 1 else f"{base}-{number}")
+        try:
+            os.makedirs(room)
+            break
+        except FileExistsError:
+            number += 1
+    for name in os.listdir(folder):
+        if not name.startswith(theirs.IMAGE):
+            shutil.copyfile(os.path.join(folder, name), os.path.join(room, name))
+    words = ["bin65", "ld65", "-C", "link.cfg", "-o", "image", "-m", MAP, *(f"'{name}'" for name, _ in plan.inputs)]
+    with open(os.path.join(room, REPEAT), "w", encoding="utf-8") as it:
+        it.write(" ".join(words) + "\n")

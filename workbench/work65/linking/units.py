@@ -1,0 +1,100 @@
+"""The inputs of a link: cc65's objects, and its libraries with their members."""
+import os
+from functools import lru_cache
+from typing import Callable, List, NamedTuple, Optional, Sequence, Tuple, Union
+
+from work65.frontend.files import read_bytes
+from work65.linking.call import Input
+from work65.problem import Problem
+from work65.translating.cc65_objects import CcObject, Kind, kind_of, read_object
+from work65.translating.libraries import MemberFacts, library_of
+
+
+class Unit(NamedTuple):
+    """A module that a link can have: its name in messages, the names that it exports and imports, its exports in tables of .condes (name,
+    type, priority), its segments with their sizes, whether it has a .bank, why it can't be translated, and its object."""
+
+    name: str
+    exports: Sequence[str]
+    imports: Sequence[str]
+    condes: Sequence[Tuple[str, int, int]]
+    sections: Sequence[Tuple[str, int]]
+    has_bank: bool
+    refusal: str
+    object: Callable[[], CcObject]
+
+
+class Archive(NamedTuple):
+    """A library, or the libraries of a group: the name in messages, the members, and the bytes and the name of each library of bin65's
+    that has them, one after the other."""
+
+    name: str
+    units: List[Unit]
+    libraries: List[Tuple[str, bytes]]
+
+
+Module = Union[Unit, Archive]
+
+
+def modules_of(inputs: Sequence[Input]) -> List[Module]:
+    """Reads the inputs, in the order in which the linker takes them: a group's libraries at its end."""
+    found: List[Module] = []
+    waiting: List[Archive] = []
+    for at, it in enumerate(inputs):
+        one = _module(it)
+        if isinstance(one, Unit) or not it.group:
+            found.append(one)
+        else:
+            waiting.append(one)
+        if waiting and (at + 1 == len(inputs) or inputs[at + 1].group != it.group):
+            found.append(_joined(waiting))
+            waiting = []
+    return found
+
+
+def _module(it: Input) -> Module:
+    """Reads an input."""
+    data = read_bytes(it.path)
+    kind = kind_of(data)
+    if kind is Kind.OBJECT:
+        return unit_of(read_object(data, it.name))
+    if kind is not Kind.LIBRARY:
+        raise Problem(f"{it.name}: neither an object nor a library of cc65's")
+    return _archive(data, it.name)
+
+
+def unit_of(obj: CcObject) -> Unit:
+    """Returns an object as a module of a link."""
+    condes = [(it.name, number, priority) for it in obj.exports for number, priority in it.condes]
+    imports = list(dict.fromkeys(it.name for it in obj.imports))
+    sections = [(it.name, it.size) for it in obj.sections]
+    return Unit(obj.name, [it.name for it in obj.exports], imports, condes, sections, True, "", lambda: obj)
+
+
+def _archive(data: bytes, name: str) -> Archive:
+    """Reads a library."""
+    library = library_of(data, name)
+    base = os.path.basename(name)
+
+    @lru_cache(maxsize=1)
+    def members() -> Sequence[object]:
+        from work65.translating.cc65_objects import read_library
+
+        return read_library(data, name)
+
+    def unit(at: int, it: MemberFacts) -> Unit:
+        return Unit(f"{base}({it.name})", it.exports, it.imports, it.condes, it.sections, it.has_bank, it.refusal,
+                    lambda: members()[at].object())  # type: ignore[attr-defined]
+
+    return Archive(base, [unit(at, it) for at, it in enumerate(library.members)], [(base, library.data)])
+
+
+def _joined(archives: Sequence[Archive]) -> Archive:
+    """Returns the libraries of a group as one."""
+    units = [unit for it in archives for unit in it.units]
+    return Archive(" ".join(it.name for it in archives), units, [one for it in archives for one in it.libraries])
+
+
+def exporter(units: Sequence[Unit], name: str) -> Optional[Unit]:
+    """Returns the first module that exports a name."""
+    return next((it for it in units if name in it.exports), None)

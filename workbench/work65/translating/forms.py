@@ -29,9 +29,11 @@ def quotient(left: int, right: int) -> int:
     return found if (left < 0) == (right < 0) else -found
 
 
-def shifted(left: int, right: int) -> int:
-    """Shifts to the left, or to the right if the count is negative. A count over 63 shifts all bits out."""
-    return left << min(right, 64) if right >= 0 else left >> min(-right, 64)
+def count(value: int) -> int:
+    """Returns how far a value is shifted."""
+    if not 0 <= value <= 63:
+        raise NoValue("a shift by less than 0 or more than 63")
+    return value
 
 
 def prefix_value(code: int, value: int) -> int:
@@ -48,7 +50,8 @@ def prefix_value(code: int, value: int) -> int:
 OPERATORS: Dict[int, Callable[[int, int], int]] = {
     TIMES: operator.mul, DIVIDED: quotient, REMAINDER: lambda left, right: left - right * quotient(left, right),
     AND: operator.and_, EXCLUSIVE: operator.xor, OR: operator.or_,
-    LEFT: shifted, RIGHT: lambda left, right: shifted(left, -right), PLUS: operator.add, MINUS: operator.sub,
+    LEFT: lambda left, right: left << count(right), RIGHT: lambda left, right: left >> count(right),
+    PLUS: operator.add, MINUS: operator.sub,
     EQUAL: operator.eq, UNEQUAL: operator.ne, LESS: operator.lt, GREATER: operator.gt, AT_MOST: operator.le, AT_LEAST: operator.ge,
     BOTH: lambda left, right: left != 0 and right != 0, EITHER: lambda left, right: left != 0 or right != 0,
     ONE_OF_TWO: lambda left, right: (left != 0) != (right != 0),

@@ -1,5 +1,24 @@
-"""Libraries of cc65's tools, translated, and kept in the user's cache folder by their checksum."""
-from typing import List, NamedTuple, Tuple
+"""Libraries of cc65's tools, translated. The larger ones are kept in the user's cache folder, by their checksum."""
+import hashlib
+import json
+import os
+from contextlib import suppress
+from typing import List, NamedTuple, Optional, Tuple
+
+from work65 import pages
+from work65.translating import r65_writer
+from work65.translating.cc65_objects import CcObject, read_library
+from work65.translating.r65_libraries import read_index, write_library
+from work65.translating.translation import NEEDS_LINK, translated
+from work65.translating.r65_writer import Export, Module, Untranslatable
+
+# Entries of another number, or of another version of work65, are not read. A change of what a translation is needs another number.
+CACHE_FORMAT = 1
+# A smaller library is translated in no time. Of the cached ones the last used stay.
+SMALLEST_CACHED, MOST_CACHED = 32768, 64
+CHECKSUM_SIZE = 32
+
+Condes = Tuple[Tuple[str, int, int], ...]
 
 
 class MemberFacts(NamedTuple):
@@ -9,7 +28,7 @@ class MemberFacts(NamedTuple):
     name: str
     exports: Tuple[str, ...]
     imports: Tuple[str, ...]
-    condes: Tuple[Tuple[str, int, int], ...]
+    condes: Condes
     has_bank: bool
     refusal: str
 
@@ -22,6 +41,97 @@ class TranslatedLibrary(NamedTuple):
     members: List[MemberFacts]
 
 
+class Special(NamedTuple):
+    """What the library's own bytes don't say about a member."""
+
+    condes: Condes = ()
+    has_bank: bool = False
+    refusal: str = ""
+
+
+def stand_in(obj: CcObject) -> bytes:
+    """Returns an object that has only the exports and the imports of another one."""
+    names = [it.name for it in obj.imports if r65_writer.NAME.fullmatch(it.name)]
+    exports = {it.name: Export(it.name, 0) for it in obj.exports if r65_writer.NAME.fullmatch(it.name)}
+    return r65_writer.written(Module(obj.name, names, (), exports.values()))
+
+
+def translated_member(obj: CcObject) -> Tuple[bytes, Special]:
+    """Returns a member's translation or its stand-in, and what there is to know about it."""
+    condes = tuple((it.name, *pair) for it in obj.exports for pair in it.condes)
+    try:
+        return translated(obj), Special(condes)
+    except Untranslatable as error:
+        has_bank = error.reason == NEEDS_LINK
+        return stand_in(obj), Special(condes, has_bank, "" if has_bank else error.without_module())
+
+
+def translated_library(data: bytes, name: str) -> Tuple[bytes, List[Special]]:
+    """Translates a library."""
+    specials, members = [], []
+    for member in read_library(data, name):
+        found, special = translated_member(member.object())
+        members.append((member.name, found))
+        specials.append(special)
+    return write_library(members, name), specials
+
+
+def cache_folder() -> Optional[str]:
+    """Returns the cache folder of work65, None if the user has none."""
+    named = os.environ.get("XDG_CACHE_HOME", "")
+    folder = named if os.path.isabs(named) else os.path.expanduser("~/.cache")
+    return os.path.join(folder, "work65") if os.path.isabs(folder) else None
+
+
+def cached(path: str) -> Optional[Tuple[bytes, List[Special]]]:
+    """Reads an entry of the cache: a checksum of the rest, a line of JSON, the library. None if there is none, or a damaged one."""
+    try:
+        with open(path, "rb") as file:
+            checksum, rest = file.read(CHECKSUM_SIZE), file.read()
+        if hashlib.sha256(rest).digest() != checksum:
+            return None
+        os.utime(path)
+    except OSError:
+        return None
+    line, _, data = rest.partition(b"\n")
+    return data, [Special(tuple(map(tuple, condes)), *others) for condes, *others in json.loads(line)]
+
+
+def keep(path: str, data: bytes, specials: List[Special]) -> None:
+    """Writes an entry of the cache, completely or not at all. A folder that can't be written is no error."""
+    rest = json.dumps(specials, separators=(",", ":")).encode() + b"\n" + data
+    part = f"{path}.{os.getpid()}"
+    with suppress(OSError):
+        os.makedirs(os.path.dirname(path), 0o700, exist_ok=True)
+        try:
+            with open(part, "wb") as file:
+                file.write(hashlib.sha256(rest).digest() + rest)
+            os.replace(part, path)
+        except BaseException:
+            os.remove(part)
+            raise
+        forget_old(os.path.dirname(path))
+
+
+def forget_old(folder: str) -> None:
+    """Removes the entries that weren't used for the longest time, if there are too many."""
+    entries = sorted((entry.stat().st_mtime_ns, entry.path) for entry in os.scandir(folder) if entry.is_file())
+    for _, path in entries[:-MOST_CACHED]:
+        os.remove(path)
+
+
 def library_of(data: bytes, name: str) -> TranslatedLibrary:
     """Returns the translation of a library, by the cache where possible."""
-    raise NotImplementedError
+    folder = cache_folder() if len(data) >= SMALLEST_CACHED else None
+    path = f"{folder}/{hashlib.sha256(data).hexdigest()}.{pages.version()}.{CACHE_FORMAT}"
+    found = cached(path) if folder else None
+    if found is None:
+        found = translated_library(data, name)
+        if folder:
+            keep(path, *found)
+    library, specials = found
+    members = []
+    for entry, special in zip(read_index(library), specials):
+        refusal = f"{name}({entry.name}): {special.refusal}" if special.refusal else ""
+        members.append(MemberFacts(entry.name, entry.exports, entry.imports, special.condes, special.has_bank, refusal))
+    return TranslatedLibrary(name, library, members)

@@ -75,6 +75,10 @@ class Untranslatable(Problem):
         super().__init__(f"{module}: {place}{reason}")
         self.module, self.position, self.reason = module, position, reason
 
+    def without_module(self) -> str:
+        """Returns the message without the module's name."""
+        return str(self)[len(self.module) + 2 :]
+
 
 def record(kind: int, body: bytes) -> bytes:
     """Returns a record."""

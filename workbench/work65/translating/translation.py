@@ -8,6 +8,7 @@ from work65.translating.cc65_objects import CcObject, Expression, Fill, ImportIn
 from work65.translating.forms import NoValue, joined, node_count, prefixed
 from work65.translating.r65_writer import Untranslatable
 
+NEEDS_LINK = "a .bank has a value only in a link"
 # The operators and prefixes that bin65 has as well, by cc65's code.
 OPERATORS = {
     0x01: forms.PLUS, 0x02: forms.MINUS, 0x03: forms.TIMES, 0x04: forms.DIVIDED, 0x05: forms.REMAINDER, 0x06: forms.OR,
@@ -93,7 +94,7 @@ class Translation:
         """Returns the form of a prefix and its part."""
         if code == BANK:
             if self.facts.bank_of is None:
-                raise NoValue("a .bank has a value only in a link")
+                raise NoValue(NEEDS_LINK)
             return self.facts.bank_of(only)
         form = self.form(only)
         if code in PREFIXES:

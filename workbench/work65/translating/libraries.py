@@ -13,12 +13,14 @@ from work65.translating.translation import NEEDS_LINK, translated
 from work65.translating.r65_writer import Export, Module, Untranslatable
 
 # Entries of another number, or of another version of work65, are not read. A change of what a translation is needs another number.
-CACHE_FORMAT = 1
+CACHE_FORMAT = 2
 # A smaller library is translated in no time. Of the cached ones the last used stay.
 SMALLEST_CACHED, MOST_CACHED = 32768, 64
 CHECKSUM_SIZE = 32
 
+# Exports with the type and the priority of each table that lists them; segments with the size of the member's part.
 Condes = Tuple[Tuple[str, int, int], ...]
+Sections = Tuple[Tuple[str, int], ...]
 
 
 class MemberFacts(NamedTuple):
@@ -29,6 +31,7 @@ class MemberFacts(NamedTuple):
     exports: Tuple[str, ...]
     imports: Tuple[str, ...]
     condes: Condes
+    sections: Sections
     has_bank: bool
     refusal: str
 
@@ -44,7 +47,8 @@ class TranslatedLibrary(NamedTuple):
 class Special(NamedTuple):
     """What the library's own bytes don't say about a member."""
 
-    condes: Condes = ()
+    condes: Condes
+    sections: Sections
     has_bank: bool = False
     refusal: str = ""
 
@@ -59,11 +63,12 @@ def stand_in(obj: CcObject) -> bytes:
 def translated_member(obj: CcObject) -> Tuple[bytes, Special]:
     """Returns a member's translation or its stand-in, and what there is to know about it."""
     condes = tuple((it.name, *pair) for it in obj.exports for pair in it.condes)
+    sections = tuple((it.name, it.size) for it in obj.sections)
     try:
-        return translated(obj), Special(condes)
+        return translated(obj), Special(condes, sections)
     except Untranslatable as error:
         has_bank = error.reason == NEEDS_LINK
-        return stand_in(obj), Special(condes, has_bank, "" if has_bank else error.without_module())
+        return stand_in(obj), Special(condes, sections, has_bank, "" if has_bank else error.without_module())
 
 
 def translated_library(data: bytes, name: str) -> Tuple[bytes, List[Special]]:
@@ -94,7 +99,8 @@ def cached(path: str) -> Optional[Tuple[bytes, List[Special]]]:
     except OSError:
         return None
     line, _, data = rest.partition(b"\n")
-    return data, [Special(tuple(map(tuple, condes)), *others) for condes, *others in json.loads(line)]
+    lists = json.loads(line)
+    return data, [Special(tuple(map(tuple, condes)), tuple(map(tuple, sections)), *others) for condes, sections, *others in lists]
 
 
 def keep(path: str, data: bytes, specials: List[Special]) -> None:
@@ -133,5 +139,5 @@ def library_of(data: bytes, name: str) -> TranslatedLibrary:
     members = []
     for entry, special in zip(read_index(library), specials):
         refusal = f"{name}({entry.name}): {special.refusal}" if special.refusal else ""
-        members.append(MemberFacts(entry.name, entry.exports, entry.imports, special.condes, special.has_bank, refusal))
+        members.append(MemberFacts(entry.name, entry.exports, entry.imports, *special[:3], refusal))
     return TranslatedLibrary(name, library, members)

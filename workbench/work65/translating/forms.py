@@ -65,15 +65,15 @@ def prefixed(code: int, part: Form) -> Form:
 
 def joined(code: int, left: Form, right: Form) -> Form:
     """Returns the form of an operator and its parts."""
-    if type(right) is int:
-        if type(left) is int:
+    if isinstance(right, int):
+        if isinstance(left, int):
             return wrapped(int(OPERATORS[code](left, right)))
-        if type(left) is Place and (code == PLUS or code == MINUS):
+        if isinstance(left, Place) and code in (PLUS, MINUS):
             return Place(left.section, wrapped(left.offset + (right if code == PLUS else -right)))
-    elif type(right) is Place:
-        if type(left) is int and code == PLUS:
+    elif isinstance(right, Place):
+        if isinstance(left, int) and code == PLUS:
             return Place(right.section, wrapped(right.offset + left))
-        if type(left) is Place and code == MINUS and left.section == right.section:
+        if isinstance(left, Place) and code == MINUS and left.section == right.section:
             return wrapped(left.offset - right.offset)
     return Operation(code, (left, right))
 

@@ -1,7 +1,7 @@
 """Writes objects and libraries of bin65 (docs/FORMATS.md)."""
 import re
 import struct
-from typing import Dict, Iterable, Literal, NamedTuple, Optional, Sequence, Tuple, Union
+from typing import Dict, Iterable, NamedTuple, Optional, Sequence, Tuple, Union
 
 from work65.formats.objects import Fill, Form, Import, Operation, Place
 from work65.problem import Problem
@@ -113,14 +113,13 @@ class ObjectWriter:
 
     def form(self, form: Form) -> bytes:
         """Returns the bytes of a form."""
-        kind = type(form)
-        if kind is Place:
-            return PLACE_FORM.pack(1, self.sections[form.section], form.offset)  # type: ignore[union-attr]
-        if kind is Import:
-            return IMPORT_FORM.pack(2, self.imports.setdefault(form.name, len(self.imports)))  # type: ignore[union-attr]
-        if kind is int:
+        if isinstance(form, Place):
+            return PLACE_FORM.pack(1, self.sections[form.section], form.offset)
+        if isinstance(form, Import):
+            return IMPORT_FORM.pack(2, self.imports.setdefault(form.name, len(self.imports)))
+        if isinstance(form, int):
             return NUMBER_FORM.pack(0, form)
-        return b"%c%b" % (form.code, b"".join(map(self.form, form.parts)))  # type: ignore[union-attr]
+        return b"%c%b" % (form.code, b"".join(map(self.form, form.parts)))
 
     def whole_form(self, form: Form, position: Optional[Position]) -> bytes:
         """Returns the bytes of a form that isn't a part of another one."""
@@ -152,12 +151,12 @@ class ObjectWriter:
     def add_value(self, value: Value) -> None:
         """Adds a value, as bytes if it is a number."""
         width, form, position = value
-        if type(form) is int:
+        if isinstance(form, int):
             lowest, greatest = RANGES[width]
             if not lowest <= form <= greatest:
                 raise self.refuse(position, f"a value is out of range: {form}")
-            order: Literal["big", "little"] = "big" if width == WORD_HIGH_FIRST else "little"
-            self.add_literal(form.to_bytes(SIZES[width], order, signed=form < 0))
+            data = (form % 256 ** SIZES[width]).to_bytes(SIZES[width], "little")
+            self.add_literal(data[::-1] if width == WORD_HIGH_FIRST else data)
             return
         if self.literal or self.fill:
             self.flush()

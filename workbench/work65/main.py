@@ -9,7 +9,7 @@ from work65 import pages, signals
 from work65.output import give_up_output
 from work65.problem import Problem, complain
 
-COMMANDS = ("check", "port", "second", "faults", "explain", "list", "labels", "debug", "deps", "size", "completion")
+COMMANDS = ("check", "port", "second", "link", "convert", "faults", "explain", "list", "labels", "debug", "deps", "size", "completion")
 
 
 class ShowVersion(argparse.Action):

@@ -131,8 +131,8 @@ class _AreaParts:
         self.last = part.symbol("LAST")
         if is_other:
             taken = name(f"__{rows[0].name}_SIZE__")
-            self.fill(self.last - part.symbol("START") - taken, self.area.fill)
-            self.fill(taken, self.fill_of(rows[0]))
+            self.fill(part.symbol("START"), self.last - part.symbol("START") - taken, self.area.fill)
+            self.fill(self.last - taken, taken, self.fill_of(rows[0]))
         elif part.file:
             self.fill_after(part)
 
@@ -144,18 +144,18 @@ class _AreaParts:
             end = name(f"__{written[-1].name}_LOAD__") + name(f"__{written[-1].name}_SIZE__")
         self.found[-1] = part._replace(length=end - part.symbol("START"))
         if not written or written[-1] is not part.rows[-1]:
-            self.fill(self.last - end, self.area.fill)
+            self.fill(end, self.last - end, self.area.fill)
 
-    def fill(self, size: Linear, byte: int) -> None:
-        """Adds bytes to the file."""
-        part = self.new(self.area.file, Linear(), size, ())
+    def fill(self, start: Linear, size: Linear, byte: int) -> None:
+        """Adds bytes to the file, which fill memory from an address on."""
+        part = self.new(self.area.file, start, size, ())
         self.found[-1] = part._replace(is_filled=True, fill=byte, length=size)
 
     def moved(self, row: Row) -> Row:
         """Begins at the offset of a row, with the bytes before it in the file."""
         start = self.found[0].symbol("START") + (row.offset or 0)
         if self.area.file and (self.area.is_filled or self.is_written(row)):
-            self.fill(start - self.last, self.area.fill)
+            self.fill(self.last, start - self.last, self.area.fill)
         self.last = start
         return row._replace(offset=None)
 
@@ -165,7 +165,7 @@ class _AreaParts:
         if first.file and not any(it.rows for it in self.found[1:]):
             self.found = [first._replace(is_filled=True, length=first.symbol("SIZE"))]
         else:
-            self.fill(self.end() - self.last, self.area.fill)
+            self.fill(self.last, self.end() - self.last, self.area.fill)
 
     def defined(self, length: Linear) -> Dict[str, Linear]:
         """Returns the names that the area defines. `length` is that of the file before the area."""

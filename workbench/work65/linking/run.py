@@ -54,9 +54,9 @@ def _files(plan: Plan, folder: str, numbers: Mapping[str, int]) -> Dict[str, byt
     for name in dict.fromkeys(it.file for it in plan.parts if it.file):
         parts = [it for it in plan.parts if it.file == name]
         if plan.config.formats.get(name) == ATARI:
-            blocks = [containers.Block(it.area, number_of(it.symbol("START"), numbers), _made(folder, plan.files[it.name]),
-                                       bool(it.rows)) for it in parts]
-            found[name] = containers.atari(blocks, plan.config.atari, numbers)
+            pieces = [containers.Piece(it.area, number_of(it.symbol("START"), numbers), _made(folder, plan.files[it.name]))
+                      for it in parts]
+            found[name] = containers.atari(pieces, plan.config.atari, numbers)
         else:
             found[name] = _made(folder, plan.files[parts[0].name])
     return found

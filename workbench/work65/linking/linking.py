@@ -1,0 +1,62 @@
+"""work65 link: writes the files of a link, and its map, as bin65 makes them."""
+import os
+from typing import Dict, List, Sequence
+
+from work65.formats.maps import Map
+from work65.linking.call import Call, read_call
+from work65.linking.plan import plan_of
+from work65.linking.run import linked
+from work65.problem import Problem, complain
+from work65.program import Program
+from work65.signals import folder_for_a_while
+
+LABEL = 0xFFFFFF
+
+
+def link(words: Sequence[str]) -> int:
+    """Links. Raises a Problem and writes nothing if bin65 can't make what ld65 would."""
+    named = words[1] if words[:1] == ["--bin65"] and len(words) > 1 else None
+    program = Program.find(named)
+    call = read_call(words[2:] if named else words, os.environ, _beside("ld65"))
+    if call is None:
+        raise Problem("nothing to link: give objects, and a config by -C or -t", 2)
+    if call.debug:
+        raise Problem("--dbgfile: bin65 makes no debug file")
+    plan = plan_of(call)
+    with folder_for_a_while() as folder:
+        made = linked(plan, program, folder)
+    files = dict(made.files)
+    if call.map:
+        files[call.map] = made.text
+    if call.labels:
+        files[call.labels] = _labels(made.map)
+    _write(files)
+    return 0
+
+
+def _beside(name: str) -> str:
+    """Returns the path of a tool of cc65's, by which its folders are found."""
+    import shutil
+
+    return shutil.which(name) or name
+
+
+def _labels(placed: Map) -> bytes:
+    """Returns the labels of a link as VICE reads them."""
+    return b"".join(b"al %06X .%b\n" % (value & LABEL, name.encode()) for name, value in placed.symbols.items())
+
+
+def _write(files: Dict[str, bytes]) -> None:
+    """Writes files. If one can't be written, those that are new are removed."""
+    new: List[str] = []
+    for name, data in files.items():
+        if not os.path.lexists(name):
+            new.append(name)
+        try:
+            with open(name, "wb") as it:
+                it.write(data)
+        except OSError as error:
+            for it in new:
+                if os.path.lexists(it):
+                    os.remove(it)
+            raise Problem(f"{name}: {error.strerror}") from error

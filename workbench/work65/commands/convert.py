@@ -8,7 +8,7 @@ from work65.output import write
 from work65.problem import Problem, complain
 from work65.translating.cc65_objects import CcObject, Export, Kind, kind_of, read_library, read_object
 from work65.translating.r65_libraries import write_library
-from work65.translating.translation import translated
+from work65.translating.translation import LinkFacts, translated
 
 HELP = "convert objects and libraries of cc65's tools to bin65's formats"
 # The tables of routines that cc65's linker makes, by their number.
@@ -44,7 +44,7 @@ def listed(exports: Iterable[Export], name: str) -> None:
 def converted_object(obj: CcObject, exports: List[Export]) -> bytes:
     """Converts an object. Adds its exports to a list."""
     exports += obj.exports
-    return translated(obj)
+    return translated(obj, LinkFacts(keeps_empty=False))
 
 
 def converted(data: bytes, name: str) -> bytes:

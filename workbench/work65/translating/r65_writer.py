@@ -58,7 +58,8 @@ class Assertion(NamedTuple):
 
 
 class Module(NamedTuple):
-    """An object to write. `name` is for messages. `imports` come first; those that only forms hold follow, and aren't listed here."""
+    """An object to write. `name` is for messages. `imports` come first; those that only forms hold follow, and aren't listed here.
+    Likewise a section that only forms hold is an empty one after the others."""
 
     name: str
     imports: Sequence[str] = ()
@@ -114,7 +115,7 @@ class ObjectWriter:
     def form(self, form: Form) -> bytes:
         """Returns the bytes of a form."""
         if isinstance(form, Place):
-            return PLACE_FORM.pack(1, self.sections[form.section], form.offset)
+            return PLACE_FORM.pack(1, self.sections.setdefault(form.section, len(self.sections)), form.offset)
         if isinstance(form, Import):
             return IMPORT_FORM.pack(2, self.imports.setdefault(form.name, len(self.imports)))
         if isinstance(form, int):
@@ -218,6 +219,7 @@ class ObjectWriter:
         sections = [self.section_record(it, self.add_fragments(it)) for it in self.module.sections]
         self.add_exports(self.module.exports)
         self.add_assertions(self.module.assertions)
+        sections += [self.section_record(Section(it, 1, ()), 0) for it in list(self.sections)[len(sections) :]]
         files = [record(FILE, file_name(it)) for it in self.files]
         imports = [record(IMPORT, self.name(it)) for it in self.imports]
         return b"".join((HEAD, *files, *imports, *sections, self.body, record(END, b"")))

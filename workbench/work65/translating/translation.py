@@ -32,11 +32,13 @@ WHOLE = {(1, False): r65_writer.BYTE, (2, False): r65_writer.WORD, (4, False): r
 
 
 class LinkFacts(NamedTuple):
-    """What a link decides about an object: which exports are left out, what it imports besides, and the number of a `.bank`."""
+    """What a link decides about an object: which exports are left out, what it imports besides, the number of a `.bank`, and whether
+    the sections are kept that have no bytes, no alignment and no labels."""
 
     omitted: AbstractSet[str] = frozenset()
     imported: Sequence[str] = ()
     bank_of: Optional[Callable[[Expression], int]] = None
+    keeps_empty: bool = True
 
 
 def part_of(form: Form, shift: int, mask: int) -> Form:
@@ -159,7 +161,8 @@ class Translation:
     def translate(self) -> bytes:
         """Returns the object of bin65's."""
         imports = [*(it.name for it in self.imports), *self.facts.imported]
-        sections = [r65_writer.Section(it.name, it.alignment, self.fragments(it)) for it in self.object.sections]
+        kept = [it for it in self.object.sections if self.facts.keeps_empty or it.size or it.alignment != 1]
+        sections = [r65_writer.Section(it.name, it.alignment, self.fragments(it)) for it in kept]
         return r65_writer.written(r65_writer.Module(self.object.name, imports, sections, self.exports(), self.assertions()))
 
 

@@ -123,9 +123,9 @@ def user(fragments, assertions=()):
 
 def expressions(tries):
     """Random expressions: all 64 bits of each, by both linkers."""
-    chance, refused, different, links = random.Random(65), [], [], 2000 if tries.is_all else 200
+    chance, refused, different, links = random.Random(65), [], [], 1000 if tries.is_all else 100
     for at in range(links):
-        trees = [random_expression(chance, chance.randrange(1, 6)) for _ in range(20)]
+        trees = [random_expression(chance, chance.randrange(1, 5)) for _ in range(20)]
         fragments = [(4, False, (DWORD, tree if not shift else (SHIFT_RIGHT, tree, shift))) for tree in trees for shift in (0, 32)]
         objects = (user(fragments, [((0x06, 1, trees[0]), 3, "no")]), provider())
         wanted, found = tries.by_ld65(objects), tries.by_bin65(objects)
@@ -161,17 +161,252 @@ def wide(value):
     return (0x01, (0x01, unknown, (0x09, (0x01, unknown, value >> 16), 16)), value & 0xFFFF)
 
 
-PARTS = (expressions, ranges)
+# What FORMATS shows as an object of 53 bytes, but line 7: files, imports, a section, a literal, a value.
+BY_HAND = bytes.fromhex("""
+    52 36 35 6F 02  09 05 00 69 2E 69 6E 63  01 01 00 76  02 09 00 02 00 00 00 00 43 4F 44 45  03 01 00 EA
+    05 0E 00 00 00 00 00 00 07 00 00 00 02 00 00 00 00  08 00 00""")
+# Fragments of CODE at $8000 behind two bytes, and the bytes of the image, by hand: imports are first = $8005, second = BSS, third = $1234.
+IMAGES = {
+    "word": ((2, False, ("import", 2)), "34 12"),
+    "three bytes": ((3, False, (0x01, ("import", 2), 0x560000)), "34 12 56"),
+    "four bytes": ((4, False, (0x02, ("import", 2), 0x1235)), None),
+    "negative in four bytes": ((4, True, (0x02, ("import", 2), 0x1235)), "FF FF FF FF"),
+    "negative in three bytes": ((3, True, (0x02, 0, ("import", 2))), "CC ED FF"),
+    "negative in two bytes": ((2, True, (0x02, 0, ("import", 2))), "CC ED"),
+    "negative in one byte": ((1, True, (0x02, ("import", 2), 0x1236)), "FE"),
+    "too small for one byte": ((1, True, (0x02, ("import", 2), 0x1234 + 129)), None),
+    "too great for three bytes": ((3, False, (0x09, ("import", 2), 12)), None),
+    "swapped": ((2, False, (0x43, ("import", 2))), "12 34"),
+    "the greater": ((2, False, (0x14, ("import", 2), 0x1111)), "34 12"),
+    "the lesser": ((2, False, (0x15, ("import", 2), 0x1111)), "11 11"),
+    "the fourth byte": ((1, False, (0x4B, (0x09, ("import", 2), 16))), "12"),
+    "the higher word": ((2, False, (0x4D, (0x09, ("import", 2), 8))), "12 00"),
+    "a far address": ((3, False, (0x4E, (0x09, ("import", 2), 16))), "00 00 34"),
+    "short-circuited": ((1, False, (0x12, 1, (0x04, 1, 0))), "01"),
+    "a division by zero": ((1, False, (0x04, 1, 0)), None),
+}
+
+
+def by_hand(tries):
+    """What has to come of objects is known without cc65."""
+    small = made_object([("CODE", 1, [b"\xEA", (1, False, ("import", 0))])], ["v"], source="i.inc")
+    tries.check("an object by hand", translation.translated(cc65_objects.read_object(small, "m.o")) == BY_HAND)
+    twice = made_object([("CODE", 1, [(2, False, ("import", 1)), b"", b"a", b"b", (2, False, 0x6463)])], ["v", "v"])
+    wanted = bytes.fromhex("0101007602090006000000") + b"\0CODE" + bytes.fromhex("050E00010000000007000000020000000003040061626364080000")
+    tries.check("a name imported twice", translation.translated(cc65_objects.read_object(twice, "m.o")).endswith(wanted))
+    for name, (fragment, wanted) in IMAGES.items():
+        found = tries.by_bin65((user([b"()", fragment]), provider()))
+        at = found[2 : 2 + fragment[0]] if isinstance(found, bytes) else None
+        tries.check(f"an image by hand: {name}", at == (None if wanted is None else bytes.fromhex(wanted)), found[:60])
+
+
+def said(read, *words):
+    """The message on a file."""
+    try:
+        read(*words)
+        return ""
+    except Problem as problem:
+        return str(problem)
+
+
+def messages(tries):
+    """Files that can't be read or translated: each message in full."""
+    whole, library = user([b"abc", (2, False, ("import", 0))]), made_library([("a.o", provider())])
+    damaged = "damaged file of cc65's tools: "
+    reads = {
+        "": (b"", f"{damaged}it is cut short"),
+        "text": (b"a text that is longer than a head" * 9, f"{damaged}it isn't an object"),
+        "a version": (whole[:4] + b"\x12" + whole[5:], f"{damaged}its version is 18; only objects of version 17 can be read"),
+        "cut": (whole[:-1], f"{damaged}it is cut short"),
+        "library": (library * 9, f"{damaged}it isn't an object"),
+    }
+    for name, (data, wanted) in reads.items():
+        tries.check(f"message: {name}", said(cc65_objects.read_object, data, "x.o") == f"x.o: {wanted}", said(cc65_objects.read_object, data, "x.o"))
+    for name, data, wanted in (("a library's version", library[:4] + b"\x0e" + library[5:], "its version is 14; only libraries of version 13 can be read"),
+                               ("a cut library", library[:-1], "it is cut short"), ("no library", whole, "it isn't a library")):
+        found = said(cc65_objects.read_library, data, "x.lib")
+        tries.check(f"message: {name}", found == f"x.lib: {damaged}{wanted}", found)
+    names = {
+        "an alignment": ([("CODE", 3, [])], [], [], "segment CODE has the alignment 3, no power of two up to 32768"),
+        "a great alignment": ([("CODE", 65536, [])], [], [], "segment CODE has the alignment 65536, no power of two up to 32768"),
+        "a long name": ([], ["n" * 256], [], f"a name with more than 255 bytes or with other bytes than 21 to 7E: {'n' * 40}"),
+        "a name with a blank": ([], ["a b"], [], "a name with more than 255 bytes or with other bytes than 21 to 7E: a b"),
+        "a bank": ([("CODE", 1, [(1, False, (0x45, ("section", 0)))])], [], [], "made.s:7: a .bank has a value only in a link"),
+        "a division": ([("CODE", 1, [(1, False, (0x05, 1, 0))])], [], [], "made.s:7: a division by zero"),
+        "a shift": ([("CODE", 1, [(1, False, (0x09, 1, 64))])], [], [], "made.s:7: a shift by less than 0 or more than 63"),
+        "a range": ([("CODE", 1, [(1, False, 256)])], [], [], "made.s:7: a value is out of range: 256"),
+        "an operation": ([("CODE", 1, [(1, False, (0x46, 1))])], [], [], "made.s:7: an unknown operation: 46"),
+        "an assertion": ([], [], [(0, 3, "too long")], "made.s:7: an assertion fails: too long"),
+        "a great section": ([("CODE", 1, [("fill", 16777217)])], [], [], "segment CODE has more than 16777216 bytes"),
+    }
+    for name, (sections, imports, assertions, wanted) in names.items():
+        obj = cc65_objects.read_object(made_object(sections, imports, (), assertions), "x.o")
+        tries.check(f"message: {name}", said(translation.translated, obj) == f"x.o: {wanted}", said(translation.translated, obj))
+
+
+def real_objects(tries):
+    """Objects for tests: made ones, and members of a library of cc65's where it is there."""
+    chance = random.Random(5)
+    trees = [(width, width == 3, (AND, random_expression(chance, 3), 0x7F)) for width in (1, 2, 3, 4) for _ in range(3)]
+    found = [provider(), user([b"abc", *trees, ("fill", 9)], [(("import", 0), 1, "text")])]
+    if tries.has_cc65:
+        pages.put(f"{tries.top}/g.s", SOURCE)
+        tries.ran("ca65", "-g", "g.s", "-o", "g.o")
+        members = cc65_objects.read_library(read(f"{LIBRARIES}/c64.lib"), "c64.lib")
+        found += [read(f"{tries.top}/g.o"), *(it.data for it in members if it.name in ("crt0.o", "cgetc.o", "itoa.o", "irq.o", "zerobss.o"))]
+    return found
+
+
+SOURCE = """ .import first, second, third
+ .export start
+ .macro twice what
+ .word what, what + 1
+ .endmacro
+ .code
+start: lda first
+ ldx #<second
+ twice first
+ .byte .hibyte(second), .bankbyte(start)
+ .dword third
+ .faraddr start
+ .rodata
+ .align 4
+ .res 3
+ .assert third > 3, lderror, "third"
+ .zeropage
+ .res 2
+"""
+
+
+def mutated(data, chance):
+    """A changed copy: bits, bytes, numbers, parts left out, put in or doubled, an end cut off."""
+    found = bytearray(data)
+    for _ in range(chance.choice((1, 1, 1, 2, 5))):
+        at, kind = chance.randrange(len(found)), chance.randrange(7)
+        if kind == 0:
+            found[at] ^= 1 << chance.randrange(8)
+        elif kind == 1:
+            found[at] = chance.choice((0, 1, 0x7F, 0x80, 0xFF, chance.randrange(256)))
+        elif kind == 2:
+            found[at : at + 4] = chance.choice((0, 1, 0x7FFFFFFF, 0xFFFFFFFF, len(data), chance.randrange(1 << 32))).to_bytes(4, "little")
+        elif kind == 3:
+            del found[at : at + chance.randrange(1, 9)]
+        elif kind == 4:
+            found[at:at] = bytes(chance.randrange(256) for _ in range(chance.randrange(1, 5)))
+        elif kind == 5:
+            found[at:at] = found[at : at + chance.randrange(1, 99)]
+        else:
+            del found[at:]
+        if not found:
+            break
+    return bytes(found)
+
+
+def mutants(tries):
+    """Damaged objects and libraries: a message or a translation that bin65 reads, and nothing else, in no time."""
+    chance, count, kept, slowest, wrong = random.Random(7), 100_000 if tries.is_all else 10_000, [], 0.0, []
+    bases = real_objects(tries)
+    library = made_library([(f"{at}.o", it) for at, it in enumerate(bases[:3])])
+    for at in range(count):
+        is_library = at % 10 == 0
+        data, begun = mutated(library if is_library else chance.choice(bases), chance), time.process_time()
+        try:
+            members = cc65_objects.read_library(data, "x.lib") if is_library else [cc65_objects.Member("x.o", data, "x.lib")]
+            kept += [translation.translated(it.object()) for it in members]
+        except Problem as problem:
+            if "\n" in str(problem) or not str(problem).startswith("x.lib"):
+                wrong.append(str(problem))
+        except Exception as error:
+            wrong.append((at, repr(error)))
+        slowest = max(slowest, time.process_time() - begun)
+    tries.check(f"{count} damaged files", not wrong and slowest < 2, (slowest, wrong[:5]))
+    write(f"{tries.top}/kept.lib", write_library([(f"{at}.o", it) for at, it in enumerate(kept)], "kept.lib"))
+    ran = tries.ran(tries.program, "ar65", "t", "kept.lib")
+    tries.check("bin65 reads what is translated", ran.returncode == 0 and len(ran.stdout.split()) == len(kept) > count // 20, ran.stderr)
+    print(f"{len(kept)} of {count} damaged files translate; slowest {slowest:.3f} s")
+
+
+def bits(tries):
+    """Objects with one changed bit: where cc65's linker makes an image, the same or a message."""
+    chance, linked, wrong, refused = random.Random(8), 0, [], []
+    objects = [user([b"abc", (2, False, ("import", 0)), (1, False, (0x48, ("import", 1))), ("fill", 3), (3, False, ("section", 0)), b"end"]), provider()]
+    for at in range(1500 if tries.is_all else 200):
+        which = chance.randrange(2)
+        changed = list(objects)
+        changed[which] = flipped(changed[which], chance.randrange(96 * 8, len(changed[which]) * 8))
+        wanted = tries.by_ld65(changed)
+        if wanted is None:
+            continue
+        linked, found = linked + 1, tries.by_bin65(changed)
+        if isinstance(found, str):
+            refused.append(found)
+        elif found != wanted:
+            wrong.append(at)
+    tries.check("changed bits: the same image or a message", not wrong and linked > 50 and len(refused) < linked // 2, (linked, wrong, refused[:5]))
+    print(f"{linked} links of objects with a changed bit: {len(refused)} refused, {len(wrong)} differ")
+
+
+def flipped(data, bit):
+    """The same bytes but one bit."""
+    return data[: bit // 8] + bytes((data[bit // 8] ^ 1 << bit % 8,)) + data[bit // 8 + 1 :]
+
+
+def listed_by_od65(text):
+    """What od65 shows of objects: of each the segments, the imports and the exports."""
+    found = []
+    for file in re.split(r"^\S.*:\n", text, flags=re.M)[1:]:
+        tables = dict(re.findall(r"^  (Segments|Imports|Exports):\n((?:    .*\n)+)", file, re.M))
+        items = {name: [dict(re.findall(r"^      ([^:\n]+): +(.*)$", it, re.M)) for it in body.split("    Index:")[1:]] for name, body in tables.items()}
+        found.append((
+            [(it["Name"], int(it["Size"]), int(it["Alignment"]), it["Address size"][:4], int(it["Fragment count"])) for it in items["Segments"]],
+            [(it["Address size"][:4], it["Name"]) for it in items["Imports"]],
+            [(it["Address size"][:4], it["Name"], it["Type"].partition("CONDES=")[2].rstrip(")"), it.get("Value", "")[:10]) for it in items["Exports"]],
+        ))
+    return found
+
+
+def listed_by_reader(obj):
+    """The same of an object."""
+    exports = []
+    for it in obj.exports:
+        tables = ",".join(f"[{kind},{priority}]" for kind, priority in it.condes)
+        exports.append((f"0x{it.address_size:02X}", f'"{it.name}"', tables, f"0x{it.value:08X}" if isinstance(it.value, int) else ""))
+    return (
+        [(f'"{it.name}"', it.size, it.alignment, f"0x{it.address_size:02X}", it.count) for it in obj.sections],
+        [(f"0x{it.address_size:02X}", f'"{it.name}"') for it in obj.imports],
+        exports,
+    )
+
+
+def beside_od65(tries):
+    """The members of a library as od65 shows them."""
+    for name in ("atari.lib", "geos-cbm.lib", "c64.lib") if tries.is_all else ("c64.lib",):
+        folder = f"{tries.top}/{name}.members"
+        os.makedirs(folder)
+        members = cc65_objects.read_library(read(f"{LIBRARIES}/{name}"), name)
+        subprocess.run(["ar65", "x", f"{LIBRARIES}/{name}", *(it.name for it in members)], cwd=folder, check=True)
+        tries.check(f"{name}: the members", sorted(os.listdir(folder)) == sorted(it.name for it in members) and all(read(f"{folder}/{it.name}") == it.data for it in members))
+        words = ["od65", "--dump-segments", "--dump-imports", "--dump-exports", *(it.name for it in members)]
+        shown = listed_by_od65(subprocess.run(words, cwd=folder, capture_output=True, text=True, check=True).stdout)
+        read_ = [listed_by_reader(it.object()) for it in members]
+        wrong = [(it.name, one, two) for it, one, two in zip(members, shown, read_) if one != two]
+        tries.check(f"{name}: {len(members)} objects beside od65", len(shown) == len(read_) > 400 and not wrong, wrong[:1])
+
+
+ALONE = (by_hand, messages, mutants)
+WITH_CC65 = (beside_od65, expressions, ranges, bits)
 
 
 def main():
     with tempfile.TemporaryDirectory() as top:
         tries = Tries(os.path.abspath(sys.argv[1]), top, sys.argv[2:] == ["all"])
         os.makedirs(f"{top}/temporary")
-        for part in PARTS:
-            begun = time.time()
+        for part in (*ALONE, *(WITH_CC65 if tries.has_cc65 else ())):
+            begun = results.processor_seconds()
             part(tries)
-            print(f"{part.__name__}: {time.time() - begun:.1f} s")
+            print(f"{part.__name__}: {results.processor_seconds() - begun:.1f} s")
+        if not tries.has_cc65:
+            print("cc65 isn't here: nothing is compared with its tools")
         sys.exit(results.report(tries.checks))
 
 

@@ -34,7 +34,7 @@ again:  tya
         adc #50
         tay
         bcc again
-        rts
+end:    jmp end                 ; no way back: C's variables are where BASIC's were
 
 ; Prints the text at A (low byte) and X (high byte), and a line end.
 print:  sta text

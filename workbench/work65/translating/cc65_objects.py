@@ -279,8 +279,8 @@ class CcObject:
         try:
             count, at = number(self.data, lines)
             if count and self.lines is None:
-                self.lines = self.read_lines()
                 self.files = self.read_files()
+                self.lines = self.read_lines()
             for _ in range(count):
                 index, at = number(self.data, at)
                 if self.lines[index] >= 0:
@@ -309,6 +309,8 @@ class CcObject:
             _, at = number(data, at)
             file, at = number(data, at)
             kind, at = number(data, at)
+            if file >= len(self.files):
+                raise Damage("an unknown source")
             found.append(-1 if kind & 3 else file << 32 | line)
             at = past_numbers(data, at)
         self.finish(LINES, at)

@@ -38,25 +38,20 @@ def checked(words: Sequence[str], tools: Tools, is_done: bool) -> Optional[Verdi
 
 
 def _checked(call: Call, tools: Tools, folder: str, is_done: bool) -> Verdict:
-    """Checks a link in a folder. The addresses are compared where cc65's linker makes a map, which it may refuse for a link that it
-    makes without."""
+    """Checks a link in a folder. The addresses are compared by a map of cc65's linker, which may fail at a link that it makes without."""
+    other, lacking = None, ""
+    try:
+        other = theirs.link(call, tools.linker, folder)
+    except Problem as problem:
+        lacking = f"; addresses not compared: {problem}"
+        if not is_done:
+            raise
     plan = plan_of(call)
     ours = linked(plan, tools.program, folder)
     if tools.kept:
         keep(plan, folder, tools.kept)
-    said = ""
-    try:
-        other = theirs.link(call, tools.linker, folder)
-        files = _made(plan) if is_done else other.files
-        said = moved(other, ours)
-    except Problem as problem:
-        if not is_done:
-            raise
-        files, said = _made(plan), ""
-        lacking = f"; addresses not compared: {problem}"
-    else:
-        lacking = ""
-    found = compared(plan, files, ours)
+    found = compared(plan, _made(plan) if is_done or other is None else other.files, ours)
+    said = moved(other, ours) if other else ""
     if found.verdict == SAME and said:
         return Verdict(DIFFERENT, f"{call.output}: the same image, but other addresses: {said}", found.sizes)
     return found._replace(text=found.text + lacking)

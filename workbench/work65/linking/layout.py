@@ -109,8 +109,10 @@ class _AreaParts:
         return self.areas[row.load].fill if row.fill is None else row.fill
 
     def has_other_fill(self, row: Row) -> bool:
-        """Returns whether the place of a row without bytes is filled with another byte than the area's gaps."""
-        return self.area.is_filled and not self.is_written(row) and self.fill_of(row) != self.area.fill
+        """Returns whether the place of a row without bytes is filled with another byte than the area's gaps, or with the same, while bin65
+        would write the row, as it can't be unwritten in two areas."""
+        is_other = self.fill_of(row) != self.area.fill or not row.is_written and row.load != row.run
+        return self.area.is_filled and not self.is_written(row) and is_other
 
     def end(self) -> Linear:
         """Returns the address after the area."""

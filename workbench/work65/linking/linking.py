@@ -4,7 +4,7 @@ from typing import Dict, List, Sequence
 
 from work65.formats.maps import Map
 from work65.linking.call import Call, read_call
-from work65.linking.plan import plan_of
+from work65.linking.plan import Plan, plan_of
 from work65.linking.run import linked
 from work65.problem import Problem, complain
 from work65.program import Program
@@ -26,10 +26,12 @@ def link(words: Sequence[str]) -> int:
     with folder_for_a_while() as folder:
         made = linked(plan, program, folder)
     files = dict(made.files)
+    own = {f"__{it.name}_{kind}__" for it in plan.parts for kind in ("START", "SIZE", "LAST")}
+    symbols = {name: value for name, value in made.map.symbols.items() if name not in own}
     if call.map:
-        files[call.map] = made.text
+        files[call.map] = _map(plan, made.map._replace(symbols=symbols))
     if call.labels:
-        files[call.labels] = _labels(made.map)
+        files[call.labels] = b"".join(b"al %06X .%b\n" % (value & LABEL, name.encode()) for name, value in symbols.items())
     _write(files)
     return 0
 
@@ -41,9 +43,15 @@ def _beside(name: str) -> str:
     return shutil.which(name) or name
 
 
-def _labels(placed: Map) -> bytes:
-    """Returns the labels of a link as VICE reads them."""
-    return b"".join(b"al %06X .%b\n" % (value & LABEL, name.encode()) for name, value in placed.symbols.items())
+def _map(plan: Plan, placed: Map) -> bytes:
+    """Returns the map in bin65's form, with the user's names of modules."""
+    lines = ["MODULES"]
+    for unit, module in zip([None, *plan.units], placed.modules):
+        if unit is not None:
+            lines += [unit.name, *(f"  {it.segment} {it.offset:08X} {it.size:08X}" for it in module.parts)]
+    lines += ["SEGMENTS", *(f"{it.name} {it.run:08X} {it.load:08X} {it.size:08X}" for it in placed.rows)]
+    lines += ["SYMBOLS", *(f"{name} {value:016X}" for name, value in placed.symbols.items()), ""]
+    return os.fsencode("\n".join(lines))
 
 
 def _write(files: Dict[str, bytes]) -> None:

@@ -2,7 +2,7 @@
 import os
 import re
 from functools import partial
-from typing import Dict, Iterator, List, Mapping, NamedTuple, Optional, Sequence, Set, Tuple
+from typing import AbstractSet, Dict, Iterator, List, Mapping, NamedTuple, Optional, Sequence, Set, Tuple
 
 from work65.formats import objects
 from work65.formats.objects import Form
@@ -23,6 +23,8 @@ SYMBOLS = "symbols.o"
 OUTPUT, SCRIPT, MAP = "image", "link.cfg", "map"
 # The area of segments that the config doesn't have, which must be empty.
 NOWHERE = "nowhere__0"
+# How the names of offsets in files end, which depend on rows that don't define their names: they are there if something needs them.
+OFFSET = "_FILEOFFS__"
 GREATEST = 0xFFFFFFFF
 PLAIN = re.compile(r"[^0-9A-Za-z._-]")
 
@@ -72,9 +74,11 @@ class _Planner:
 
     def plan(self) -> Plan:
         """Returns the whole."""
-        inputs, names = self.inputs()
+        exported = self.exported()
+        inputs, names = self.inputs(self.symbols(exported))
         files = _files(self.layout.parts, self.call.output, self.config.formats)
-        script = _script(self.layout, files, self.order(), self.weak())
+        rows = _Rows(self.order(), {name for it in exported.values() for name in it.names})
+        script = _script(self.layout, files, rows, self.weak())
         return Plan(self.call, self.config, script, inputs, names, self.layout.parts, files, self.selection)
 
     def order(self) -> List[str]:
@@ -90,28 +94,25 @@ class _Planner:
                 found[it.name] = value.number
         return found
 
-    def exports(self) -> Iterator[r65_writer.Export]:
-        """Yields the names that the linker itself exports."""
-        numbers = {name: Linear(number) for name, number in self.call.symbols.items()}
+    def exported(self) -> Dict[str, Linear]:
+        """Returns the names that the linker itself exports, with their values."""
+        found = {name: it for name, it in self.layout.defined.items() if name in self.selection.imports or not name.endswith(OFFSET)}
         weak = self.weak()
         for it in self.config.symbols:
-            is_needed = it.kind == "EXPORT" or it.kind == "WEAK" and it.name not in weak and it.name not in self.selection.exporters
-            if is_needed and it.name not in numbers:
-                numbers[it.name] = self.names.sum(it.value, it.line)
-        for name, value in {**self.layout.defined, **numbers}.items():
-            yield r65_writer.Export(name, _form(value))
+            if it.kind == "EXPORT" or it.kind == "WEAK" and it.name not in weak and it.name not in self.selection.exporters:
+                found[it.name] = self.names.sum(it.value, it.line)
+        return {**found, **{name: Linear(number) for name, number in self.call.symbols.items()}}
 
-    def symbols(self) -> bytes:
+    def symbols(self, exported: Mapping[str, Linear]) -> bytes:
         """Returns the object with the names that the linker itself has, and with what the config and options import."""
-        exports = list(self.exports())
-        own = {it.name for it in exports} | set(self.names.placed)
-        tables = self.selection.table_imports()
-        imports = [it for it in dict.fromkeys([*self.wanted, *tables]) if it not in own]
+        exports = [r65_writer.Export(name, _form(it)) for name, it in exported.items()]
+        wanted = dict.fromkeys([*self.wanted, *self.selection.table_imports()])
+        imports = [it for it in wanted if it not in exported and it not in self.names.placed]
         return r65_writer.written(r65_writer.Module("the config", imports, (), exports))
 
-    def inputs(self) -> Tuple[List[Tuple[str, bytes]], Dict[str, str]]:
+    def inputs(self, symbols: bytes) -> Tuple[List[Tuple[str, bytes]], Dict[str, str]]:
         """Returns the inputs by the names of their files, and the names in messages by those files."""
-        found, names = [(SYMBOLS, self.symbols())], {SYMBOLS: self.call.config}
+        found, names = [(SYMBOLS, symbols)], {SYMBOLS: self.call.config}
         chosen = {id(it) for it in self.selection.units}
         for at, it in enumerate(self.modules):
             if isinstance(it, Unit):
@@ -173,34 +174,42 @@ def _files(parts: Sequence[Part], output: str, formats: Mapping[str, str]) -> Di
     return found
 
 
-def _script(layout: Layout, files: Mapping[str, str], order: Sequence[str], weak: Mapping[str, int]) -> str:
-    """Returns the script. The segments are in the config's order."""
+class _Rows(NamedTuple):
+    """The segments in the order of SEGMENTS, and the names that rows have to define besides those that they do in the config."""
+
+    order: Sequence[str]
+    needed: AbstractSet[str]
+
+    def text(self, name: str, places: Mapping[str, Tuple[Row, Part]]) -> str:
+        """Returns a row with the parts in which it loads and runs. A row without bytes may have two areas in cc65: then it has another
+        type, as no part is written."""
+        row = next(iter(places.values()))[0]
+        (row, run), (_, load) = places[row.run], places[row.load]
+        kind = row.kind.lower() if not row.is_written and row.load == row.run else "rw"
+        numbers: List[Tuple[str, Optional[int]]] = [
+            ("align", row.align), ("align_load", row.align_load if load is not run else None), ("start", row.start),
+            ("offset", row.offset), ("fillval", row.fill),
+        ]
+        words = [f"load = {load.name}", f"run = {run.name}", f"type = {kind}"]
+        words += [f"{key} = ${number:X}" for key, number in numbers if number is not None]
+        if row.is_defined or self.needed & {f"__{name}_{it}__" for it in ("RUN", "LOAD", "SIZE")}:
+            words.append("define = yes")
+        return f"    {name}: {', '.join(words)}, optional = yes;"
+
+
+def _script(layout: Layout, files: Mapping[str, str], rows: _Rows, weak: Mapping[str, int]) -> str:
+    """Returns the script. A segment that the config doesn't have must be empty."""
     lines = ["MEMORY {"]
-    for it in layout.parts:
-        file = files.get(it.name, "")
+    for part in layout.parts:
+        file = files.get(part.name, "")
         shown = "%O" if file == OUTPUT else f'"{file}"'
-        fill = ", fill = yes" if it.is_filled else ""
-        lines.append(f"    {it.name}: start = {it.start}, size = {it.size}, file = {shown}, fillval = ${it.fill:X}{fill}, define = yes;")
+        fill = ", fill = yes" if part.is_filled else ""
+        lines.append(f"    {part.name}: start = {part.start}, size = {part.size}, file = {shown}, fillval = ${part.fill:X}{fill}, define = yes;")
     lines += [f'    {NOWHERE}: start = 0, size = 0, file = "";', "}", "SEGMENTS {"]
-    rows: Dict[str, Dict[str, Tuple[Row, Part]]] = {}
+    places: Dict[str, Dict[str, Tuple[Row, Part]]] = {}
     for part in layout.parts:
         for row in part.rows:
-            rows.setdefault(row.name, {})[part.area] = (row, part)
-    lines += [_row(rows[it]) if it in rows else f"    {it}: load = {NOWHERE}, type = bss;" for it in order]
+            places.setdefault(row.name, {})[part.area] = (row, part)
+    lines += [rows.text(it, places[it]) if it in places else f"    {it}: load = {NOWHERE}, type = bss;" for it in rows.order]
     lines += ["}", "SYMBOLS {", *(f"    {name}: type = weak, value = ${number:X};" for name, number in weak.items()), "}", ""]
     return "\n".join(lines)
-
-
-def _row(places: Mapping[str, Tuple[Row, Part]]) -> str:
-    """Returns a row with the parts in which it loads and runs. A row without bytes may have two areas in cc65: its type is another one
-    then, as neither part is written."""
-    row = next(iter(places.values()))[0]
-    row, run = places[row.run]
-    load = places[row.load][1]
-    kind = row.kind.lower() if not row.is_written and row.load == row.run else "rw"
-    numbers: List[Tuple[str, Optional[int]]] = [
-        ("align", row.align), ("align_load", row.align_load if load is not run else None), ("start", row.start), ("offset", row.offset),
-        ("fillval", row.fill),
-    ]
-    words = [f"load = {load.name}", f"run = {run.name}", f"type = {kind}", *(f"{key} = ${it:X}" for key, it in numbers if it is not None)]
-    return f"    {row.name}: {', '.join(words + ['optional = yes'] + ['define = yes'] * row.is_defined)};"

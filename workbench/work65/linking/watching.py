@@ -24,7 +24,7 @@ echo >> {room}/seen
 exit 0
 """
 LOST = "a link's check has ended without a result"
-NONE_SEEN = "no link was seen: a build that calls ld65 or cl65 by an absolute path isn't watched"
+NONE_SEEN = "no link was seen: the build made none, or called ld65 or cl65 by an absolute path"
 
 
 def watched(command: Sequence[str], wanted: Wanted) -> int:

@@ -7,6 +7,8 @@ If cc65 isn't installed, objects that these tests make themselves are translated
 usage: translating.py BIN65 [all]. With `all`, all libraries are translated, and ten times as many random objects. The last line is
 'N passed, M failed'."""
 import glob
+import hashlib
+import itertools
 import os
 import random
 import re
@@ -18,12 +20,12 @@ import time
 
 import pages
 import results
-from made_objects import made_library, made_object, number
+from made_objects import made_library, made_object
 
 sys.path.insert(0, f"{pages.ROOT}/workbench")
 sys.dont_write_bytecode = True
 from work65.problem import Problem  # noqa: E402
-from work65.translating import cc65_objects, translation  # noqa: E402
+from work65.translating import cc65_objects, libraries, translation  # noqa: E402
 from work65.translating.r65_libraries import write_library  # noqa: E402
 
 TOOLS = ("ca65", "ld65", "ar65", "od65")
@@ -141,18 +143,23 @@ def expressions(tries):
 def ranges(tries):
     """Values around the limits of each width, as numbers and as what only the linker knows: both linkers accept or refuse them."""
     limits = (0, 1 << 7, 1 << 8, 1 << 15, 1 << 16, 1 << 23, 1 << 24, 1 << 31, 1 << 32, -(1 << 7), -(1 << 15), -(1 << 23), -(1 << 31))
-    wrong, accepted = [], 0
-    for width in (1, 2, 3, 4):
-        for is_signed in (False, True):
-            for value in sorted({it + more for it in limits for more in (-1, 0, 1)}):
-                low = (0x01, (0x02, value, 0x1234), ("import", 2)) if -(1 << 30) < value < 1 << 30 else wide(value)
-                for tree in (low, value) if -(1 << 31) <= value < 1 << 31 else (low,):
-                    objects = (user([b"<", (width, is_signed, tree), b">"]), provider())
-                    wanted, found = tries.by_ld65(objects), tries.by_bin65(objects)
-                    accepted += wanted is not None
-                    if wanted != (None if isinstance(found, str) else found):
-                        wrong.append((width, is_signed, hex(value), wanted and wanted[:8], found[:60]))
-    tries.check("values around the limits of widths", not wrong and accepted > 100, (accepted, wrong[:9]))
+    wrong, accepted, refused = [], [], 0
+    for width, is_signed in itertools.product((1, 2, 3, 4), (False, True)):
+        for value in sorted({it + more for it in limits for more in (-1, 0, 1)}):
+            low = (0x01, (0x02, value, 0x1234), ("import", 2)) if -(1 << 30) < value < 1 << 30 else wide(value)
+            for tree in (low, value) if -(1 << 31) <= value < 1 << 31 else (low,):
+                fragment = (width, is_signed, tree)
+                objects = (user([fragment]), provider())
+                if tries.by_ld65(objects) is not None:
+                    accepted.append(fragment)
+                elif isinstance(tries.by_bin65(objects), str):
+                    refused += 1
+                else:
+                    wrong.append((width, is_signed, hex(value)))
+    tries.check("values that don't fit are refused", not wrong and refused > 100, (refused, wrong[:9]))
+    objects = (user(accepted), provider())
+    tries.check("values that fit", len(accepted) > 100 and tries.by_ld65(objects) == tries.by_bin65(objects), len(accepted))
+    print(f"{len(accepted)} values fit, {refused} don't")
 
 
 def wide(value):
@@ -229,8 +236,10 @@ def messages(tries):
     names = {
         "an alignment": ([("CODE", 3, [])], [], [], "segment CODE has the alignment 3, no power of two up to 32768"),
         "a great alignment": ([("CODE", 65536, [])], [], [], "segment CODE has the alignment 65536, no power of two up to 32768"),
-        "a long name": ([], ["n" * 256], [], f"a name with more than 255 bytes or with other bytes than 21 to 7E: {'n' * 40}"),
-        "a name with a blank": ([], ["a b"], [], "a name with more than 255 bytes or with other bytes than 21 to 7E: a b"),
+        "a long name": ([], ["n" * 256], [], f"a name with more than 255 bytes or with other bytes than 21 to 7E: '{'n' * 40}'"),
+        "a name with a blank": ([], ["a b"], [], "a name with more than 255 bytes or with other bytes than 21 to 7E: 'a b'"),
+        "a name with a control byte": ([("A\n", 1, [b"a"])], [], [], "a name with more than 255 bytes or with other bytes than 21 to 7E: 'A\\n'"),
+        "a segment twice": ([("CODE", 1, []), ("CODE", 1, [])], [], [], "a second section of segment CODE"),
         "a bank": ([("CODE", 1, [(1, False, (0x45, ("section", 0)))])], [], [], "made.s:7: a .bank has a value only in a link"),
         "a division": ([("CODE", 1, [(1, False, (0x05, 1, 0))])], [], [], "made.s:7: a division by zero"),
         "a shift": ([("CODE", 1, [(1, False, (0x09, 1, 64))])], [], [], "made.s:7: a shift by less than 0 or more than 63"),
@@ -393,20 +402,212 @@ def beside_od65(tries):
         tries.check(f"{name}: {len(members)} objects beside od65", len(shown) == len(read_) > 400 and not wrong, wrong[:1])
 
 
-ALONE = (by_hand, messages, mutants)
-WITH_CC65 = (beside_od65, expressions, ranges, bits)
+# What cc65's assembler writes, in a source of random lines: operators and functions of expressions, and statements of a value.
+SIGNS = ("+", "-", "*", "&", "|", "^", "=", "<>", "<", ">", "<=", ">=", "&&", "||", ".xor")
+FUNCTIONS = ("<({})", ">({})", "^({})", "~({})", ".not ({})", "-({})", ".loword({})", ".hiword({})", "({}) / 3", "({}) .mod 7", "({}) << 2",
+             "({}) >> 5", ".max({}, {})", ".min({}, {})", ".lobyte({})", ".hibyte({})", ".bankbyte({})")
+STATEMENTS = (".byte .lobyte({})", ".word .loword({})", ".dword ({}) & $7FFFFFFF", ".faraddr ({}) & $FFFFFF", ".dbyt .loword({})", "lda #<({})",
+              "ldx #>({})", ".assert ({}) <> $1234567, lderror, \"no\"")
+ADDRESSES = ("lda {}", "jmp {}", "brl {}", "per {}", "jsl {}", "lda f:{}", ".addr {}, {}", "sta {} + 3, x", ".faraddr {}", ".word {} - *", "pea {}")
+
+
+class Sources:
+    """Random sources of three modules that use each other's labels."""
+
+    def __init__(self, chance):
+        self.chance = chance
+        self.labels = [[f"l{module}_{at}" for at in range(4)] for module in range(3)]
+
+    def address(self, module):
+        return self.chance.choice(self.labels[self.chance.randrange(3)])
+
+    def expression(self, module, depth):
+        if depth == 0 or self.chance.random() < 0.2:
+            number = self.chance.choice((str(self.chance.randrange(300)), f"${self.chance.randrange(1 << 31):X}"))
+            return self.chance.choice((self.address(module), self.address(module), number))
+        parts = [self.expression(module, depth - 1) for _ in range(2)]
+        if self.chance.random() < 0.4:
+            return self.chance.choice(FUNCTIONS).format(*parts)
+        return f"({parts[0]} {self.chance.choice(SIGNS)} {parts[1]})"
+
+    def line(self, module):
+        kind = self.chance.randrange(20)
+        if kind < 9:
+            return self.chance.choice(STATEMENTS).format(self.expression(module, self.chance.randrange(4)))
+        if kind < 16:
+            return self.chance.choice(ADDRESSES).format(self.address(module), self.address(module))
+        return self.chance.choice((".res 3", ".align 4", ".byte \"text\"", ".rodata", ".data", ".code", ".code", "nop", "bne *+4", ".res 2, 7"))
+
+    def source(self, module):
+        others = [it for at, labels in enumerate(self.labels) if at != module for it in labels]
+        lines = [f".export {', '.join(self.labels[module])}", f".import {', '.join(others)}", ".code"]
+        for label in self.labels[module]:
+            lines += [f"{label}:", *(self.line(module) for _ in range(5))]
+        return "".join(f" {it}\n" if not it.endswith(":") else f"{it}\n" for it in lines)
+
+
+def sources(tries):
+    """Random sources, assembled by cc65."""
+    linked, refused, different = 0, [], []
+    for at in range(600 if tries.is_all else 60):
+        made, objects = Sources(random.Random(at)), []
+        for module in range(3):
+            pages.put(f"{tries.top}/s{module}.s", made.source(module))
+            words = ("-g",) if at % 2 else ()
+            ran = tries.ran("ca65", "--cpu", "65816", *words, f"s{module}.s", "-o", f"s{module}.o")
+            objects += [read(f"{tries.top}/s{module}.o")] if ran.returncode == 0 else []
+        wanted = tries.by_ld65(objects) if len(objects) == 3 else None
+        if wanted is None:
+            continue
+        linked, found = linked + 1, tries.by_bin65(objects)
+        if isinstance(found, str):
+            refused.append(found)
+        elif found != wanted:
+            different.append(at)
+    tries.check("random sources: the same image", not different and not refused and linked > 30, (linked, refused[:5], different))
+    print(f"{linked} links of 3 random sources: {len(different)} differ, {len(refused)} refused")
+
+
+def whole_libraries(tries):
+    """Libraries of cc65's: bin65 reads all members, and programs that use some of them have the same image."""
+    names = sorted(glob.glob(f"{LIBRARIES}/*.lib")) if tries.is_all else [f"{LIBRARIES}/{it}.lib" for it in ("c64", "atari2600")]
+    for path in names:
+        name, data = os.path.basename(path), read(path)
+        library = libraries.library_of(data, name)
+        members = cc65_objects.read_library(data, name)
+        write(f"{tries.top}/{name}", library.data)
+        ran = tries.ran(tries.program, "ar65", "t", name)
+        tries.check(f"{name}: bin65 reads it", ran.stdout.decode().split() == [it.name for it in members] and not any(it.refusal for it in library.members))
+        wrong = []
+        for fact, member in zip(library.members, members):
+            obj = member.object()
+            tables = tuple((it.name, *pair) for it in obj.exports for pair in it.condes)
+            if (set(fact.exports), set(fact.imports), fact.condes, fact.sections) != (
+                    {it.name for it in obj.exports}, {it.name for it in obj.imports}, tables, tuple((it.name, it.size) for it in obj.sections)):
+                wrong.append(fact)
+        tries.check(f"{name}: what is known of the members", not wrong and len(members) > 400, wrong[:1])
+        drawn(tries, path, name, library)
+
+
+def drawn(tries, path, name, library):
+    """Programs that use five exports of a library, linked by both linkers."""
+    chance, linked, wrong = random.Random(name), 0, []
+    rows = sorted({segment for it in library.members for segment, _ in it.sections} | {"CODE"})
+    pages.put(f"{tries.top}/l.cfg", "MEMORY { ZP: start = 0, size = $100; M: start = $1000, size = $E000; }\nSEGMENTS {\n" + "".join(
+        f"{it}: load = {'ZP, type = zp' if it == 'ZEROPAGE' else 'M'}, optional = yes;\n" for it in rows) + "}\n")
+    exports = [name for it in library.members for name in it.exports]
+    for _ in range(60 if tries.is_all else 15):
+        used = chance.sample(exports, 3)
+        user_ = made_object([("CODE", 1, [(2, False, (0x4C, ("import", at))) for at in range(3)])], used)
+        write(f"{tries.top}/u.o", user_)
+        write(f"{tries.top}/u.r65", translation.translated(cc65_objects.read_object(user_, "u.o")))
+        if tries.ran("ld65", "-C", "l.cfg", "-o", "cc65.bin", "u.o", path).returncode == 0:
+            linked += 1
+            ran = tries.ran(tries.program, "ld65", "-C", "l.cfg", "-o", "bin65.bin", "u.r65", name)
+            if ran.returncode or read(f"{tries.top}/cc65.bin") != read(f"{tries.top}/bin65.bin"):
+                wrong.append((used, ran.stderr))
+    tries.check(f"{name}: programs that use it", linked > 3 and not wrong, (linked, wrong[:3]))
+
+
+def cache(tries):
+    """Cached translations: twice, damaged, at once, in a folder that can't be written, too many."""
+    folder = f"{tries.top}/cache/work65"
+    members = [(f"m{at}.o", user([bytes(range(256)) * 9, (2, False, ("import", 0))])) for at in range(20)]
+    data = made_library(members)
+    program = f"import sys; sys.path.insert(0, {pages.ROOT + '/workbench'!r}); sys.dont_write_bytecode = True\n" + (
+        "from work65.translating.libraries import library_of\nimport hashlib\n"
+        "print(hashlib.sha256(repr(library_of(open(sys.argv[1], 'rb').read(), 'x.lib')).encode()).hexdigest())")
+    write(f"{tries.top}/x.lib", data)
+    write(f"{tries.top}/small.lib", made_library(members[:1]))
+
+    def started(name="x.lib", **more):
+        how = {**os.environ, "XDG_CACHE_HOME": f"{tries.top}/cache", **more}
+        return subprocess.Popen([sys.executable, "-c", program, name], cwd=tries.top, stdout=subprocess.PIPE, stderr=subprocess.STDOUT, env=how)
+
+    def told(*running):
+        return {it.communicate()[0] for it in running}
+
+    wanted = hashlib.sha256(repr(libraries.library_of(data, "x.lib")).encode()).hexdigest().encode() + b"\n"
+    tries.check("four at once", told(*(started() for _ in range(4))) == {wanted} and len(os.listdir(folder)) == 1, os.listdir(folder))
+    entry = f"{folder}/{os.listdir(folder)[0]}"
+    good = read(entry)
+    for name, changed in {"as written": good, "cut": good[:-1], "empty": b"", "a changed byte": good[:50] + b"x" + good[51:]}.items():
+        write(entry, changed)
+        tries.check(f"an entry: {name}", told(started()) == {wanted} and read(entry) == good)
+    write(f"{tries.top}/file", b"")
+    tries.check("no folder", told(started(XDG_CACHE_HOME=f"{tries.top}/file")) == {wanted})
+    tries.check("no home", told(started(XDG_CACHE_HOME="relative", HOME="nowhere")) == {wanted} and not os.path.exists(f"{tries.top}/relative"))
+    for at in range(99):
+        write(f"{folder}/old{at}", b"")
+        os.utime(f"{folder}/old{at}", (at, at))
+    os.remove(entry)
+    told(started(), started("small.lib"))
+    left = os.listdir(folder)
+    tries.check("the oldest go", len(left) == 64 and os.path.basename(entry) in left and "old98" in left and "old0" not in left, len(left))
+
+
+def convert(tries):
+    """The subcommand: files, folders, messages, and that nothing is written if something is wrong."""
+    os.makedirs(f"{tries.top}/a b")
+    for name, data in {"p.o": provider(), "ü.o": user([b"abc", (2, False, ("import", 0))]), "l.lib": made_library([("p.o", provider())]),
+                       "bad.o": provider()[:-1], "bank.o": made_object([("CODE", 1, [(1, False, (0x45, ("section", 0)))])]),
+                       "new.o": BY_HAND, "t.o": made_object((), (), [("start", 5, [(0, 7), (3, 7)])])}.items():
+        write(f"{tries.top}/a b/{name}", data)
+    rows = {
+        "one": (("a b/p.o", "-o", "one.o"), 0, "", ["one.o"]),
+        "a folder": (("a b/p.o", "a b/ü.o", "a b/l.lib", "-o", "out/"), 0, "", ["out/l.lib", "out/p.o", "out/ü.o"]),
+        "the folder here": (("a b/p.o",), 0, "", ["p.o"]),
+        "a damaged one": (("a b/p.o", "a b/bad.o", "-o", "out2/"), 1, "a b/bad.o: damaged file of cc65's tools: it is cut short", []),
+        "a bank": (("a b/bank.o", "-o", "bank"), 1, "a b/bank.o: made.s:7: a .bank has a value only in a link", []),
+        "bin65's own": (("a b/new.o", "-o", "new"), 1, "a b/new.o: already an object or a library of bin65's", []),
+        "a text": (("m.cfg", "-o", "text"), 1, "m.cfg: no object and no library of cc65's", []),
+        "no file": (("none.o", "-o", "none"), 1, "none.o: No such file or directory", []),
+        "over itself": (("a b/p.o", "-o", "a b"), 2, "a b/p.o: it would be overwritten; name another file or folder by -o", []),
+        "two to one": (("a b/p.o", "a b/ü.o", "-o", "x"), 2, "x: no folder, and there are 2 files to convert", []),
+        "two of one name": (("a b/p.o", "one.o", "a b/../a b/p.o", "-o", "out3/"), 1, "one.o: already an object or a library of bin65's", []),
+        "twice": (("a b/p.o", "a b/p.o", "-o", "out3/"), 2, "out3/p.o: two files would be written there", []),
+        "a full disk": (("a b/p.o", "-o", "/dev/full"), 1, "/dev/full: No space left on device", []),
+        "tables": (("a b/t.o", "-o", "tables"), 0, "a b/t.o: the linker of bin65 makes no tables of routines: start (constructor), start (table 3)", ["tables"]),
+    }
+    for name, (words, status, message, written) in rows.items():
+        before = all_files(tries.top)
+        ran = tries.work65("convert", *words)
+        said_ = f"work65: {message}\n" if message else ""
+        is_so = (ran.returncode, ran.stdout, ran.stderr, sorted(all_files(tries.top) - before)) == (status, "", said_, sorted(written))
+        tries.check(f"convert: {name}", is_so, (ran, all_files(tries.top) - before))
+    ran = tries.ran(tries.program, "ld65", "-C", "m.cfg", "-o", "converted.bin", "out/ü.o", "out/l.lib")
+    tries.check("converted files link", ran.returncode == 0 and b"abc\x0A\x80" in read(f"{tries.top}/converted.bin"), ran)
+
+
+def all_files(top):
+    """The files in a folder and below, without those of the cache."""
+    return {os.path.relpath(f"{folder}/{it}", top) for folder, _, names in os.walk(top) for it in names if "/cache" not in folder}
+
+
+def example(tries):
+    """The example's script."""
+    shutil.copytree(f"{pages.ROOT}/example/convert", f"{tries.top}/example/convert")
+    how = {**os.environ, "WORK65": WORK65}
+    ran = subprocess.run(["sh", f"{tries.top}/example/convert/convert.sh", tries.program], capture_output=True, text=True, env=how, check=False)
+    tries.check("the example", ran.returncode == 0 and ran.stdout.endswith("squares.prg is the image that cc65 makes.\n"), ran)
+
+
+ALONE = (by_hand, messages, cache, convert, mutants)
+WITH_CC65 = (beside_od65, expressions, ranges, bits, sources, whole_libraries, example)
 
 
 def main():
     with tempfile.TemporaryDirectory() as top:
         tries = Tries(os.path.abspath(sys.argv[1]), top, sys.argv[2:] == ["all"])
         os.makedirs(f"{top}/temporary")
+        os.environ["XDG_CACHE_HOME"] = f"{top}/cache"
         for part in (*ALONE, *(WITH_CC65 if tries.has_cc65 else ())):
             begun = results.processor_seconds()
             part(tries)
             print(f"{part.__name__}: {results.processor_seconds() - begun:.1f} s")
         if not tries.has_cc65:
             print("cc65 isn't here: nothing is compared with its tools")
+        tries.check("nothing is left", not os.listdir(f"{top}/temporary"))
         sys.exit(results.report(tries.checks))
 
 

@@ -104,7 +104,7 @@ class ObjectWriter:
     def name(self, name: str, position: Optional[Position] = None) -> bytes:
         """Returns the bytes of a name."""
         if not NAME.fullmatch(name):
-            raise self.refuse(position, f"a name with more than {MOST_IN_NAME} bytes or with other bytes than 21 to 7E: {name[:40]}")
+            raise self.refuse(position, f"a name with more than {MOST_IN_NAME} bytes or with other bytes than 21 to 7E: {name[:40]!a}")
         return name.encode("ascii")
 
     def location(self, position: Optional[Position]) -> Tuple[int, int]:
@@ -214,8 +214,9 @@ class ObjectWriter:
         for name in self.module.imports:
             self.imports.setdefault(name, len(self.imports))
         for it in self.module.sections:
-            if self.sections.setdefault(it.name, len(self.sections)) != len(self.sections) - 1:
+            if it.name in self.sections:
                 raise self.refuse(None, f"a second section of segment {it.name}")
+            self.sections[it.name] = len(self.sections)
         sections = [self.section_record(it, self.add_fragments(it)) for it in self.module.sections]
         self.add_exports(self.module.exports)
         self.add_assertions(self.module.assertions)

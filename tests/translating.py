@@ -36,7 +36,7 @@ SEGMENTS {
     ZEROPAGE: load = ZP, type = zp, optional = yes;
     CODE: load = M;
     RODATA: load = M, optional = yes;
-    DATA: load = M, align = 64, optional = yes;
+    DATA: load = M, optional = yes;
     NULL: load = M, optional = yes;
     BSS: load = M, type = bss, optional = yes;
 }
@@ -404,11 +404,11 @@ def beside_od65(tries):
 
 # What cc65's assembler writes, in a source of random lines: operators and functions of expressions, and statements of a value.
 SIGNS = ("+", "-", "*", "&", "|", "^", "=", "<>", "<", ">", "<=", ">=", "&&", "||", ".xor")
-FUNCTIONS = ("<({})", ">({})", "^({})", "~({})", ".not ({})", "-({})", ".loword({})", ".hiword({})", "({}) / 3", "({}) .mod 7", "({}) << 2",
+FUNCTIONS = ("<({})", ">({})", "^({})", "~({})", "(.not ({}))", "-({})", ".loword({})", ".hiword({})", "({}) / 3", "({}) .mod 7", "({}) << 2",
              "({}) >> 5", ".max({}, {})", ".min({}, {})", ".lobyte({})", ".hibyte({})", ".bankbyte({})")
-STATEMENTS = (".byte .lobyte({})", ".word .loword({})", ".dword ({}) & $7FFFFFFF", ".faraddr ({}) & $FFFFFF", ".dbyt .loword({})", "lda #<({})",
+STATEMENTS = (".byte .lobyte({})", ".word .loword({})", ".dword ({}) & $7FFFFFFF", ".faraddr .loword({})", ".dbyt .loword({})", "lda #<({})",
               "ldx #>({})", ".assert ({}) <> $1234567, lderror, \"no\"")
-ADDRESSES = ("lda {}", "jmp {}", "brl {}", "per {}", "jsl {}", "lda f:{}", ".addr {}, {}", "sta {} + 3, x", ".faraddr {}", ".word {} - *", "pea {}")
+ADDRESSES = ("lda {}", "jmp {}", "brl {}", "per {}", "jsl {}", "lda f:{}", ".addr {}, {}", "sta {} + 3, x", ".faraddr {}", ".word .loword({} - *)", "pea {}")
 
 
 class Sources:

@@ -62,6 +62,9 @@ def read_call(words: Sequence[str], environment: Mapping[str, str], tool: str) -
     values: Dict[str, List[str]] = {}
     for key, value in parts.options:
         values.setdefault(key, []).append(value)
+    for keys in (("C", "t"), ("o",), ("m",), ("Ln",), ("dbgfile",)):
+        if sum(len(values.get(it, [])) for it in keys) > 1:
+            raise Problem(f"-{' or -'.join(keys)} is given twice, which ld65 doesn't take")
     places = _Places(values, environment, tool)
     return Call(
         places.config(), values.get("o", [OUTPUT])[-1], [places.input(*it) for it in parts.inputs],

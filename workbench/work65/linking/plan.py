@@ -16,7 +16,7 @@ from work65.linking.selection import Banks, Needs, Selection
 from work65.linking.units import Archive, Unit, modules_of
 from work65.problem import Problem
 from work65.translating import forms, r65_writer
-from work65.translating.r65_libraries import read_index
+from work65.translating.r65_libraries import read_index, write_library
 from work65.translating.translation import LinkFacts, translated
 
 SYMBOLS = "symbols.o"
@@ -151,7 +151,7 @@ class _Planner:
                 known.add(name)
                 body = self.translated(archive.units[at]) if at in special else data[entry.start : entry.start + entry.size]
                 members.append((name, body))
-        return r65_writer.write_library(members, archive.name)
+        return write_library(members, archive.name)
 
 
 def _form(value: Linear) -> Form:

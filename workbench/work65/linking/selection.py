@@ -159,4 +159,4 @@ class Banks:
         if unit is not None and name not in seen:
             value = next(it.value for it in unit.object().exports if it.name == name)
             return self.segments_in(unit, value, (*seen, name))
-        return {it.name for it in self.config.rows if name == f"__{it.name}_RUN__"}
+        return set()

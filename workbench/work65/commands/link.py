@@ -18,7 +18,7 @@ def run_words(words: Sequence[str]) -> Optional[int]:
 
 def add_arguments(parser: argparse.ArgumentParser) -> None:
     """Adds the arguments of this subcommand."""
-    parser.add_argument("words", nargs="*", metavar="ARGUMENT", help="the arguments as for ld65: -C or -t, -o, -m, objects, libraries ..")
+    parser.add_argument("words", nargs="*", metavar="INPUT", help="an object or a library, and every option of ld65")
 
 
 def run(arguments: argparse.Namespace) -> int:

@@ -1,15 +1,18 @@
 """work65 second with a command, or with a command line of ld65: watches the links of a build, and checks each."""
 import json
 import os
+import re
 import shutil
-from typing import List, NamedTuple, Optional, Sequence
+from typing import NamedTuple, Optional, Sequence, Tuple
 
 from work65.linking.checking import Tools, checked
-from work65.linking.comparing import DIFFERENT, SAME, UNKNOWN
-from work65.problem import Problem, complain
+from work65.linking.comparing import DIFFERENT, SAME, UNKNOWN, Verdict
+from work65.output import write_out
+from work65.problem import Problem
 from work65.program import Program
 
 NOT_COMPARED = 2
+CONTROL = re.compile("[\x00-\x1f\x7f]")
 STATUS = {SAME: 0, DIFFERENT: 1, UNKNOWN: NOT_COMPARED}
 
 
@@ -29,17 +32,23 @@ def linker() -> str:
     return os.path.abspath(found)
 
 
-def run_words(words: Sequence[str]) -> Optional[int]:
-    """Runs `second [--keep DIR] [--json] ld65 ARGS` and `second .. -- COMMAND`; None for another command line."""
+def wanted_of(words: Sequence[str]) -> Tuple[Wanted, Sequence[str]]:
+    """Returns what a command line asks for, and the words after that."""
     wanted, at = Wanted("", False, None), 0
-    while at < len(words) and words[at] in ("--keep", "--json", "--bin65"):
+    while at < len(words) and (words[at] == "--json" or words[at] in ("--keep", "--bin65") and at + 1 < len(words)):
         if words[at] == "--json":
             wanted = wanted._replace(is_json=True)
-        elif at + 1 < len(words):
-            at += 1
-            wanted = wanted._replace(**{"kept" if words[at - 1] == "--keep" else "bin65": words[at]})
-        at += 1
-    rest = list(words[at:])
+        elif words[at] == "--keep":
+            wanted = wanted._replace(kept=os.path.abspath(words[at + 1]))
+        else:
+            wanted = wanted._replace(bin65=words[at + 1])
+        at += 1 if words[at] == "--json" else 2
+    return wanted, words[at:]
+
+
+def run_words(words: Sequence[str]) -> Optional[int]:
+    """Runs `second [--keep DIR] [--json] ld65 ARGS` and `second .. -- COMMAND`; None for another command line."""
+    wanted, rest = wanted_of(words)
     try:
         if rest[:1] == ["ld65"]:
             return one_link(rest[1:], wanted)
@@ -54,18 +63,18 @@ def run_words(words: Sequence[str]) -> Optional[int]:
 
 def one_link(words: Sequence[str], wanted: Wanted) -> int:
     """Checks one link."""
-    found = checked(words, Tools(linker(), Program.find(wanted.bin65), os.path.abspath(wanted.kept) if wanted.kept else ""), False)
+    found = checked(words, Tools(linker(), Program.find(wanted.bin65), wanted.kept), False)
     if found is None:
         raise Problem("ld65 is given nothing to link")
-    return report([found._asdict()], wanted)
+    return report([found], wanted)
 
 
-def report(links: List[dict], wanted: Wanted) -> int:
-    """Prints a line for each link, or all as JSON. Returns the worst status."""
+def report(links: Sequence[Verdict], wanted: Wanted) -> int:
+    """Prints a line for each link, or all as JSON. Returns the status: that of a difference before that of a link that wasn't compared."""
     if wanted.is_json:
-        print(json.dumps({"links": links}, indent=1))
+        text = json.dumps({"links": [it._asdict() for it in links]}, indent=1) + "\n"
     else:
-        for it in links:
-            print(it["text"])
-    statuses = {STATUS[it["verdict"]] for it in links}
+        text = "".join(f"{CONTROL.sub('?', it.text)}\n" for it in links)
+    write_out(os.fsencode(text))
+    statuses = {STATUS[it.verdict] for it in links}
     return 1 if 1 in statuses else max(statuses, default=NOT_COMPARED)

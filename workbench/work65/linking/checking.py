@@ -1,7 +1,7 @@
 """Checks one link: cc65's linker and bin65 make its files, and both are compared."""
 import os
 import shutil
-from typing import Dict, List, Mapping, NamedTuple, Optional, Sequence
+from typing import Dict, NamedTuple, Optional, Sequence
 
 from work65.frontend.files import read_bytes
 from work65.linking import theirs
@@ -33,7 +33,7 @@ def checked(words: Sequence[str], tools: Tools, is_done: bool) -> Optional[Verdi
             return None
         with folder_for_a_while() as folder:
             return _checked(call, tools, folder, is_done)
-    except Problem as problem:
+    except (Problem, OSError) as problem:
         return Verdict(UNKNOWN, f"{call.output if call else 'a link'}: not compared: {problem}", {})
 
 

@@ -1,8 +1,6 @@
 """Compares the files and the addresses of a link by cc65's linker with those of bin65."""
-import os
-from typing import Dict, Iterator, List, Mapping, NamedTuple, Optional, Tuple
+from typing import Mapping, NamedTuple, Optional, Tuple
 
-from work65.formats.maps import Module
 from work65.linking.plan import Plan
 from work65.linking.run import Linked, number_of
 from work65.linking.theirs import WIDTH, Theirs

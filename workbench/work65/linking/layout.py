@@ -1,6 +1,6 @@
 """Places the segments of a config as cc65's linker does. bin65 writes an area's bytes as they lie in memory, while cc65's linker leaves
 out rows without bytes: so an area becomes several, its parts, each of which begins where the one before ends."""
-from typing import Dict, Iterator, List, Mapping, NamedTuple, Optional, Sequence, Tuple
+from typing import Dict, Iterator, List, Mapping, NamedTuple, Sequence, Tuple
 
 from work65.linking.config import Area, Config, Row
 from work65.linking.linear import Linear, name

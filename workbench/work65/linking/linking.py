@@ -3,10 +3,10 @@ import os
 from typing import Dict, List, Sequence
 
 from work65.formats.maps import Map
-from work65.linking.call import Call, read_call
+from work65.linking.call import read_call
 from work65.linking.plan import Plan, plan_of
 from work65.linking.run import linked
-from work65.problem import Problem, complain
+from work65.problem import Problem
 from work65.program import Program
 from work65.signals import folder_for_a_while
 

@@ -2,7 +2,7 @@
 import os
 import re
 from functools import partial
-from typing import AbstractSet, Dict, Iterator, List, Mapping, NamedTuple, Optional, Sequence, Set, Tuple
+from typing import AbstractSet, Dict, List, Mapping, NamedTuple, Optional, Sequence, Set, Tuple
 
 from work65.formats import objects
 from work65.formats.objects import Form
@@ -14,7 +14,6 @@ from work65.linking.linear import Linear, read
 from work65.linking.names import Names, names_in
 from work65.linking.selection import Banks, Needs, Selection
 from work65.linking.units import Archive, Unit, modules_of
-from work65.problem import Problem
 from work65.translating import forms, r65_writer
 from work65.translating.r65_libraries import read_index, write_library
 from work65.translating.translation import LinkFacts, translated

@@ -14,11 +14,10 @@ from work65.program import Program
 
 
 class Linked(NamedTuple):
-    """A link by bin65: the files by the names that the config gives, the map, its text, and the numbers that names of the script have."""
+    """A link by bin65: the files by the names that the config gives, the map, and the numbers that names of the script have."""
 
     files: Dict[str, bytes]
     map: Map
-    text: bytes
     numbers: Dict[str, int]
 
 
@@ -35,12 +34,11 @@ def linked(plan: Plan, program: Program, folder: str) -> Linked:
     ran = program.run(write_plan(plan, folder), folder)
     if ran.status:
         raise Problem(f"bin65 refuses: {_named(os.fsdecode(ran.err).strip(), plan)}")
-    text = read_bytes(os.path.join(folder, MAP))
-    placed = read_map(text, "bin65's map")
+    placed = read_map(read_bytes(os.path.join(folder, MAP)), "bin65's map")
     numbers = dict(placed.symbols)
     for it in placed.rows:
         numbers.update({f"__{it.name}_RUN__": it.run, f"__{it.name}_LOAD__": it.load, f"__{it.name}_SIZE__": it.size})
-    return Linked(_files(plan, folder, numbers), placed, text, numbers)
+    return Linked(_files(plan, folder, numbers), placed, numbers)
 
 
 def number_of(value: Linear, numbers: Mapping[str, int]) -> int:

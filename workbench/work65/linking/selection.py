@@ -4,7 +4,7 @@ from typing import Dict, Iterable, List, Mapping, NamedTuple, Optional, Sequence
 
 from work65.formats import objects
 from work65.formats.objects import Form, Place
-from work65.linking.config import Config, Row, Table
+from work65.linking.config import Config, Table
 from work65.linking.names import Names
 from work65.linking.units import Archive, Module, Unit
 from work65.problem import Problem

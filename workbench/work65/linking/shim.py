@@ -14,7 +14,7 @@ def main() -> None:
     signals.heed()
     os.environ["PATH"] = os.pathsep.join(it for it in os.environ["PATH"].split(os.pathsep) if not it.startswith(room))
     found = checked(sys.argv[6:], Tools(linker, Program(bin65), kept), True)
-    line = json.dumps(found and found._asdict()) + "\n"
+    line = json.dumps(found) + "\n"
     # One write of a whole line: links of a parallel build add theirs at the same time.
     results = os.open(os.path.join(room, "links"), os.O_WRONLY | os.O_APPEND | os.O_CREAT, 0o600)
     os.write(results, line.encode("ascii"))

@@ -1,12 +1,12 @@
 """The inputs of a link: cc65's objects, and its libraries with their members."""
 import os
 from functools import lru_cache
-from typing import Callable, List, NamedTuple, Optional, Sequence, Tuple, Union
+from typing import Callable, List, NamedTuple, Sequence, Tuple, Union
 
 from work65.frontend.files import read_bytes
 from work65.linking.call import Input
 from work65.problem import Problem
-from work65.translating.cc65_objects import CcObject, Kind, kind_of, read_object
+from work65.translating.cc65_objects import CcObject, Kind, Member, kind_of, read_library, read_object
 from work65.translating.libraries import MemberFacts, library_of
 
 
@@ -77,14 +77,12 @@ def _archive(data: bytes, name: str) -> Archive:
     base = os.path.basename(name)
 
     @lru_cache(maxsize=1)
-    def members() -> Sequence[object]:
-        from work65.translating.cc65_objects import read_library
-
+    def members() -> Sequence[Member]:
         return read_library(data, name)
 
     def unit(at: int, it: MemberFacts) -> Unit:
         return Unit(f"{base}({it.name})", it.exports, it.imports, it.condes, it.sections, it.has_bank, it.refusal,
-                    lambda: members()[at].object())  # type: ignore[attr-defined]
+                    lambda: members()[at].object())
 
     return Archive(base, [unit(at, it) for at, it in enumerate(library.members)], [(base, library.data)])
 
@@ -94,7 +92,3 @@ def _joined(archives: Sequence[Archive]) -> Archive:
     units = [unit for it in archives for unit in it.units]
     return Archive(" ".join(it.name for it in archives), units, [one for it in archives for one in it.libraries])
 
-
-def exporter(units: Sequence[Unit], name: str) -> Optional[Unit]:
-    """Returns the first module that exports a name."""
-    return next((it for it in units if name in it.exports), None)

@@ -2,7 +2,6 @@
 import json
 import os
 import shlex
-import shutil
 import signal
 import subprocess
 import sys
@@ -10,10 +9,10 @@ from typing import Dict, List, Sequence
 
 import work65
 from work65.linking.builds import NOT_COMPARED, Wanted, linker, report
-from work65.linking.comparing import UNKNOWN
+from work65.linking.comparing import UNKNOWN, Verdict
 from work65.problem import Problem, complain
 from work65.program import Program
-from work65.signals import ENDING, folder_for_a_while
+from work65.signals import folder_for_a_while
 
 # The real linker runs first, as it would without us. Each link leaves a byte in `seen`, and a line in `links` once it's checked.
 SHIM = """#!/bin/sh
@@ -31,7 +30,7 @@ def watched(command: Sequence[str], wanted: Wanted) -> int:
     """Runs a command, prints a line for each link, and returns the status: the command's own if it fails."""
     program, tool = Program.find(wanted.bin65), linker()
     with folder_for_a_while() as room:
-        environment = _environment(room, tool, program, os.path.abspath(wanted.kept) if wanted.kept else "")
+        environment = _environment(room, tool, program, wanted.kept)
         status = _ran(command, environment)
         links = _links(room)
         own = report(links, wanted) if links or wanted.is_json else NOT_COMPARED
@@ -94,17 +93,18 @@ def _shadow(room: str, home: str, values: Dict[str, str]) -> str:
     return shadow
 
 
-def _links(room: str) -> List[dict]:
+def _links(room: str) -> List[Verdict]:
     """Returns the results of all checks, in the order in which they came. A link whose check has left none isn't compared."""
-    def lines(name: str) -> List[str]:
-        path = os.path.join(room, name)
-        if not os.path.exists(path):
-            return []
-        with open(path, encoding="utf-8", errors="surrogateescape") as it:
-            return it.read().splitlines()
+    found = [json.loads(it) for it in _lines(room, "links")]
+    lost = len(_lines(room, "seen")) - len(found)
+    why = ": ".join([LOST, *_lines(room, "errors")[-1:]])
+    return [Verdict(*it) for it in found if it] + [Verdict(UNKNOWN, why, {})] * max(lost, 0)
 
-    found = [json.loads(it) for it in lines("links")]
-    lost = len(lines("seen")) - len(found)
-    why = lines("errors")[-1:]
-    links = [it for it in found if it]
-    return links + [{"verdict": UNKNOWN, "text": ": ".join([LOST, *why]), "sizes": {}}] * max(lost, 0)
+
+def _lines(room: str, name: str) -> List[str]:
+    """Returns the lines of a file that the shims write, none if it isn't there."""
+    path = os.path.join(room, name)
+    if not os.path.exists(path):
+        return []
+    with open(path, encoding="utf-8", errors="surrogateescape") as it:
+        return it.read().splitlines()

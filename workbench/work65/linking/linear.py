@@ -52,8 +52,8 @@ class Linear:
         taken = [it for it, count in self.names.items() for _ in range(-count)]
         if self.number < 0:
             taken.append(f"${-self.number:X}")
-        elif self.number or not added:
-            added.insert(0, f"${self.number:X}")
+        if self.number > 0 or not added:
+            added.insert(0, f"${max(self.number, 0):X}")
         return " - ".join([" + ".join(added), *taken])
 
 

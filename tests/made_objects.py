@@ -67,7 +67,8 @@ def export(texts, it):
     """An export: (name, expression, [(table, priority), ..])."""
     name, value, condes = it
     table = bytes(kind << 5 | priority - 1 for kind, priority in condes)
-    return b"".join((number(0x90 | 0x100 | len(condes)), b"\x02", table, texts(name), expression(value), number(0), number(0)))
+    kind, data = (0x80, struct.pack("<I", value % (1 << 32))) if isinstance(value, int) else (0x190, expression(value))
+    return b"".join((number(kind | len(condes)), b"\x02", table, texts(name), data, number(0), number(0)))
 
 
 def made_object(sections=(), imports=(), exports=(), assertions=(), source="made.s"):

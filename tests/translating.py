@@ -96,10 +96,10 @@ def read(name):
 
 
 def random_expression(chance, depth):
-    """An expression of three imports (two addresses and a number) and three sections."""
+    """An expression of four imports (two addresses and two numbers) and three sections."""
     if depth == 0 or chance.random() < 0.15:
         section = ("section", chance.randrange(3))
-        return chance.choice((chance.choice(NUMBERS), chance.randrange(-300, 300), ("import", chance.randrange(3)), section,
+        return chance.choice((chance.choice(NUMBERS), chance.randrange(-300, 300), ("import", chance.randrange(4)), section,
                               (0x01, section, chance.randrange(-20, 400))))
     if chance.random() < 0.3:
         return (chance.choice(PREFIXES), random_expression(chance, depth - 1))
@@ -112,15 +112,15 @@ def random_expression(chance, depth):
 
 
 def provider():
-    """The object that exports the three names: two addresses and a number."""
-    exports = (("first", (0x01, ("section", 0), 5), ()), ("second", ("section", 1), ()), ("third", 0x1234, ()))
+    """The object that exports the four names: two addresses and two numbers."""
+    exports = (("first", (0x01, ("section", 0), 5), ()), ("second", ("section", 1), ()), ("third", 0x1234, ()), ("fourth", -2, ()))
     return made_object([("CODE", 1, [b"0123456789"]), ("BSS", 4, [("fill", 7)]), ("ZEROPAGE", 1, [])], (), exports)
 
 
 def user(fragments, assertions=()):
     """An object that has these fragments in CODE."""
     sections = [("CODE", 1, fragments), ("RODATA", 16, [b"abc", ("fill", 5)]), ("ZEROPAGE", 2, [("fill", 3)])]
-    return made_object(sections, ["first", "second", "third"], (), assertions)
+    return made_object(sections, ["first", "second", "third", "fourth"], (), assertions)
 
 
 def expressions(tries):
@@ -189,6 +189,7 @@ IMAGES = {
     "the fourth byte": ((1, False, (0x4B, (0x09, ("import", 2), 16))), "12"),
     "the higher word": ((2, False, (0x4D, (0x09, ("import", 2), 8))), "12 00"),
     "a far address": ((3, False, (0x4E, (0x09, ("import", 2), 16))), "00 00 34"),
+    "an exported number has no sign": ((4, False, ("import", 3)), "FE FF FF FF"),
     "short-circuited": ((1, False, (0x12, 1, (0x04, 1, 0))), "01"),
     "a division by zero": ((1, False, (0x04, 1, 0)), None),
 }
@@ -205,6 +206,15 @@ def by_hand(tries):
         found = tries.by_bin65((user([b"()", fragment]), provider()))
         at = found[2 : 2 + fragment[0]] if isinstance(found, bytes) else None
         tries.check(f"an image by hand: {name}", at == (None if wanted is None else bytes.fromhex(wanted)), found[:60])
+
+
+def assertions(tries):
+    """Assertions that only the linker can decide: true and false ones of each kind."""
+    for action, kind in enumerate(("warning", "error", "ldwarning", "lderror")):
+        for wanted in (0x1234, 0x1235):
+            found = tries.by_bin65((user([b"x"], [((0x0B, ("import", 2), wanted), action, f"a text ({kind})")]), provider()))
+            is_refused = isinstance(found, str) and found.strip() == f"0.r65:made.s:7: Error: a text ({kind})"
+            tries.check(f"{kind}: {wanted:X}", is_refused if wanted == 0x1235 and action & 1 else found[:1] == b"x", found)
 
 
 def said(read, *words):
@@ -496,7 +506,7 @@ def drawn(tries, path, name, library):
     pages.put(f"{tries.top}/l.cfg", "MEMORY { ZP: start = 0, size = $100; M: start = $1000, size = $E000; }\nSEGMENTS {\n" + "".join(
         f"{it}: load = {'ZP, type = zp' if it == 'ZEROPAGE' else 'M'}, optional = yes;\n" for it in rows) + "}\n")
     exports = [name for it in library.members for name in it.exports]
-    for _ in range(60 if tries.is_all else 15):
+    for _ in range(60 if tries.is_all else 10):
         used = chance.sample(exports, 3)
         user_ = made_object([("CODE", 1, [(2, False, (0x4C, ("import", at))) for at in range(3)])], used)
         write(f"{tries.top}/u.o", user_)
@@ -592,7 +602,7 @@ def example(tries):
     tries.check("the example", ran.returncode == 0 and ran.stdout.endswith("squares.prg is the image that cc65 makes.\n"), ran)
 
 
-ALONE = (by_hand, messages, cache, convert, mutants)
+ALONE = (by_hand, assertions, messages, cache, convert, mutants)
 WITH_CC65 = (beside_od65, expressions, ranges, bits, sources, whole_libraries, example)
 
 

@@ -238,7 +238,7 @@ class CcObject:
                 size += kind & 7
                 yield Value(kind & 7, kind >= 0x10, expression, at)
             elif kind == 0x00:
-                length, at = number(data, at)
+                length, at = (data[at], at + 1) if data[at] < 0x80 else number(data, at)
                 yield data[at : at + length]
                 at, size = at + length, size + length
             elif kind == 0x20:
@@ -247,7 +247,7 @@ class CcObject:
                 yield Fill(length)
             else:
                 raise Damage("an unknown kind of fragment")
-            at = past_numbers(data, at)
+            at = at + 2 if data[at] == 1 and data[at + 1] < 0x80 else past_numbers(data, at)
         if at != section.end or size != section.size:
             raise Damage("a section has another size")
 
@@ -302,17 +302,21 @@ class CcObject:
 
     def read_lines(self) -> "array[int]":
         """Reads the source lines: of each the file's number and, in the lower 32 bits, the line. What is no source line is -1."""
-        data, found = self.data, array("q")
+        data, found, files = self.data, array("q"), len(self.files)
         count, at = self.table(LINES)
         for _ in range(count):
-            line, at = number(data, at)
-            _, at = number(data, at)
-            file, at = number(data, at)
-            kind, at = number(data, at)
-            if file >= len(self.files):
+            line, at = (data[at], at + 1) if data[at] < 0x80 else number(data, at)
+            column_and_after = data[at : at + 4]
+            if max(column_and_after) < 0x80 and column_and_after[3] == 0:
+                file, kind, at = column_and_after[1], column_and_after[2], at + 4
+            else:
+                _, at = number(data, at)
+                file, at = number(data, at)
+                kind, at = number(data, at)
+                at = past_numbers(data, at)
+            if file >= files:
                 raise Damage("an unknown source")
             found.append(-1 if kind & 3 else file << 32 | line)
-            at = past_numbers(data, at)
         self.finish(LINES, at)
         return found
 

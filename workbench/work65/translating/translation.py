@@ -1,10 +1,10 @@
 """Translates an object of cc65's assembler to an object of bin65's."""
-from typing import AbstractSet, Callable, Iterator, NamedTuple, Optional, Sequence, Tuple
+from typing import AbstractSet, Callable, Iterator, NamedTuple, Optional, Sequence
 
 from work65.formats import objects
 from work65.formats.objects import Form, Place
 from work65.translating import forms, r65_writer
-from work65.translating.cc65_objects import CcObject, Expression, Fill, ImportIndex, Operation, Section, SectionIndex, Value
+from work65.translating.cc65_objects import CcObject, Expression, Fill, ImportIndex, Operation, Section, SectionIndex
 from work65.translating.forms import NoValue, joined, node_count, prefixed
 from work65.translating.r65_writer import Untranslatable
 
@@ -20,15 +20,18 @@ PREFIXES = {0x41: forms.NEGATED, 0x42: forms.COMPLEMENT, 0x44: forms.OPPOSITE, 0
 BOTH, EITHER, MAXIMUM, MINIMUM, SWAP, BANK = 0x11, 0x12, 0x14, 0x15, 0x43, 0x45
 # The parts of a value that bin65 has no prefix for: how far it is shifted to the right, and which bits are kept.
 PARTS = {0x4B: (24, 0xFF), 0x4C: (0, 0xFFFF), 0x4D: (16, 0xFFFF), 0x4E: (0, 0xFFFFFF), 0x4F: (0, 0xFFFFFFFF), 0x50: (0, 0xFFFF)}
-# Values that have no width of their own, by their bytes and whether they are signed: several values, each of a width, of how far the
-# value is shifted to the right, and of the bits that are kept. The last one checks the range of the whole.
-SPLIT = {
+# By the bytes of a value and whether it is signed: values of bin65's widths, and of each how far the value is shifted to the right, and
+# which bits are kept (0: all). The last one checks the range of the whole.
+PARTS_OF_VALUE = {
+    (1, False): ((r65_writer.BYTE, 0, 0),),
+    (2, False): ((r65_writer.WORD, 0, 0),),
     (3, False): ((r65_writer.WORD, 0, 0xFFFF), (r65_writer.BYTE, 16, 0)),
+    (4, False): ((r65_writer.DWORD, 0, 0),),
+    (1, True): ((r65_writer.BRANCH, 0, 0),),
     (2, True): ((r65_writer.BYTE, 0, 0xFF), (r65_writer.BRANCH, 8, 0)),
     (3, True): ((r65_writer.WORD, 0, 0xFFFF), (r65_writer.BRANCH, 16, 0)),
     (4, True): ((r65_writer.WORD, 0, 0xFFFF), (r65_writer.BYTE, 16, 0xFF), (r65_writer.BRANCH, 24, 0)),
 }
-WHOLE = {(1, False): r65_writer.BYTE, (2, False): r65_writer.WORD, (4, False): r65_writer.DWORD, (1, True): r65_writer.BRANCH}
 
 
 class LinkFacts(NamedTuple):
@@ -129,18 +132,10 @@ class Translation:
             elif isinstance(fragment, Fill):
                 yield objects.Fill(fragment.count)
             else:
-                yield from self.values(fragment)
-
-    def values(self, value: Value) -> Iterator[r65_writer.Value]:
-        """Yields the values of a value."""
-        width, is_signed, expression, lines = value
-        form, position = self.form_at(expression, lines), self.object.position(lines)
-        whole = WHOLE.get((width, is_signed))
-        if whole is not None:
-            yield r65_writer.Value(whole, form, position)
-            return
-        for part, shift, mask in SPLIT[width, is_signed]:
-            yield r65_writer.Value(part, part_of(form, shift, mask), position)
+                width, is_signed, expression, lines = fragment
+                form, position = self.form_at(expression, lines), self.object.position(lines)
+                for part, shift, mask in PARTS_OF_VALUE[width, is_signed]:
+                    yield r65_writer.Value(part, part_of(form, shift, mask) if shift or mask else form, position)
 
     def exports(self) -> Iterator[r65_writer.Export]:
         """Yields the exports."""

@@ -18,7 +18,7 @@ MOST_NAMED = 4
 
 def add_arguments(parser: argparse.ArgumentParser) -> None:
     """Adds the arguments of this subcommand."""
-    parser.add_argument("-o", dest="output", metavar="FILE|FOLDER", help="the converted file, or a folder for them (default: this folder)")
+    parser.add_argument("-o", dest="output", metavar="PATH", help="the converted file, or a folder for them (default: this folder)")
     parser.add_argument("files", nargs="+", metavar="FILE", help="an object or a library of cc65's")
 
 

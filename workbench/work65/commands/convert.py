@@ -49,7 +49,8 @@ def converted_object(obj: CcObject, exports: List[Export]) -> bytes:
 
 def converted(data: bytes, name: str) -> bytes:
     """Converts a file."""
-    kind, exports = kind_of(data), []  # type: Optional[Kind], List[Export]
+    exports: List[Export] = []
+    kind = kind_of(data)
     if kind is None:
         what = "already an object or a library of bin65's" if data[:3] == b"R65" else "no object and no library of cc65's"
         raise Problem(f"{name}: {what}")

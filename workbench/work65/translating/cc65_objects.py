@@ -1,6 +1,7 @@
 """Objects and libraries of cc65's tools. All lengths and numbers are checked: a damaged file is a Problem that names the module."""
 import struct
 from array import array
+from contextlib import contextmanager
 from enum import Enum
 from typing import Iterator, List, NamedTuple, Optional, Tuple, Union
 
@@ -16,6 +17,8 @@ OPTIONS, FILES, SECTIONS, IMPORTS, EXPORTS, DEBUG_SYMBOLS, LINES, STRINGS, ASSER
 LIBRARY_HEAD = struct.Struct("<4sHHI")
 ENTRY = struct.Struct("<HIII")
 UNSIGNED, SIGNED = struct.Struct("<I"), struct.Struct("<i")
+# What is no line of a source, in the table of lines.
+NO_LINE = -1
 # How deep an expression may be nested.
 DEEPEST = 300
 # The bits of an export's type: how many condes bytes it has, whether it has a size, and whether its value is an expression.
@@ -117,31 +120,28 @@ class Section(NamedTuple):
 
     def fragments(self) -> Iterator[Fragment]:
         """Yields the fragments. Reads them anew at each call, and keeps none."""
-        try:
+        with reading(self.owner.name):
             yield from self.owner.fragments_of(self)
-        except (Damage, IndexError, struct.error) as error:
-            raise damaged(self.owner.name, error) from error
 
 
-def damaged(name: str, error: Exception) -> Problem:
-    """Returns the message on a damaged file."""
-    reason = str(error) if isinstance(error, Damage) else "it is cut short"
-    return Problem(f"{name}: damaged file of cc65's tools: {reason}")
+@contextmanager
+def reading(name: str) -> Iterator[None]:
+    """Makes a Problem that names the file of what a damaged one raises."""
+    try:
+        yield
+    except (Damage, IndexError, struct.error) as error:
+        reason = str(error) if isinstance(error, Damage) else "it is cut short"
+        raise Problem(f"{name}: damaged file of cc65's tools: {reason}") from error
 
 
 class CcObject:
     """An object of cc65's assembler. Fragments and source lines are read only when they are asked for."""
 
-    name: str
-    imports: List[Import]
-    exports: List[Export]
-    sections: List[Section]
-    assertions: List[Assertion]
-
     def __init__(self, data: bytes, name: str) -> None:
         self.data, self.name = data, name
         self.tables = tables_of(data)
         self.lines: Optional["array[int]"] = None
+        self.files: List[str] = []
         self.strings = strings(data, *self.tables[STRINGS])
         self.section_count, _ = number(data, self.tables[SECTIONS][0])
         self.sections = list(self.read_sections())
@@ -276,17 +276,16 @@ class CcObject:
 
     def position(self, lines: int) -> Optional[Position]:
         """Returns the first line of a source in the list at an offset, None if there is none."""
-        try:
+        with reading(self.name):
             count, at = number(self.data, lines)
             if count and self.lines is None:
                 self.files = self.read_files()
                 self.lines = self.read_lines()
             for _ in range(count):
                 index, at = number(self.data, at)
-                if self.lines[index] >= 0:
-                    return Position(self.files[self.lines[index] >> 32], self.lines[index] & 0xFFFFFFFF)
-        except (Damage, IndexError, struct.error) as error:
-            raise damaged(self.name, error) from error
+                line = self.lines[index] if self.lines else NO_LINE
+                if line != NO_LINE:
+                    return Position(self.files[line >> 32], line & 0xFFFFFFFF)
         return None
 
     def read_files(self) -> List[str]:
@@ -301,7 +300,7 @@ class CcObject:
         return found
 
     def read_lines(self) -> "array[int]":
-        """Reads the source lines: of each the file's number and, in the lower 32 bits, the line. What is no source line is -1."""
+        """Reads the source lines: of each the file's number and, in the lower 32 bits, the line. What is no line of a source is NO_LINE."""
         data, found, files = self.data, array("q"), len(self.files)
         count, at = self.table(LINES)
         for _ in range(count):
@@ -316,7 +315,7 @@ class CcObject:
                 at = past_numbers(data, at)
             if file >= files:
                 raise Damage("an unknown source")
-            found.append(-1 if kind & 3 else file << 32 | line)
+            found.append(NO_LINE if kind & 3 else file << 32 | line)
         self.finish(LINES, at)
         return found
 
@@ -341,10 +340,8 @@ def kind_of(data: bytes) -> Optional[Kind]:
 
 def read_object(data: bytes, name: str) -> CcObject:
     """Reads an object. Messages name it by `name`."""
-    try:
+    with reading(name):
         return CcObject(data, name)
-    except (Damage, IndexError, struct.error) as error:
-        raise damaged(name, error) from error
 
 
 class Member(NamedTuple):
@@ -379,7 +376,5 @@ def members_of(data: bytes, library: str) -> Iterator[Member]:
 
 def read_library(data: bytes, name: str) -> List[Member]:
     """Reads a library: its members, whose objects aren't read yet. Messages name it by `name`."""
-    try:
+    with reading(name):
         return list(members_of(data, name))
-    except (Damage, IndexError, struct.error) as error:
-        raise damaged(name, error) from error

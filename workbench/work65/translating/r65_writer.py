@@ -3,12 +3,12 @@ import re
 import struct
 from typing import Dict, Iterable, NamedTuple, Optional, Sequence, Tuple, Union
 
-from work65.formats.objects import Fill, Form, Import, Operation, Place
+from work65.formats.objects import Fill, Form, Import, Place
 from work65.problem import Problem
 from work65.translating.cc65_objects import Position
 from work65.translating.forms import MOST_NODES, node_count
 
-HEAD, LIBRARY_HEAD = b"R65o\x02", b"R65l\x01"
+HEAD = b"R65o\x02"
 FILE, IMPORT, SECTION, LITERAL, FILL, VALUE, EXPORT, ASSERT, END = 9, 1, 2, 3, 4, 5, 6, 7, 8
 MOST_IN_RECORD, MOST_IN_SECTION, GREATEST_EXPONENT, MOST_IN_NAME = 4096, 16_777_216, 15, 255
 RECORD, VALUE_HEAD, LOCATION = struct.Struct("<BH"), struct.Struct("<BHBII"), struct.Struct("<II")

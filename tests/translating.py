@@ -226,16 +226,25 @@ def said(read, *words):
         return str(problem)
 
 
+def nested(depth):
+    """An expression of so many operations in each other, that is the start of section 0."""
+    found = ("section", 0)
+    for _ in range(depth):
+        found = (0x01, found, 0)
+    return found
+
+
 def messages(tries):
     """Files that can't be read or translated: each message in full."""
     whole, library = user([b"abc", (2, False, ("import", 0))]), made_library([("a.o", provider())])
-    damaged = "damaged file of cc65's tools: "
+    damaged = "can't be read as a file of cc65's tools: "
     reads = {
         "": (b"", f"{damaged}it is cut short"),
         "text": (b"a text that is longer than a head" * 9, f"{damaged}it isn't an object"),
         "a version": (whole[:4] + b"\x12" + whole[5:], f"{damaged}its version is 18; only objects of version 17 can be read"),
         "cut": (whole[:-1], f"{damaged}it is cut short"),
         "library": (library * 9, f"{damaged}it isn't an object"),
+        "a deep expression": (made_object([("CODE", 1, [])], (), [("deep", nested(301), ())]), f"{damaged}an expression is nested over 300 deep"),
     }
     for name, (data, wanted) in reads.items():
         tries.check(f"message: {name}", said(cc65_objects.read_object, data, "x.o") == f"x.o: {wanted}", said(cc65_objects.read_object, data, "x.o"))
@@ -243,6 +252,11 @@ def messages(tries):
                                ("a cut library", library[:-1], "it is cut short"), ("no library", whole, "it isn't a library")):
         found = said(cc65_objects.read_library, data, "x.lib")
         tries.check(f"message: {name}", found == f"x.lib: {damaged}{wanted}", found)
+    deep = cc65_objects.read_object(made_object([("CODE", 1, [])], (), [("deep", nested(300), ())]), "x.o")
+    another = made_object([("CODE", 1, [b"abc"])]).replace(b"\x03\x01\x02\x01\x00\x03abc", b"\x04\x01\x02\x01\x00\x03abc")
+    found = said(translation.translated, cc65_objects.read_object(another, "x.o"))
+    tries.check("message: a section's size", found == f"x.o: {damaged}a section has another size", found)
+    tries.check("a deep expression", b"deep" in translation.translated(deep))
     names = {
         "an alignment": ([("CODE", 3, [])], [], [], "segment CODE has the alignment 3, no power of two up to 32768"),
         "a great alignment": ([("CODE", 65536, [])], [], [], "segment CODE has the alignment 65536, no power of two up to 32768"),
@@ -567,7 +581,7 @@ def convert(tries):
         "one": (("a b/p.o", "-o", "one.o"), 0, "", ["one.o"]),
         "a folder": (("a b/p.o", "a b/ü.o", "a b/l.lib", "-o", "out/"), 0, "", ["out/l.lib", "out/p.o", "out/ü.o"]),
         "the folder here": (("a b/p.o",), 0, "", ["p.o"]),
-        "a damaged one": (("a b/p.o", "a b/bad.o", "-o", "out2/"), 1, "a b/bad.o: damaged file of cc65's tools: it is cut short", []),
+        "a damaged one": (("a b/p.o", "a b/bad.o", "-o", "out2/"), 1, "a b/bad.o: can't be read as a file of cc65's tools: it is cut short", []),
         "a bank": (("a b/bank.o", "-o", "bank"), 1, "a b/bank.o: made.s:7: a .bank has a value only in a link", []),
         "bin65's own": (("a b/new.o", "-o", "new"), 1, "a b/new.o: already an object or a library of bin65's", []),
         "a text": (("m.cfg", "-o", "text"), 1, "m.cfg: no object and no library of cc65's", []),

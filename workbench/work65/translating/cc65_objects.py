@@ -131,7 +131,7 @@ def reading(name: str) -> Iterator[None]:
         yield
     except (Damage, IndexError, struct.error) as error:
         reason = str(error) if isinstance(error, Damage) else "it is cut short"
-        raise Problem(f"{name}: damaged file of cc65's tools: {reason}") from error
+        raise Problem(f"{name}: can't be read as a file of cc65's tools: {reason}") from error
 
 
 class CcObject:
@@ -262,7 +262,7 @@ class CcObject:
             if index >= (len(self.imports) if code == 0x82 else self.section_count):
                 raise Damage("an unknown import or section")
             return (ImportIndex(index) if code == 0x82 else SectionIndex(index)), at
-        if depth > DEEPEST:
+        if depth >= DEEPEST:
             raise Damage(f"an expression is nested over {DEEPEST} deep")
         if not (0x01 <= code <= 0x15 or 0x41 <= code <= 0x50):
             raise Damage("an unknown operation")

@@ -248,7 +248,8 @@ def messages(tries):
     }
     for name, (data, wanted) in reads.items():
         tries.check(f"message: {name}", said(cc65_objects.read_object, data, "x.o") == f"x.o: {wanted}", said(cc65_objects.read_object, data, "x.o"))
-    for name, data, wanted in (("a library's version", library[:4] + b"\x0e" + library[5:], "its version is 14; only libraries of version 13 can be read"),
+    for name, data, wanted in (("overlapping members", library[:-19] + b"\x04" + library[-18:] * 4, "its members overlap"),
+                               ("a library's version", library[:4] + b"\x0e" + library[5:], "its version is 14; only libraries of version 13 can be read"),
                                ("a cut library", library[:-1], "it is cut short"), ("no library", whole, "it isn't a library")):
         found = said(cc65_objects.read_library, data, "x.lib")
         tries.check(f"message: {name}", found == f"x.lib: {damaged}{wanted}", found)

@@ -364,13 +364,16 @@ def members_of(data: bytes, library: str) -> Iterator[Member]:
     if version != LIBRARY_VERSION:
         raise Damage(f"its version is {version}; only libraries of version {LIBRARY_VERSION} can be read")
     count, at = number(data, at)
+    total = 0
     for _ in range(count):
         length, at = number(data, at)
         name, at = data[at : at + length], at + length
         _, _, start, size = ENTRY.unpack_from(data, at)
-        at += ENTRY.size
+        at, total = at + ENTRY.size, total + size
         if start + size > len(data):
             raise Damage("it is cut short")
+        if total > len(data):
+            raise Damage("its members overlap")
         yield Member(name.decode("utf-8", "surrogateescape"), data[start : start + size], library)
 
 

@@ -129,6 +129,9 @@ def expressions(tries):
     for at in range(links):
         trees = [random_expression(chance, chance.randrange(1, 5)) for _ in range(20)]
         fragments = [(4, False, (DWORD, tree if not shift else (SHIFT_RIGHT, tree, shift))) for tree in trees for shift in (0, 32)]
+        for width, tree in zip((1, 2, 3, 4), trees):
+            part = (SHIFT_RIGHT, (DWORD, tree), 32 - 8 * width)
+            fragments += [(width, False, part), (width, True, (0x02, part, (0x09, 1, 8 * width - 1)))]
         objects = (user(fragments, [((0x06, 1, trees[0]), 3, "no")]), provider())
         wanted, found = tries.by_ld65(objects), tries.by_bin65(objects)
         if isinstance(found, str):

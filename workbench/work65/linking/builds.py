@@ -1,4 +1,4 @@
-"""work65 second with a command, or with a command line of ld65: watches the links of a build, and checks each."""
+"""work65 second with a command, or with a command line of ld65: checks the links of a build."""
 import json
 import os
 import re
@@ -12,8 +12,8 @@ from work65.problem import Problem
 from work65.program import Program
 
 NOT_COMPARED = 2
-CONTROL = re.compile("[\x00-\x1f\x7f]")
 STATUS = {SAME: 0, DIFFERENT: 1, UNKNOWN: NOT_COMPARED}
+CONTROL = re.compile("[\x00-\x1f\x7f]")
 
 
 class Wanted(NamedTuple):
@@ -28,26 +28,29 @@ def linker() -> str:
     """Returns the path of cc65's linker."""
     found = shutil.which("ld65")
     if found is None:
-        raise Problem("cc65's ld65 isn't on the path", NOT_COMPARED)
+        raise Problem("cc65's ld65 isn't on the path")
     return os.path.abspath(found)
 
 
 def wanted_of(words: Sequence[str]) -> Tuple[Wanted, Sequence[str]]:
     """Returns what a command line asks for, and the words after that."""
     wanted, at = Wanted("", False, None), 0
-    while at < len(words) and (words[at] == "--json" or words[at] in ("--keep", "--bin65") and at + 1 < len(words)):
-        if words[at] == "--json":
-            wanted = wanted._replace(is_json=True)
-        elif words[at] == "--keep":
-            wanted = wanted._replace(kept=os.path.abspath(words[at + 1]))
+    while at < len(words):
+        word, value = words[at], words[at + 1] if at + 1 < len(words) else ""
+        if word == "--json":
+            wanted, at = wanted._replace(is_json=True), at - 1
+        elif word == "--keep" and value:
+            wanted = wanted._replace(kept=os.path.abspath(value))
+        elif word == "--bin65" and value:
+            wanted = wanted._replace(bin65=value)
         else:
-            wanted = wanted._replace(bin65=words[at + 1])
-        at += 1 if words[at] == "--json" else 2
+            break
+        at += 2
     return wanted, words[at:]
 
 
 def run_words(words: Sequence[str]) -> Optional[int]:
-    """Runs `second [--keep DIR] [--json] ld65 ARGS` and `second .. -- COMMAND`; None for another command line."""
+    """Runs `second .. ld65 ARGUMENT ..` and `second .. -- COMMAND ..`; None for other words."""
     wanted, rest = wanted_of(words)
     try:
         if rest[:1] == ["ld65"]:
@@ -70,7 +73,8 @@ def one_link(words: Sequence[str], wanted: Wanted) -> int:
 
 
 def report(links: Sequence[Verdict], wanted: Wanted) -> int:
-    """Prints a line for each link, or all as JSON. Returns the status: that of a difference before that of a link that wasn't compared."""
+    """Prints a line for each link, or all as JSON. Returns the status: that of a difference before
+    that of a link that wasn't compared."""
     if wanted.is_json:
         text = json.dumps({"links": [it._asdict() for it in links]}, indent=1) + "\n"
     else:

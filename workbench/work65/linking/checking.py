@@ -7,8 +7,9 @@ from work65.frontend.files import read_bytes
 from work65.linking import theirs
 from work65.linking.call import Call, read_call
 from work65.linking.comparing import DIFFERENT, SAME, UNKNOWN, Verdict, compared, moved
-from work65.linking.plan import MAP, Plan, plan_of
-from work65.linking.run import linked
+from work65.linking.plan import Plan, plan_of
+from work65.linking.run import MAP, SCRIPT, linked
+from work65.linking.script import OUTPUT
 from work65.problem import Problem
 from work65.program import Program
 from work65.signals import folder_for_a_while
@@ -17,7 +18,7 @@ REPEAT = "link.txt"
 
 
 class Tools(NamedTuple):
-    """The programs of a check: cc65's linker and bin65, and the folder in which to keep what bin65 linked, "" for none."""
+    """What checks a link: cc65's linker, bin65, and the folder for what bin65 linked ("": none)."""
 
     linker: str
     program: Program
@@ -25,7 +26,8 @@ class Tools(NamedTuple):
 
 
 def checked(words: Sequence[str], tools: Tools, is_done: bool) -> Optional[Verdict]:
-    """Checks a link by its command line; None if it is none. If `is_done`, cc65's linker has made its files already."""
+    """Checks a link by its command line; None if it links nothing. If `is_done`, cc65's linker has
+    made its files already."""
     call = None
     try:
         call = read_call(words, os.environ, tools.linker)
@@ -34,11 +36,13 @@ def checked(words: Sequence[str], tools: Tools, is_done: bool) -> Optional[Verdi
         with folder_for_a_while() as folder:
             return _checked(call, tools, folder, is_done)
     except (Problem, OSError) as problem:
-        return Verdict(UNKNOWN, f"{call.output if call else 'a link'}: not compared: {problem}", {})
+        name = call.output if call else "a link"
+        return Verdict(UNKNOWN, f"{name}: not compared: {problem}", {})
 
 
 def _checked(call: Call, tools: Tools, folder: str, is_done: bool) -> Verdict:
-    """Checks a link in a folder. The addresses are compared by a map of cc65's linker, which may fail at a link that it makes without."""
+    """Checks a link in a folder. The addresses are compared by a map of cc65's linker, which may
+    fail at a link that it makes without."""
     other, lacking = None, ""
     try:
         other = theirs.link(call, tools.linker, folder)
@@ -50,21 +54,21 @@ def _checked(call: Call, tools: Tools, folder: str, is_done: bool) -> Verdict:
     ours = linked(plan, tools.program, folder)
     if tools.kept:
         keep(plan, folder, tools.kept)
-    found = compared(plan, _made(plan) if is_done or other is None else other.files, ours)
+    found = compared(plan, _made(plan) if is_done or not other else other.files, ours)
     said = moved(other, ours) if other else ""
     if found.verdict == SAME and said:
-        return Verdict(DIFFERENT, f"{call.output}: the same image, but other addresses: {said}", found.sizes)
+        text = f"{call.output}: the same image, but other addresses: {said}"
+        return Verdict(DIFFERENT, text, found.sizes)
     return found._replace(text=found.text + lacking)
 
 
 def _made(plan: Plan) -> Dict[str, bytes]:
     """Returns the files that cc65's linker has made where it ran."""
-    names = dict.fromkeys(it.file for it in plan.parts if it.file)
-    return {name: read_bytes(name) for name in names if os.path.isfile(name)}
+    return {name: read_bytes(name) for name in plan.made if os.path.isfile(name)}
 
 
 def keep(plan: Plan, folder: str, kept: str) -> None:
-    """Copies what bin65 links, and its map, to a new folder, with the command that repeats the link."""
+    """Copies what bin65 linked to a new folder, with the command that repeats the link."""
     base, number = os.path.basename(plan.call.output) or "link", 1
     while True:
         room = os.path.join(kept, base if number == 1 else f"{base}-{number}")
@@ -76,6 +80,6 @@ def keep(plan: Plan, folder: str, kept: str) -> None:
     for name in os.listdir(folder):
         if not name.startswith(theirs.IMAGE):
             shutil.copyfile(os.path.join(folder, name), os.path.join(room, name))
-    words = ["bin65", "ld65", "-C", "link.cfg", "-o", "image", "-m", MAP, *(f"'{name}'" for name, _ in plan.inputs)]
+    inputs = " ".join(name for name, _ in plan.inputs)
     with open(os.path.join(room, REPEAT), "w", encoding="utf-8") as it:
-        it.write(" ".join(words) + "\n")
+        it.write(f"bin65 ld65 -C {SCRIPT} -o {OUTPUT} -m {MAP} {inputs}\n")

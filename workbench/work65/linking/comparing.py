@@ -1,17 +1,16 @@
 """Compares the files and the addresses of a link by cc65's linker with those of bin65."""
-from typing import Mapping, NamedTuple, Optional, Tuple
+from typing import Mapping, NamedTuple, Optional
 
 from work65.linking.plan import Plan
 from work65.linking.run import Linked, number_of
 from work65.linking.theirs import WIDTH, Theirs
-from work65.linking.units import Unit
 from work65.translating.cc65_objects import CcObject, Fill, Position, Value
 
 SAME, DIFFERENT, UNKNOWN = "same", "different", "not compared"
 
 
 class Verdict(NamedTuple):
-    """What a link's check says: a verdict, its text, and the sizes of the files that were compared."""
+    """What came of a link's check: one of three words, a text, and the sizes of ld65's files."""
 
     verdict: str
     text: str
@@ -24,86 +23,82 @@ def compared(plan: Plan, theirs: Mapping[str, bytes], ours: Linked) -> Verdict:
     for name in dict.fromkeys([*ours.files, *theirs]):
         one, other = theirs.get(name, b""), ours.files.get(name, b"")
         if one != other:
-            return Verdict(DIFFERENT, _difference(plan, name, (one, other), ours), sizes)
-    total = f"{sum(sizes.values())} bytes{f' in {len(sizes)} files' if len(sizes) > 1 else ''}"
+            pairs = enumerate(zip(one, other))
+            at = next((it for it, (a, b) in pairs if a != b), min(len(one), len(other)))
+            where = place_of(plan, name, at, ours)
+            if at in (len(one), len(other)):
+                what = f"{name}: ld65 has {len(one)} bytes, bin65 {len(other)}"
+            else:
+                values = f"{one[at]:02X} and {other[at]:02X}"
+                what = f"{name} differs from byte {at} on (ld65 and bin65: {values})"
+            return Verdict(DIFFERENT, f"{what}: {where}", sizes)
+    total = f"{sum(sizes.values())} bytes{f' in {len(sizes)} files' * (len(sizes) > 1)}"
     return Verdict(SAME, f"{plan.call.output}: the same image, {total} ({_modules(plan)})", sizes)
 
 
 def _modules(plan: Plan) -> str:
     """Returns how many modules a link has, and how many of them are from each library."""
     members = plan.selection.members
-    objects = len(plan.units) - sum(members.values())
-    counts = [f"{objects} module{'s' * (objects != 1)}", *(f"{count} of {name}" for name, count in members.items())]
-    return ", ".join(counts)
-
-
-def _difference(plan: Plan, name: str, files: Tuple[bytes, bytes], ours: Linked) -> str:
-    """Returns the message on the first byte in which two files differ."""
-    one, other = files
-    common = min(len(one), len(other))
-    at = next((it for it in range(common) if one[it] != other[it]), common)
-    if at == common:
-        return f"{name}: another length, ld65 has {len(one)} bytes and bin65 {len(other)}: {place_of(plan, name, max(at - 1, 0), ours)}"
-    return f"{name} differs from byte {at} on (ld65 and bin65: {one[at]:02X} and {other[at]:02X}): {place_of(plan, name, at, ours)}"
+    count = len(plan.selection.units) - sum(members.values())
+    modules = f"{count} module{'s' * (count != 1)}"
+    return ", ".join([modules, *(f"{it} of {name}" for name, it in members.items())])
 
 
 def place_of(plan: Plan, name: str, offset: int, ours: Linked) -> str:
-    """Returns where a byte of a file is: area, segment, module and source line, as far as they are known."""
+    """Returns where a byte of a file is: area, segment, module and line, as far as is known."""
     if name in plan.config.formats:
-        return "a file of blocks"
+        return "in a load file"
     for part in plan.parts:
         length = number_of(part.length, ours.numbers) if part.file == name else 0
-        if offset >= length:
-            offset -= length
-            continue
-        address = offset + number_of(part.symbol("START"), ours.numbers)
-        for row in ours.map.rows:
-            loads = any(it.name == row.name and it.load == part.area for it in part.rows)
-            if loads and row.load <= address < row.load + row.size:
-                return f"area {part.area}, segment {row.name}, {_module_at(plan, row.name, address - row.load, ours)}"
-        return f"area {part.area}, in no segment"
-    return "in no area"
+        if offset < length:
+            address = offset + number_of(part.symbol("START"), ours.numbers)
+            names = [it.name for it in part.rows if it.load == part.area]
+            for row in (it for it in ours.map.rows if it.name in names):
+                if row.load <= address < row.load + row.size:
+                    module = _module_at(plan, row.name, address - row.load, ours)
+                    return f"area {part.area}, segment {row.name}, {module}"
+            return f"area {part.area}, in no segment"
+        offset -= length
+    return "after the last area"
 
 
 def _module_at(plan: Plan, segment: str, offset: int, ours: Linked) -> str:
-    """Returns the module that has a byte of a segment, and the line."""
-    for at, module in enumerate(ours.map.modules):
-        for part in module.parts:
+    """Returns the module that has a byte of a segment, and the line. bin65's map begins with the
+    object of the linker's own names, and ends with tables."""
+    for unit, module in zip([None, *plan.selection.units], ours.map.modules):
+        for part in module.parts if unit else ():
             if part.segment == segment and part.offset <= offset < part.offset + part.size:
-                unit = _unit(plan, at)
-                if unit is None:
-                    return f"module {module.name}"
+                assert unit is not None
                 position = position_in(unit.object(), segment, offset - part.offset)
-                return f"module {unit.name}" + (f", {position.file}:{position.line}" if position else "")
-    return "between two modules"
-
-
-def _unit(plan: Plan, at: int) -> Optional[Unit]:
-    """Returns the module of an index in bin65's map, which begins with the object of the linker's own names."""
-    return plan.units[at - 1] if 0 < at <= len(plan.units) else None
+                line = f", {position.file}:{position.line}" if position else ""
+                return f"module {unit.name}{line}"
+    return "in no module"
 
 
 def position_in(obj: CcObject, segment: str, offset: int) -> Optional[Position]:
-    """Returns the source line of a byte of an object."""
+    """Returns the source line of a byte of an object, None where the object has none."""
     section = next(it for it in obj.sections if it.name == segment)
     at = 0
-    for fragment in section.fragments():
-        at += len(fragment) if isinstance(fragment, bytes) else fragment.count if isinstance(fragment, Fill) else fragment.width
+    for it in section.fragments():
+        at += it.width if isinstance(it, Value) else it.count if isinstance(it, Fill) else len(it)
         if offset < at:
-            return obj.position(fragment.lines) if isinstance(fragment, Value) else None
+            return obj.position(it.lines) if isinstance(it, Value) else None
     return None
 
 
 def moved(theirs: Theirs, ours: Linked) -> str:
-    """Returns the first segment or export that has another address in bin65's map, "" if there is none."""
-    rows = {it.name: it for it in ours.map.rows}
-    for name, (start, size) in theirs.segments.items():
-        row = rows.get(name)
-        if row is None or size and (row.run != start or row.size != size):
-            return f"segment {name} has {size} bytes at ${start:04X} in ld65's map" + \
-                (f", {row.size} at ${row.run:04X} in bin65's" if row else ", and none in bin65's")
+    """Returns the first segment or export that has another address in bin65's map, "" if none."""
+    rows = {it.name: (it.run, it.size) for it in ours.map.rows}
+    for name, place in theirs.segments.items():
+        own = rows.get(name)
+        if own != place and (place[1] or own is None or own[1]):
+            mine = f"{own[1]} at ${own[0]:04X}" if own else "none"
+            return (
+                f"segment {name} has {place[1]} bytes at ${place[0]:04X} in ld65's map, "
+                f"{mine} in bin65's"
+            )
     for name, value in theirs.exports.items():
-        own = ours.map.symbols.get(name)
-        if own is not None and own & WIDTH != value:
-            return f"{name} is ${value:04X} in ld65's map, ${own & WIDTH:04X} in bin65's"
+        number = ours.map.symbols.get(name)
+        if number is not None and number & WIDTH != value:
+            return f"{name} is ${value:04X} in ld65's map, ${number & WIDTH:04X} in bin65's"
     return ""

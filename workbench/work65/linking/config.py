@@ -1,34 +1,35 @@
-"""A config of cc65's linker: its memory areas, segments, symbols, formats and tables, with their defaults."""
+"""A config of cc65's linker: memory areas, segments, symbols, formats and tables of .condes."""
 import os
 import re
 from typing import Dict, List, Mapping, NamedTuple, Optional, Sequence, Tuple
 
 from work65.frontend.script_sums import value_of
-from work65.frontend.scripts import Attribute, Block, Entry, Word, blocks_of, words_of
+from work65.frontend.scripts import Entry, Word, blocks_of, words_of
 from work65.problem import Problem
 
 Words = Sequence[Word]
 SWITCHES = {"YES": True, "TRUE": True, "1": True, "NO": False, "FALSE": False, "0": False}
-KINDS = ("RO", "RW", "BSS", "ZP")
-UNWRITTEN = ("BSS", "ZP")
+KINDS, UNWRITTEN = ("RO", "RW", "BSS", "ZP"), ("BSS", "ZP")
 BINARY, ATARI = "BINARY", "ATARI"
 FORMATS = {"BIN": BINARY, "BINARY": BINARY, "ATARI": ATARI}
-# The tables of .condes by the names that a config may give them.
+# The tables of .condes that a config may name.
 TABLES = {"CONSTRUCTOR": 0, "DESTRUCTOR": 1, "INTERRUPTOR": 2}
 DEFAULT_START = 0x200
 ESCAPE = re.compile("%O|%%")
-ATTRIBUTES: Dict[str, Tuple[str, ...]] = {
+# The attributes of each block's entries. FORMATS has entries of another kind.
+BLOCKS: Dict[str, Tuple[str, ...]] = {
     "MEMORY": ("START", "SIZE", "TYPE", "FILE", "FILL", "FILLVAL", "DEFINE", "BANK"),
-    "SEGMENTS": ("LOAD", "RUN", "TYPE", "ALIGN", "ALIGN_LOAD", "START", "OFFSET", "FILLVAL", "DEFINE", "OPTIONAL"),
+    "SEGMENTS": ("LOAD", "RUN", "TYPE", "ALIGN", "ALIGN_LOAD", "START", "OFFSET", "FILLVAL",
+                 "DEFINE", "OPTIONAL"),
     "SYMBOLS": ("TYPE", "VALUE", "ADDRSIZE"),
     "FILES": ("FORMAT",),
-    "CONDES": ("TYPE", "LABEL", "COUNT", "SEGMENT", "ORDER", "IMPORT"),
-    "STARTADDRESS": ("DEFAULT",),
-}
+    "FORMATS": (),
+    "FEATURES": ("TYPE", "LABEL", "COUNT", "SEGMENT", "ORDER", "IMPORT", "DEFAULT"),
+}  # fmt: skip
 
 
 class Area(NamedTuple):
-    """A memory area: the sums of its start, size and bank (without words if it has none)."""
+    """A memory area: the words of its start, size and bank (none if it has no bank)."""
 
     name: str
     line: int
@@ -64,7 +65,7 @@ class Row(NamedTuple):
 
 
 class Symbol(NamedTuple):
-    """A symbol: its type in upper case, and the sum of its value."""
+    """A symbol: its type in upper case, and the words of its value."""
 
     name: str
     line: int
@@ -73,7 +74,7 @@ class Symbol(NamedTuple):
 
 
 class Table(NamedTuple):
-    """A table of .condes: its type, label and segment, the name of its number of entries, and what its use imports."""
+    """A table of .condes: its type, where it is, the name of its length, and what it imports."""
 
     number: int
     label: str
@@ -84,14 +85,14 @@ class Table(NamedTuple):
 
 
 class Atari(NamedTuple):
-    """What FORMATS says on ATARI: the name of the start, and a name for each area after which it's called."""
+    """What FORMATS says on ATARI: where the program starts, and what is called after an area."""
 
     start: str = ""
     calls: Tuple[Tuple[str, str], ...] = ()
 
 
 class Config(NamedTuple):
-    """A config. Files are known by their names; `formats` has those that aren't plain bytes."""
+    """A config. `formats` has the files that have one."""
 
     areas: List[Area]
     rows: List[Row]
@@ -102,7 +103,7 @@ class Config(NamedTuple):
 
 
 class Given(NamedTuple):
-    """What the command line gives to a config: its name, the output's name, and the value of %S, None without -S."""
+    """What a command line gives to a config: the names of both files, and %S if it has -S."""
 
     name: str
     output: str
@@ -110,79 +111,81 @@ class Given(NamedTuple):
 
 
 def named(text: str, output: str) -> str:
-    """Returns the name of a file that a string of a config gives, in which %O is the output's name."""
+    """Returns the file that a string of a config names, in which %O is the output's name."""
     return ESCAPE.sub(lambda it: output if it[0] == "%O" else "%", text)
 
 
 def read_config(text: str, given: Given) -> Config:
-    """Reads a config. Raises a Problem for what isn't one, and for formats that can't be made."""
-    blocks = blocks_of(words_of(text))
+    """Reads a config. Raises a Problem for what isn't one, and for what bin65 can't do."""
     try:
-        return _Reader(blocks, given).config()
-    except (IndexError, ValueError):
+        return _Reader(text, given).config()
+    except (IndexError, ValueError, KeyError):
         raise Problem(f"{given.name}: no config that cc65's linker takes") from None
 
 
 class _Reader:
     """Reads the blocks of a config."""
 
-    def __init__(self, blocks: List[Block], given: Given) -> None:
-        self.given, self.blocks = given, blocks
-        for block in blocks:
-            if block.word.upper not in ("MEMORY", "SEGMENTS", "SYMBOLS", "FILES", "FORMATS", "FEATURES"):
+    def __init__(self, text: str, given: Given) -> None:
+        self.given, self.start = given, DEFAULT_START
+        self.entries: Dict[str, List[Entry]] = {it: [] for it in BLOCKS}
+        for block in blocks_of(words_of(text)):
+            if block.word.upper not in BLOCKS:
                 raise self.problem(block.word, "is no block of a config")
-        start = next((self.number(it, "DEFAULT") for it in self.entries("FEATURES") if it.name.upper == "STARTADDRESS"), None)
-        found = given.start if given.start is not None else start
-        self.start = DEFAULT_START if found is None else found
+            for entry in block.entries:
+                for it in entry.attributes if block.word.upper != "FORMATS" else ():
+                    if it.name.upper not in BLOCKS[block.word.upper] or not it.value:
+                        raise self.problem(it.name, "is no attribute there")
+            self.entries[block.word.upper] += block.entries
 
     def config(self) -> Config:
         """Reads all blocks."""
-        formats = dict(self.format_of(it) for it in self.entries("FILES"))
-        features = self.entries("FEATURES")
-        return Config([self.area(it) for it in self.entries("MEMORY")], [self.row(it) for it in self.entries("SEGMENTS")],
-                      [self.symbol(it) for it in self.entries("SYMBOLS")],
-                      [self.table(it) for it in features if it.name.upper == "CONDES"], formats,
-                      self.atari([it for it in self.entries("FORMATS") if it.name.upper == ATARI]))
+        features = self.entries["FEATURES"]
+        for it in features:
+            if it.name.upper not in ("CONDES", "STARTADDRESS"):
+                raise self.problem(it.name, "is no feature that is known")
+            default = self.number(it, "DEFAULT")
+            self.start = self.start if default is None else default
+        if self.given.start is not None:
+            self.start = self.given.start
+        return Config(
+            list(map(self.area, self.entries["MEMORY"])),
+            list(map(self.row, self.entries["SEGMENTS"])),
+            list(map(self.symbol, self.entries["SYMBOLS"])),
+            [self.table(it) for it in features if it.name.upper == "CONDES"],
+            dict(map(self.format_of, self.entries["FILES"])), self.atari(),
+        )  # fmt: skip
 
     def problem(self, word: Word, text: str) -> Problem:
         """Returns the message about a word of the config."""
         return Problem(f"{self.given.name}:{word.line}: {word.text} {text}")
 
-    def entries(self, block: str) -> List[Entry]:
-        """Returns the entries of all blocks of a kind, whose attributes must be known."""
-        found = [it for one in self.blocks if one.word.upper == block for it in one.entries]
-        for entry in found:
-            known = ATTRIBUTES.get(entry.name.upper if block == "FEATURES" else block, ())
-            for it in entry.attributes if block != "FORMATS" else ():
-                if it.name.upper not in known or not it.value:
-                    raise self.problem(it.name, "isn't known as an attribute")
-        return found
-
     def sum(self, entry: Entry, name: str) -> Words:
         """Returns the words of a sum, in which %S is a number."""
+        start = str(self.start)
         words = entry.get(name)
-        return [it._replace(kind="number", text=str(self.start)) if it.upper == "%S" else it for it in words]
+        return [it._replace(kind="number", text=start) if it.upper == "%S" else it for it in words]
 
     def number(self, entry: Entry, name: str) -> Optional[int]:
         """Returns the number of an attribute, None if there is none."""
-        words = entry.get(name) if name == "DEFAULT" else self.sum(entry, name)
+        words = self.sum(entry, name)
         found = value_of(words, {}) if words else None
         if words and found is None:
             raise self.problem(words[0], "isn't constant")
         return found
 
     def text(self, entry: Entry, name: str, otherwise: str = "") -> str:
-        """Returns a name or a string, in which %O is the output's name."""
+        """Returns a name or a string."""
         words = entry.get(name)
-        if not words:
-            return otherwise
-        return self.string(words[0]) if words[0].kind in ("string", "output") else words[0].text
+        return self.string(words[0]) if words else otherwise
 
     def string(self, word: Word) -> str:
-        """Returns the text of a string, or of %O."""
-        if word.kind == "output":
-            return self.given.output
-        return named(os.fsdecode(word.text.strip('"').encode("latin-1")), self.given.output)
+        """Returns the text of a word, in which %O is the output's name."""
+        if word.kind not in ("string", "output"):
+            return word.text
+        is_output = word.kind == "output"
+        text = "%O" if is_output else os.fsdecode(word.text.strip('"').encode("latin-1"))
+        return named(text, self.given.output)
 
     def switch(self, entry: Entry, name: str) -> bool:
         """Returns whether an attribute is set."""
@@ -193,26 +196,31 @@ class _Reader:
         start, size = self.sum(entry, "START"), self.sum(entry, "SIZE")
         if not start or not size:
             raise self.problem(entry.name, "lacks a start or a size")
-        return Area(entry.name.text, entry.name.line, start, size, self.text(entry, "FILE", self.given.output),
-                    self.switch(entry, "FILL"), self.number(entry, "FILLVAL") or 0, self.switch(entry, "DEFINE"),
-                    self.text(entry, "TYPE").upper() == "RO", self.sum(entry, "BANK"))
+        file, kind = self.text(entry, "FILE", self.given.output), self.text(entry, "TYPE")
+        return Area(
+            entry.name.text, entry.name.line, start, size, file, self.switch(entry, "FILL"),
+            self.number(entry, "FILLVAL") or 0, self.switch(entry, "DEFINE"),
+            kind.upper() == "RO", self.sum(entry, "BANK"),
+        )  # fmt: skip
 
     def row(self, entry: Entry) -> Row:
         """Reads an entry of SEGMENTS."""
         load, kind = self.text(entry, "LOAD"), self.text(entry, "TYPE", "RW").upper()
         if kind not in KINDS:
             raise self.problem(entry.name, f"has the type {kind.lower()}, which bin65 doesn't have")
-        run = self.text(entry, "RUN", load)
-        return Row(entry.name.text, entry.name.line, load or run, run, kind, self.number(entry, "ALIGN"),
-                   self.number(entry, "ALIGN_LOAD"), self.number(entry, "START"), self.number(entry, "OFFSET"),
-                   self.number(entry, "FILLVAL"), self.switch(entry, "DEFINE"))
+        numbers = ("ALIGN", "ALIGN_LOAD", "START", "OFFSET", "FILLVAL")
+        align, align_load, start, offset, fill = (self.number(entry, it) for it in numbers)
+        return Row(
+            entry.name.text, entry.name.line, load, self.text(entry, "RUN", load), kind, align,
+            align_load, start, offset, fill, self.switch(entry, "DEFINE"),
+        )  # fmt: skip
 
     def symbol(self, entry: Entry) -> Symbol:
         """Reads an entry of SYMBOLS."""
-        kind = self.text(entry, "TYPE").upper()
-        if kind not in ("EXPORT", "IMPORT", "WEAK") or (not entry.get("VALUE")) is not (kind == "IMPORT"):
+        kind, value = self.text(entry, "TYPE").upper(), self.sum(entry, "VALUE")
+        if kind not in ("EXPORT", "IMPORT", "WEAK") or bool(value) == (kind == "IMPORT"):
             raise self.problem(entry.name, "isn't complete or has an unknown type")
-        return Symbol(entry.name.text, entry.name.line, kind, self.sum(entry, "VALUE"))
+        return Symbol(entry.name.text, entry.name.line, kind, value)
 
     def format_of(self, entry: Entry) -> Tuple[str, str]:
         """Reads an entry of FILES."""
@@ -223,14 +231,16 @@ class _Reader:
 
     def table(self, entry: Entry) -> Table:
         """Reads a table of FEATURES."""
-        kind = self.text(entry, "TYPE")
-        number = TABLES.get(kind.upper())
-        return Table(int(kind) if number is None else number, self.text(entry, "LABEL"), self.text(entry, "SEGMENT"),
-                     self.text(entry, "COUNT"), self.text(entry, "ORDER").upper() == "DECREASING", self.text(entry, "IMPORT"))
+        kind = self.text(entry, "TYPE").upper()
+        number = TABLES[kind] if kind in TABLES else int(kind)
+        label, segment, count = (self.text(entry, it) for it in ("LABEL", "SEGMENT", "COUNT"))
+        is_decreasing = self.text(entry, "ORDER").upper() == "DECREASING"
+        return Table(number, label, segment, count, is_decreasing, self.text(entry, "IMPORT"))
 
-    def atari(self, entries: List[Entry]) -> Atari:
+    def atari(self) -> Atari:
         """Reads what FORMATS says on ATARI. The name of a call follows its area after a colon."""
-        parts: List[Attribute] = [it for entry in entries for it in entry.attributes]
+        entries = [it for it in self.entries["FORMATS"] if it.name.upper == ATARI]
+        parts = [it for entry in entries for it in entry.attributes]
         start, calls = "", []
         for at, it in enumerate(parts):
             if it.name.upper == "RUNAD":
@@ -238,5 +248,5 @@ class _Reader:
             elif it.name.upper == "INITAD":
                 calls.append((it.value[0].text, parts[at + 1].value[0].text))
             elif it.name.text != ":":
-                raise self.problem(it.name, "isn't known as an attribute")
+                raise self.problem(it.name, "is no attribute there")
         return Atari(start, tuple(calls))

@@ -1,10 +1,10 @@
-"""Containers around the bytes of areas: the load files of Atari's system, which have blocks with addresses."""
+"""Containers around the bytes of areas: load files of Atari's system, blocks with addresses."""
 from typing import List, Mapping, NamedTuple, Sequence
 
 from work65.linking.config import Atari
 from work65.problem import Problem
 
-# Where a load file puts the address at which the program starts, and of a routine that is called while it's loaded.
+# Where a load file puts the address of the program's start, and of a routine to call.
 START, CALL = 0x2E0, 0x2E2
 HEAD = b"\xff\xff"
 
@@ -18,23 +18,28 @@ class Piece(NamedTuple):
 
 
 def atari(pieces: Sequence[Piece], wanted: Atari, numbers: Mapping[str, int]) -> bytes:
-    """Returns a load file. Bytes of an area that follow each other in memory are one block, and a block without bytes is only there
-    where no other follows."""
+    """Returns a load file. Bytes of an area that follow each other in memory are one block. An
+    area's last block is only there without bytes if none of another area follows."""
     calls = dict(wanted.calls)
     found: List[Piece] = []
     for at, it in enumerate(pieces):
-        before = found[-1] if found else None
-        if before and before.area == it.area and before.address + len(before.data) == it.address:
-            found[-1] = before._replace(data=before.data + it.data)
+        last = found[-1] if found else None
+        if last and last.area == it.area and last.address + len(last.data) == it.address:
+            found[-1] = last._replace(data=last.data + it.data)
         else:
-            found = [one for one in found if one.data] + [it]
+            found = _with(found, it)
         is_last = at + 1 == len(pieces) or pieces[at + 1].area != it.area
         if is_last and it.area in calls and any(one.data for one in found if one.area == it.area):
-            found.append(_address(CALL, calls[it.area], numbers))
+            found = _with(found, _address(CALL, calls[it.area], numbers))
     if wanted.start:
-        found.append(_address(START, wanted.start, numbers))
-    blocks = [it for it in found[:-1] if it.data] + found[-1:]
-    return (HEAD if blocks else b"") + b"".join(_block(it) for it in blocks)
+        found = _with(found, _address(START, wanted.start, numbers))
+    return (HEAD if pieces else b"") + b"".join(map(_block, found))
+
+
+def _with(blocks: List[Piece], it: Piece) -> List[Piece]:
+    """Returns blocks with one more, which takes the place of an empty one of another area."""
+    is_replaced = blocks and not blocks[-1].data and blocks[-1].area != it.area
+    return (blocks[:-1] if is_replaced else blocks) + [it]
 
 
 def _address(place: int, name: str, numbers: Mapping[str, int]) -> Piece:

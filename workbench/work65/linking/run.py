@@ -8,13 +8,17 @@ from work65.frontend.files import read_bytes
 from work65.linking import containers
 from work65.linking.config import ATARI
 from work65.linking.linear import Linear
-from work65.linking.plan import MAP, OUTPUT, SCRIPT, Plan
+from work65.linking.plan import Plan
+from work65.linking.script import OUTPUT
 from work65.problem import Problem
 from work65.program import Program
 
+SCRIPT, MAP = "link.cfg", "map"
+
 
 class Linked(NamedTuple):
-    """A link by bin65: the files by the names that the config gives, the map, and the numbers that names of the script have."""
+    """A link by bin65: the files by the names that the config gives, the map, and the numbers of
+    the script's names."""
 
     files: Dict[str, bytes]
     map: Map
@@ -33,11 +37,12 @@ def linked(plan: Plan, program: Program, folder: str) -> Linked:
     """Links a plan. Raises a Problem with bin65's message if bin65 can't."""
     ran = program.run(write_plan(plan, folder), folder)
     if ran.status:
-        raise Problem(f"bin65 refuses: {_named(os.fsdecode(ran.err).strip(), plan)}")
+        raise Problem(f"bin65 refuses: {_named(os.fsdecode(ran.err), plan)}")
     placed = read_map(read_bytes(os.path.join(folder, MAP)), "bin65's map")
     numbers = dict(placed.symbols)
     for it in placed.rows:
-        numbers.update({f"__{it.name}_RUN__": it.run, f"__{it.name}_LOAD__": it.load, f"__{it.name}_SIZE__": it.size})
+        for kind, number in (("RUN", it.run), ("LOAD", it.load), ("SIZE", it.size)):
+            numbers[f"__{it.name}_{kind}__"] = number
     return Linked(_files(plan, folder, numbers), placed, numbers)
 
 
@@ -48,29 +53,28 @@ def number_of(value: Linear, numbers: Mapping[str, int]) -> int:
 
 def _files(plan: Plan, folder: str, numbers: Mapping[str, int]) -> Dict[str, bytes]:
     """Returns the files that the link makes."""
-    found = {}
-    for name in dict.fromkeys(it.file for it in plan.parts if it.file):
-        parts = [it for it in plan.parts if it.file == name]
+    found: Dict[str, bytes] = {}
+    pieces: Dict[str, List[containers.Piece]] = {}
+    for part in plan.parts:
+        # bin65 writes no file where an area has no bytes.
+        path = os.path.join(folder, plan.files.get(part.name, ""))
+        data = read_bytes(path) if os.path.isfile(path) else b""
+        if plan.config.formats.get(part.file) == ATARI:
+            piece = containers.Piece(part.area, number_of(part.symbol("START"), numbers), data)
+            pieces.setdefault(part.file, []).append(piece)
+        elif part.file:
+            found[part.file] = data
+    for name in plan.made:
         if plan.config.formats.get(name) == ATARI:
-            pieces = [containers.Piece(it.area, number_of(it.symbol("START"), numbers), _made(folder, plan.files[it.name]))
-                      for it in parts]
-            found[name] = containers.atari(pieces, plan.config.atari, numbers)
-        else:
-            found[name] = _made(folder, plan.files[parts[0].name])
-    return found
-
-
-def _made(folder: str, name: str) -> bytes:
-    """Returns a file of bin65's, which writes none where an area has no bytes."""
-    path = os.path.join(folder, name)
-    return read_bytes(path) if os.path.isfile(path) else b""
+            found[name] = containers.atari(pieces.get(name, ()), plan.config.atari, numbers)
+    return {**dict.fromkeys(plan.made, b""), **found}
 
 
 def _named(text: str, plan: Plan) -> str:
-    """Returns a message of bin65's with the user's names of modules and areas."""
-    text = text.split("\n")[0]
+    """Returns the first line of a message of bin65's with the user's modules and areas."""
+    text = text.strip().split("\n")[0]
     for file, name in plan.names.items():
         if text.startswith(file):
-            return name + text[len(file):]
+            return name + text[len(file) :]
     areas = {it.name: it.area for it in plan.parts}
     return re.sub(r"\w+", lambda it: areas.get(it[0], it[0]), text)

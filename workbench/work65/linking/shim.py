@@ -1,4 +1,4 @@
-"""Checks the link that cc65's linker has just made: run by the script that stands for ld65 in a watched build."""
+"""Checks the link that cc65's linker has just made: run by the script that stands for ld65."""
 import json
 import os
 import sys
@@ -9,13 +9,12 @@ from work65.program import Program
 
 
 def main() -> None:
-    """Checks one link, and adds a line to the results: null for a call of ld65 that links nothing."""
+    """Checks one link, and adds a line to the results: null for a call that links nothing."""
     room, linker, bin65, kept = sys.argv[2:6]
     signals.heed()
-    os.environ["PATH"] = os.pathsep.join(it for it in os.environ["PATH"].split(os.pathsep) if not it.startswith(room))
     found = checked(sys.argv[6:], Tools(linker, Program(bin65), kept), True)
-    line = json.dumps(found) + "\n"
     # One write of a whole line: links of a parallel build add theirs at the same time.
-    results = os.open(os.path.join(room, "links"), os.O_WRONLY | os.O_APPEND | os.O_CREAT, 0o600)
-    os.write(results, line.encode("ascii"))
+    mode = os.O_WRONLY | os.O_APPEND | os.O_CREAT
+    results = os.open(os.path.join(room, "links"), mode, 0o600)
+    os.write(results, f"{json.dumps(found)}\n".encode("ascii"))
     os.close(results)

@@ -6,13 +6,15 @@ from typing import Callable, List, NamedTuple, Sequence, Tuple, Union
 from work65.frontend.files import read_bytes
 from work65.linking.call import Input
 from work65.problem import Problem
-from work65.translating.cc65_objects import CcObject, Kind, Member, kind_of, read_library, read_object
+from work65.translating.cc65_objects import CcObject, Kind, Member, kind_of
+from work65.translating.cc65_objects import read_library, read_object
 from work65.translating.libraries import MemberFacts, library_of
 
 
 class Unit(NamedTuple):
-    """A module that a link can have: its name in messages, the names that it exports and imports, its exports in tables of .condes (name,
-    type, priority), its segments with their sizes, whether it has a .bank, why it can't be translated, and its object."""
+    """A module that a link can have: its name in messages, what it exports and imports, its exports
+    in tables of .condes (name, type, priority), its segments with their sizes, whether it may have
+    a .bank, why it can't be translated, and its object."""
 
     name: str
     exports: Sequence[str]
@@ -25,19 +27,18 @@ class Unit(NamedTuple):
 
 
 class Archive(NamedTuple):
-    """A library, or the libraries of a group: the name in messages, the members, and the bytes and the name of each library of bin65's
-    that has them, one after the other."""
+    """A library, or the libraries of a group: the members, and bin65's libraries of them."""
 
     name: str
     units: List[Unit]
-    libraries: List[Tuple[str, bytes]]
+    libraries: List[bytes]
 
 
 Module = Union[Unit, Archive]
 
 
 def modules_of(inputs: Sequence[Input]) -> List[Module]:
-    """Reads the inputs, in the order in which the linker takes them: a group's libraries at its end."""
+    """Reads the inputs, in the order in which ld65 takes them: a group's libraries at its end."""
     found: List[Module] = []
     waiting: List[Archive] = []
     for at, it in enumerate(inputs):
@@ -65,30 +66,33 @@ def _module(it: Input) -> Module:
 
 def unit_of(obj: CcObject) -> Unit:
     """Returns an object as a module of a link."""
-    condes = [(it.name, number, priority) for it in obj.exports for number, priority in it.condes]
+    exports = [it.name for it in obj.exports]
     imports = list(dict.fromkeys(it.name for it in obj.imports))
+    condes = [(it.name, number, priority) for it in obj.exports for number, priority in it.condes]
     sections = [(it.name, it.size) for it in obj.sections]
-    return Unit(obj.name, [it.name for it in obj.exports], imports, condes, sections, True, "", lambda: obj)
+    return Unit(obj.name, exports, imports, condes, sections, True, "", lambda: obj)
 
 
 def _archive(data: bytes, name: str) -> Archive:
     """Reads a library."""
-    library = library_of(data, name)
-    base = os.path.basename(name)
+    library, base = library_of(data, name), os.path.basename(name)
 
     @lru_cache(maxsize=1)
     def members() -> Sequence[Member]:
+        """Reads the members of cc65's library, when one of them is asked for."""
         return read_library(data, name)
 
     def unit(at: int, it: MemberFacts) -> Unit:
-        return Unit(f"{base}({it.name})", it.exports, it.imports, it.condes, it.sections, it.has_bank, it.refusal,
-                    lambda: members()[at].object())
+        """Returns a member."""
+        facts = (it.exports, it.imports, it.condes, it.sections, it.has_bank, it.refusal)
+        return Unit(f"{base}({it.name})", *facts, lambda: members()[at].object())
 
-    return Archive(base, [unit(at, it) for at, it in enumerate(library.members)], [(base, library.data)])
+    units = [unit(at, it) for at, it in enumerate(library.members)]
+    return Archive(base, units, [library.data])
 
 
 def _joined(archives: Sequence[Archive]) -> Archive:
     """Returns the libraries of a group as one."""
     units = [unit for it in archives for unit in it.units]
-    return Archive(" ".join(it.name for it in archives), units, [one for it in archives for one in it.libraries])
-
+    libraries = [one for it in archives for one in it.libraries]
+    return Archive(" ".join(it.name for it in archives), units, libraries)

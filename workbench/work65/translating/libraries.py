@@ -3,7 +3,7 @@ import hashlib
 import json
 import os
 from contextlib import suppress
-from typing import List, NamedTuple, Optional, Tuple
+from typing import Any, List, NamedTuple, Optional, Tuple
 
 from work65 import pages
 from work65.translating import r65_writer
@@ -62,7 +62,7 @@ def stand_in(obj: CcObject) -> bytes:
 
 def translated_member(obj: CcObject) -> Tuple[bytes, Special]:
     """Returns a member's translation or its stand-in, and what there is to know about it."""
-    condes = tuple((it.name, *pair) for it in obj.exports for pair in it.condes)
+    condes = tuple((it.name, kind, priority) for it in obj.exports for kind, priority in it.condes)
     sections = tuple((it.name, it.size) for it in obj.sections)
     try:
         return translated(obj), Special(condes, sections)
@@ -99,8 +99,13 @@ def cached(path: str) -> Optional[Tuple[bytes, List[Special]]]:
     except OSError:
         return None
     line, _, data = rest.partition(b"\n")
-    lists = json.loads(line)
-    return data, [Special(tuple(map(tuple, condes)), tuple(map(tuple, sections)), *others) for condes, sections, *others in lists]
+    return data, [special_of(*it) for it in json.loads(line)]
+
+
+def special_of(condes: List[Any], sections: List[Any], has_bank: bool, refusal: str) -> Special:
+    """Returns what the lists of an entry say about a member."""
+    tables = tuple((name, kind, priority) for name, kind, priority in condes)
+    return Special(tables, tuple((name, size) for name, size in sections), has_bank, refusal)
 
 
 def keep(path: str, data: bytes, specials: List[Special]) -> None:

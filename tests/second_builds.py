@@ -378,7 +378,7 @@ sys.exit(status)
 CHANGES = {
     "an operand": ("B[1] ^= 1", "image differs from byte 1 on (ld65 and bin65: 09 and 08): area M, segment CODE, module m0.o, m0.s:11\n"),
     "data": ("B[7] ^= 1", "image differs from byte 7 on (ld65 and bin65: 03 and 02): area M, segment DATA, module m0.o\n"),
-    "shorter": ("del B[-1]", "image: another length, ld65 has 7 bytes and bin65 8: area M, segment DATA, module m0.o\n"),
+    "shorter": ("del B[-1]", "image: ld65 has 7 bytes, bin65 8: area M, segment DATA, module m0.o\n"),
     "an address of BSS": ('M = M.replace("000808  00080A", "000809  00080B")',
                           "image: the same image, but other addresses: segment BSS has 3 bytes at $0809 in ld65's map, 3 at $0808 in bin65's\n"),
     "a label": ('M = M.replace("start                     000800", "start                     000801")',

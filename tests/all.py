@@ -38,7 +38,7 @@ TEXTS = [
 # With the program that `rt ci` builds, the longest first.
 SCRIPTS = [
     "hostile", "large", "workbench_port", "workbench_random", "workbench_trees", "workbench_idioms", "io_faults", "alloc_faults", "fuzz",
-    "one_program", "cases", "disk", "sums", "version1",
+    "one_program", "second_builds", "cases", "disk", "sums", "version1",
     "migrating", "differences", "cc65_scripts", "tutorial", "language", "messages", "editors", "make_try", "makefile", "machines", "second", "labels",
     "workbench_list", "workbench_labels", "workbench_debug", "workbench_deps", "workbench_size", "workbench_bad", "workbench_check",
     "workbench_faults", "workbench_lexer", "translating", "packaging", "release", "bench",

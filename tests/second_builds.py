@@ -282,10 +282,12 @@ def random_configs(tries, count):
                 at += 1
                 continue
         found = checked(words, tries.tools, False)
+        at += 1
+        if found.text.endswith(": no file has bytes"):
+            continue
         seen[found.verdict] += 1
         if found.verdict != "same":
-            wrong.append((at, found.text))
-        at += 1
+            wrong.append((at - 1, found.text))
     for it in wrong:
         print(f"random config {it[0]}: {it[1]}")
     tries.check(f"random configs: {dict(seen)}", not wrong, wrong)

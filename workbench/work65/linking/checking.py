@@ -57,7 +57,7 @@ def _checked(call: Call, tools: Tools, folder: str, is_done: bool) -> Verdict:
     found = compared(plan, _made(plan) if is_done or not other else other.files, ours)
     said = moved(other, ours) if other else ""
     if found.verdict == SAME and said:
-        text = f"{call.output}: the same image, but other addresses: {said}"
+        text = f"{plan.label}: the same image, but other addresses: {said}"
         return Verdict(DIFFERENT, text, found.sizes)
     return found._replace(text=found.text + lacking)
 
@@ -69,7 +69,7 @@ def _made(plan: Plan) -> Dict[str, bytes]:
 
 def keep(plan: Plan, folder: str, kept: str) -> None:
     """Copies what bin65 linked to a new folder, with the command that repeats the link."""
-    base, number = os.path.basename(plan.call.output) or "link", 1
+    base, number = os.path.basename(plan.label), 1
     while True:
         room = os.path.join(kept, base if number == 1 else f"{base}-{number}")
         try:

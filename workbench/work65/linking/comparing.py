@@ -32,8 +32,10 @@ def compared(plan: Plan, theirs: Mapping[str, bytes], ours: Linked) -> Verdict:
                 values = f"{one[at]:02X} and {other[at]:02X}"
                 what = f"{name} differs from byte {at} on (ld65 and bin65: {values})"
             return Verdict(DIFFERENT, f"{what}: {where}", sizes)
+    if not sizes:
+        return Verdict(UNKNOWN, f"{plan.label}: not compared: no file has bytes", sizes)
     total = f"{sum(sizes.values())} bytes{f' in {len(sizes)} files' * (len(sizes) > 1)}"
-    return Verdict(SAME, f"{plan.call.output}: the same image, {total} ({_modules(plan)})", sizes)
+    return Verdict(SAME, f"{plan.label}: the same image, {total} ({_modules(plan)})", sizes)
 
 
 def _modules(plan: Plan) -> str:

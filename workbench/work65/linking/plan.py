@@ -46,6 +46,12 @@ class Plan(NamedTuple):
         """Returns the files that the link makes, by the names that the config gives."""
         return list(dict.fromkeys(it.file for it in self.config.areas if it.file))
 
+    @property
+    def label(self) -> str:
+        """Returns the name of the link in messages: its output, or its first file."""
+        made = self.made or [self.call.output]
+        return self.call.output if self.call.output in made else made[0]
+
 
 def plan_of(call: Call) -> Plan:
     """Reads the config and the inputs of a link, and translates them. Raises a Problem for what

@@ -5,6 +5,8 @@ An expression is a number, ("import", index), ("section", index), or (code, part
 import struct
 
 TABLES = 11
+# A list of lines: the first one, which is line 7 of the source.
+LINE = b"\1\0"
 OPTIONS, FILES, SECTIONS, IMPORTS, EXPORTS, DEBUG_SYMBOLS, LINES, STRINGS, ASSERTIONS, SCOPES, SPANS = range(TABLES)
 
 
@@ -58,8 +60,8 @@ def size_of(it):
 def section(texts, it):
     """A section: (name, alignment, fragments). Each fragment is at source line 7."""
     name, alignment, fragments = it
-    data = b"".join((texts(name), number(0), number(sum(map(size_of, fragments))), number(alignment), b"\x02", number(len(fragments)),
-                     *(fragment(part, number(1) + number(0)) for part in fragments)))
+    data = b"".join((texts(name), number(0), number(sum(map(size_of, fragments))), number(alignment), b"\x01" if name == "ZEROPAGE" else b"\x02", number(len(fragments)),
+                     *(fragment(part, LINE) for part in fragments)))
     return struct.pack("<I", len(data)) + data
 
 
@@ -68,7 +70,7 @@ def export(texts, it):
     name, value, condes = it
     table = bytes(kind << 5 | priority - 1 for kind, priority in condes)
     kind, data = (0x80, struct.pack("<I", value % (1 << 32))) if isinstance(value, int) else (0x190, expression(value))
-    return b"".join((number(kind | len(condes)), b"\x02", table, texts(name), data, number(0), number(0)))
+    return b"".join((number(kind | len(condes)), b"\x02", table, texts(name), data, LINE, LINE))
 
 
 def made_object(sections=(), imports=(), exports=(), assertions=(), source="made.s"):
@@ -78,11 +80,11 @@ def made_object(sections=(), imports=(), exports=(), assertions=(), source="made
     tables[OPTIONS], tables[DEBUG_SYMBOLS], tables[SCOPES], tables[SPANS] = (number(0),) * 4
     tables[FILES] = number(1) + texts(source) + bytes(4) + number(0)
     tables[SECTIONS] = number(len(sections)) + b"".join(section(texts, it) for it in sections)
-    tables[IMPORTS] = number(len(imports)) + b"".join(b"\x02" + texts(it) + number(0) + number(0) for it in imports)
+    tables[IMPORTS] = number(len(imports)) + b"".join(b"\x02" + texts(it) + LINE + LINE for it in imports)
     tables[EXPORTS] = number(len(exports)) + b"".join(export(texts, it) for it in exports)
     tables[LINES] = number(1) + number(7) + number(1) + number(0) + number(0) + number(0)
     tables[ASSERTIONS] = number(len(assertions)) + b"".join(
-        expression(value) + number(action) + texts(text) + number(1) + number(0) for value, action, text in assertions)
+        expression(value) + number(action) + texts(text) + LINE for value, action, text in assertions)
     tables[STRINGS] = texts.table()
     return with_head(tables)
 

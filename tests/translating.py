@@ -26,7 +26,7 @@ sys.path.insert(0, f"{pages.ROOT}/workbench")
 sys.dont_write_bytecode = True
 from work65.problem import Problem  # noqa: E402
 from work65.translating import cc65_objects, libraries, translation  # noqa: E402
-from work65.translating.r65_libraries import write_library  # noqa: E402
+from work65.translating.r65_libraries import names_of, write_library  # noqa: E402
 
 TOOLS = ("ca65", "ld65", "ar65", "od65")
 LIBRARIES = "/usr/share/cc65/lib"
@@ -218,6 +218,65 @@ def assertions(tries):
             found = tries.by_bin65((user([b"x"], [((0x0B, ("import", 2), wanted), action, f"a text ({kind})")]), provider()))
             is_refused = isinstance(found, str) and found.strip() == f"0.r65:made.s:7: Error: a text ({kind})"
             tries.check(f"{kind}: {wanted:X}", is_refused if wanted == 0x1235 and action & 1 else found[:1] == b"x", found)
+
+
+def facts(tries):
+    """What a link decides about an object."""
+    sections = [("CODE", 1, [b"a", (1, False, (0x45, ("section", 1)))]), ("NULL", 1, []), ("DATA", 8, []), ("BSS", 1, [])]
+    data = made_object(sections, ["b", "a"], [("x", 1, ()), ("y", ("section", 3), ())])
+    asked = []
+
+    def bank_of(expression):
+        asked.append(expression)
+        return 7
+
+    all_ = translation.LinkFacts({"x"}, ("a", "c"), bank_of, False)
+    for name, wanted in {"some": (all_, [b"y"], [b"b", b"a", b"c"], ["CODE", "DATA", "BSS"]),
+                         "none": (translation.LinkFacts(bank_of=bank_of), [b"x", b"y"], [b"b", b"a"], ["CODE", "NULL", "DATA", "BSS"])}.items():
+        found = translation.translated(cc65_objects.read_object(data, "m.o"), wanted[0])
+        segments = [found[it.start() + 8 : it.end()].decode() for it in re.finditer(rb"\x02..(.{4}[\x00\x03])(CODE|NULL|DATA|BSS)", found, re.S)]
+        tries.check(f"facts: {name}", (*names_of(found), segments) == wanted[1:] and b"\x03\x02\x00a\x07" in found, (names_of(found), segments))
+    tries.check("facts: the bank's expression", asked == [cc65_objects.SectionIndex(1)] * 2, asked)
+
+
+# A source in which one of the values doesn't fit, and where cc65's linker says that it is: in a macro, in a macro's macro, in an include.
+PLACES = """ .importzp third
+ .macro inner what
+ .byte what
+ .endmacro
+ .macro outer what
+ nop
+ inner what
+ .endmacro
+ .code
+ .byte {0}third
+ lda #{1}third
+ inner {2}third
+ outer {3}third
+ .include "places.inc"
+ .repeat 2, I
+ .byte 0, {5}third + I
+ .endrepeat
+ .dbg file, "main.c", 10, 20
+ .dbg line, "main.c", 77
+ .byte {6}third
+"""
+
+
+def places(tries):
+    """The file and the line of a value out of range, as both linkers say them."""
+    for at in range(7):
+        fits = ["" if it == at else "<" for it in range(7)]
+        pages.put(f"{tries.top}/places.s", PLACES.format(*fits))
+        pages.put(f"{tries.top}/places.inc", f"\n .byte {fits[4]}third\n")
+        for words in ((), ("-g",)):
+            tries.ran("ca65", *words, "places.s", "-o", "places.o")
+            objects = (read(f"{tries.top}/places.o"), provider())
+            tries.by_ld65(objects)
+            said_ = tries.ran("ld65", "-C", "m.cfg", "-o", "cc65.bin", "0.o", "1.o").stderr.decode()
+            wanted = re.search(r"Range error in module '(.*)', line (\d+)", said_)
+            found = tries.by_bin65(objects)
+            tries.check(f"place {at}{''.join(words)}", wanted and found.strip() == f"0.r65:{wanted[1]}:{wanted[2]}: Error: out of range", (said_, found))
 
 
 def said(read, *words):
@@ -620,8 +679,8 @@ def example(tries):
     tries.check("the example", ran.returncode == 0 and ran.stdout.endswith("squares.prg is the image that cc65 makes.\n"), ran)
 
 
-ALONE = (by_hand, assertions, messages, cache, convert, mutants)
-WITH_CC65 = (beside_od65, expressions, ranges, bits, sources, whole_libraries, example)
+ALONE = (by_hand, assertions, facts, messages, cache, convert, mutants)
+WITH_CC65 = (beside_od65, places, expressions, ranges, bits, sources, whole_libraries, example)
 
 
 def main():

@@ -26,7 +26,8 @@ class Wanted(NamedTuple):
 
 def linker() -> str:
     """Returns the path of cc65's linker."""
-    found = shutil.which("ld65")
+    home = os.path.join(os.environ.get("CC65_HOME", ""), "bin", "ld65")
+    found = shutil.which("ld65") or shutil.which(home)
     if found is None:
         raise Problem("cc65's ld65 isn't on the path")
     return os.path.abspath(found)

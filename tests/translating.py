@@ -577,15 +577,15 @@ def whole_libraries(tries):
 
 
 def drawn(tries, path, name, library):
-    """Programs that use five exports of a library, linked by both linkers."""
+    """Programs that use two exports of a library, linked by both linkers."""
     chance, linked, wrong = random.Random(name), 0, []
     rows = sorted({segment for it in library.members for segment, _ in it.sections} | {"CODE"})
     pages.put(f"{tries.top}/l.cfg", "MEMORY { ZP: start = 0, size = $100; M: start = $1000, size = $E000; }\nSEGMENTS {\n" + "".join(
         f"{it}: load = {'ZP, type = zp' if it == 'ZEROPAGE' else 'M'}, optional = yes;\n" for it in rows) + "}\n")
     exports = [name for it in library.members for name in it.exports]
-    for _ in range(60 if tries.is_all else 10):
-        used = chance.sample(exports, 3)
-        user_ = made_object([("CODE", 1, [(2, False, (0x4C, ("import", at))) for at in range(3)])], used)
+    for _ in range(100 if tries.is_all else 16):
+        used = chance.sample(exports, 2)
+        user_ = made_object([("CODE", 1, [(2, False, (0x4C, ("import", at))) for at in range(2)])], used)
         write(f"{tries.top}/u.o", user_)
         write(f"{tries.top}/u.r65", translation.translated(cc65_objects.read_object(user_, "u.o")))
         if tries.ran("ld65", "-C", "l.cfg", "-o", "cc65.bin", "u.o", path).returncode == 0:

@@ -12,6 +12,7 @@ import itertools
 import os
 import random
 import re
+import resource
 import shutil
 import subprocess
 import sys
@@ -607,9 +608,10 @@ def cache(tries):
     write(f"{tries.top}/x.lib", data)
     write(f"{tries.top}/small.lib", made_library(members[:1]))
 
-    def started(name="x.lib", **more):
+    def started(name="x.lib", limit=None, **more):
         how = {**os.environ, "XDG_CACHE_HOME": f"{tries.top}/cache", **more}
-        return subprocess.Popen([sys.executable, "-c", program, name], cwd=tries.top, stdout=subprocess.PIPE, stderr=subprocess.STDOUT, env=how)
+        return subprocess.Popen([sys.executable, "-c", program, name], cwd=tries.top, stdout=subprocess.PIPE, stderr=subprocess.STDOUT, env=how,
+                                preexec_fn=limit)
 
     def told(*running):
         return {it.communicate()[0] for it in running}
@@ -621,6 +623,8 @@ def cache(tries):
     for name, changed in {"as written": good, "cut": good[:-1], "empty": b"", "a changed byte": good[:50] + b"x" + good[51:]}.items():
         write(entry, changed)
         tries.check(f"an entry: {name}", told(started()) == {wanted} and read(entry) == good)
+    full = started(limit=lambda: resource.setrlimit(resource.RLIMIT_FSIZE, (1000, 1000)), XDG_CACHE_HOME=f"{tries.top}/cache2")
+    tries.check("a full disk", told(full) == {wanted} and os.listdir(f"{tries.top}/cache2/work65") == [])
     write(f"{tries.top}/file", b"")
     tries.check("no folder", told(started(XDG_CACHE_HOME=f"{tries.top}/file")) == {wanted})
     tries.check("no home", told(started(XDG_CACHE_HOME="relative", HOME="nowhere")) == {wanted} and not os.path.exists(f"{tries.top}/relative"))
@@ -637,7 +641,7 @@ def convert(tries):
     """The subcommand: files, folders, messages, and that nothing is written if something is wrong."""
     os.makedirs(f"{tries.top}/a b")
     for name, data in {"p.o": provider(), "ü.o": user([b"abc", (2, False, ("import", 0))]), "l.lib": made_library([("p.o", provider())]),
-                       "bad.o": provider()[:-1], "bank.o": made_object([("CODE", 1, [(1, False, (0x45, ("section", 0)))])]),
+                       "two.lib": made_library([("p.o", provider())] * 2), "name.lib": made_library([("a/b", provider())]), "bad.o": provider()[:-1], "bank.o": made_object([("CODE", 1, [(1, False, (0x45, ("section", 0)))])]),
                        "new.o": BY_HAND, "t.o": made_object((), (), [("start", 5, [(0, 7), (3, 7)])])}.items():
         write(f"{tries.top}/a b/{name}", data)
     rows = {
@@ -654,6 +658,8 @@ def convert(tries):
         "two of one name": (("a b/p.o", "one.o", "a b/../a b/p.o", "-o", "out3/"), 1, "one.o: already an object or a library of bin65's", []),
         "twice": (("a b/p.o", "a b/p.o", "-o", "out3/"), 2, "out3/p.o: two files would be written there", []),
         "a full disk": (("a b/p.o", "-o", "/dev/full"), 1, "/dev/full: No space left on device", []),
+        "two members of one name": (("a b/two.lib", "-o", "two"), 1, "a b/two.lib: a second member p.o", []),
+        "a member's name": (("a b/name.lib", "-o", "two"), 1, "a b/name.lib: a member has a name that bin65's libraries can't hold: 'a/b'", []),
         "tables": (("a b/t.o", "-o", "tables"), 0, "a b/t.o: the linker of bin65 makes no tables of routines: start (constructor), start (table 3)", ["tables"]),
     }
     for name, (words, status, message, written) in rows.items():

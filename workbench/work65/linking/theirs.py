@@ -37,7 +37,7 @@ def link(call: Call, tool: str, folder: str) -> Theirs:
         words, cwd=folder, stdin=subprocess.DEVNULL, capture_output=True, check=False
     )
     if ran.returncode:
-        said = os.fsdecode(ran.stderr).strip().split("\n")
+        said = os.fsdecode(ran.stderr).replace(SCRIPT, call.config).strip().split("\n")
         raise Problem(f"ld65 refuses: {next((it for it in said if 'rror' in it), said[0])}")
     made = {}
     for plain, raw in {**names, IMAGE: OUTPUT}.items():

@@ -1,7 +1,6 @@
 """Objects and libraries of cc65's tools. All lengths and numbers are checked: a damaged file is a Problem that names the module."""
 import struct
 from array import array
-from contextlib import contextmanager
 from enum import Enum
 from typing import Iterator, List, NamedTuple, Optional, Tuple, Union
 
@@ -120,25 +119,30 @@ class Section(NamedTuple):
 
     def fragments(self) -> Iterator[Fragment]:
         """Yields the fragments. Reads them anew at each call, and keeps none."""
-        with reading(self.owner.name):
+        with self.owner.reading:
             yield from self.owner.fragments_of(self)
 
 
-@contextmanager
-def reading(name: str) -> Iterator[None]:
-    """Makes a Problem that names the file of what a damaged one raises."""
-    try:
-        yield
-    except (Damage, IndexError, struct.error) as error:
-        reason = str(error) if isinstance(error, Damage) else "it is cut short"
-        raise Problem(f"{name}: can't be read as a file of cc65's tools: {reason}") from error
+class Reading:
+    """Makes a Problem that names the file of what a damaged one raises in a `with` statement."""
+
+    def __init__(self, name: str) -> None:
+        self.name = name
+
+    def __enter__(self) -> None:
+        pass
+
+    def __exit__(self, _: object, error: Optional[BaseException], __: object) -> None:
+        if isinstance(error, (Damage, IndexError, struct.error)):
+            reason = str(error) if isinstance(error, Damage) else "it is cut short"
+            raise Problem(f"{self.name}: can't be read as a file of cc65's tools: {reason}") from error
 
 
 class CcObject:
     """An object of cc65's assembler. Fragments and source lines are read only when they are asked for."""
 
     def __init__(self, data: bytes, name: str) -> None:
-        self.data, self.name = data, name
+        self.data, self.name, self.reading = data, name, Reading(name)
         self.tables = tables_of(data)
         self.lines: Optional["array[int]"] = None
         self.files: List[str] = []
@@ -276,7 +280,7 @@ class CcObject:
 
     def position(self, lines: int) -> Optional[Position]:
         """Returns the first line of a source in the list at an offset, None if there is none."""
-        with reading(self.name):
+        with self.reading:
             count, at = number(self.data, lines)
             if count and self.lines is None:
                 self.files = self.read_files()
@@ -340,7 +344,7 @@ def kind_of(data: bytes) -> Optional[Kind]:
 
 def read_object(data: bytes, name: str) -> CcObject:
     """Reads an object. Messages name it by `name`."""
-    with reading(name):
+    with Reading(name):
         return CcObject(data, name)
 
 
@@ -379,5 +383,5 @@ def members_of(data: bytes, library: str) -> Iterator[Member]:
 
 def read_library(data: bytes, name: str) -> List[Member]:
     """Reads a library: its members, whose objects aren't read yet. Messages name it by `name`."""
-    with reading(name):
+    with Reading(name):
         return list(members_of(data, name))

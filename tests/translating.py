@@ -212,6 +212,17 @@ def by_hand(tries):
         tries.check(f"an image by hand: {name}", at == (None if wanted is None else bytes.fromhex(wanted)), found[:60])
 
 
+def greatest(tries):
+    """The longest form, of 255 nodes: bin65 takes it. One node more is refused, also where it is a part that is written twice."""
+    tree = ("import", 2)
+    for _ in range(127):
+        tree = (0x08, tree, ("import", 2))
+    tries.check("255 nodes", tries.by_bin65((user([(2, False, tree)]), provider()))[:2] == b"\x34\x12")
+    for name, more in {"256 nodes": (0x42, tree), "255 nodes, twice": (0x14, tree, 1), "256 nodes, twice": (0x43, (0x42, tree))}.items():
+        found = tries.by_bin65((user([(2, False, more)]), provider()))
+        tries.check(name, found == "0.o: made.s:7: an expression of more than 255 numbers, names and operations", found)
+
+
 def assertions(tries):
     """Assertions that only the linker can decide: true and false ones of each kind."""
     for action, kind in enumerate(("warning", "error", "ldwarning", "lderror")):
@@ -685,7 +696,7 @@ def example(tries):
     tries.check("the example", ran.returncode == 0 and ran.stdout.endswith("squares.prg is the image that cc65 makes.\n"), ran)
 
 
-ALONE = (by_hand, assertions, facts, messages, cache, convert, mutants)
+ALONE = (by_hand, greatest, assertions, facts, messages, cache, convert, mutants)
 WITH_CC65 = (beside_od65, places, expressions, ranges, bits, sources, whole_libraries, example)
 
 

@@ -157,7 +157,7 @@ class Translation:
         """Returns the object of bin65's."""
         imports = [*(it.name for it in self.imports), *self.facts.imported]
         kept = [it for it in self.object.sections if self.facts.keeps_empty or it.size or it.alignment != 1]
-        sections = [r65_writer.Section(it.name, it.alignment, self.fragments(it)) for it in kept]
+        sections = [r65_writer.Section(it.name, it.alignment, self.fragments(it) if it.count or it.size else ()) for it in kept]
         return r65_writer.written(r65_writer.Module(self.object.name, imports, sections, self.exports(), self.assertions()))
 
 

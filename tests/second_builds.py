@@ -88,6 +88,14 @@ CASES = {
     "a library": (PLAIN, (MAIN, "lib", OTHER, MORE, TWICE), ()),
     "two libraries": (PLAIN, (MAIN, "lib", OTHER, "lib2", MORE), ()),
     "a group": (PLAIN, (MAIN, "(", "lib", MORE, "lib2", OTHER, ")"), ()),
+    "a name in two libraries of a group": (PLAIN, (
+        " .import one\n .code\n .addr one\n", "(", "lib", " .export five\n .code\nfive: .byte 5\n",
+        " .export one\n .import two\n .code\none: .addr two\n", "lib2", " .export two\n .import five\n .code\ntwo: .addr five\n",
+        " .export five\n .code\nfive: .byte 55\n", ")"), ()),
+    "an import of a table in a library before": (TABLES, (
+        " .import irq, IRQS\n .code\n .addr irq, IRQS\n", "lib", " .export more2\n .code\nmore2: .byte 2\n",
+        "lib2", " .interruptor irq\n .code\nirq: .byte 9\n", "lib"), ()),
+    "a library twice": (PLAIN, (MAIN, "lib", MORE, "lib2", OTHER, "lib"), ()),
     "a name that -D gives": (PLAIN, (MAIN,), ("-D", "other=$123")),
     "an import that is forced": (PLAIN, (MORE, "lib", OTHER), ("-u", "other")),
     "a name twice": (PLAIN, (MAIN, OTHER, TWICE, MORE), ("--allow-multiple-definition",)),

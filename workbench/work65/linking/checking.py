@@ -43,19 +43,18 @@ def checked(words: Sequence[str], tools: Tools, is_done: bool) -> Optional[Verdi
 def _checked(call: Call, tools: Tools, folder: str, is_done: bool) -> Verdict:
     """Checks a link in a folder. The addresses are compared by a map of cc65's linker, which may
     fail at a link that it makes without."""
-    other, lacking = None, ""
+    lacking = ""
     try:
         other = theirs.link(call, tools.linker, folder)
     except Problem as problem:
         lacking = f"; addresses not compared: {problem}"
-        if not is_done:
-            raise
+        other = theirs.link(call, tools.linker, folder, False)
     plan = plan_of(call)
     ours = linked(plan, tools.program, folder)
     if tools.kept:
         keep(plan, folder, tools.kept)
-    found = compared(plan, _made(plan) if is_done or not other else other.files, ours)
-    said = moved(other, ours) if other else ""
+    found = compared(plan, _made(plan) if is_done else other.files, ours)
+    said = moved(other, ours)
     if found.verdict == SAME and said:
         text = f"{plan.label}: the same image, but other addresses: {said}"
         return Verdict(DIFFERENT, text, found.sizes)

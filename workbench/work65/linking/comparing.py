@@ -65,12 +65,13 @@ def place_of(plan: Plan, name: str, offset: int, ours: Linked) -> str:
 
 
 def _module_at(plan: Plan, segment: str, offset: int, ours: Linked) -> str:
-    """Returns the module that has a byte of a segment, and the line. bin65's map begins with the
-    object of the linker's own names, and ends with tables."""
-    for unit, module in zip([None, *plan.selection.units], ours.map.modules):
-        for part in module.parts if unit else ():
+    """Returns the module that has a byte of a segment, and the line."""
+    for module in ours.map.modules:
+        unit = plan.units.get(module.name)
+        for part in module.parts:
             if part.segment == segment and part.offset <= offset < part.offset + part.size:
-                assert unit is not None
+                if unit is None:
+                    return f"table {module.name}"
                 position = position_in(unit.object(), segment, offset - part.offset)
                 line = f", {position.file}:{position.line}" if position else ""
                 return f"module {unit.name}{line}"

@@ -41,9 +41,9 @@ def link(words: Sequence[str]) -> int:
 def _map(plan: Plan, placed: Map, symbols: Dict[str, int]) -> bytes:
     """Returns the map in bin65's form, with the user's names of modules."""
     lines = ["MODULES"]
-    # The first module has the linker's own names.
-    for unit, module in zip(plan.selection.units, placed.modules[1:]):
-        lines.append(unit.name)
+    for module in placed.modules:
+        unit = plan.units.get(module.name)
+        lines += [unit.name if unit else module.name] * bool(module.parts)
         lines += [f"  {it.segment} {it.offset:08X} {it.size:08X}" for it in module.parts]
     lines.append("SEGMENTS")
     lines += [f"{it.name} {it.run:08X} {it.load:08X} {it.size:08X}" for it in placed.rows]

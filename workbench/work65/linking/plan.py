@@ -29,14 +29,14 @@ OFFSET = "_FILEOFFS__"
 
 class Plan(NamedTuple):
     """A link for bin65: the script and the inputs by their files; and what is needed to read what
-    bin65 makes: the names of modules in messages by files, the parts of areas, for each part with
-    bytes the file that bin65 writes, and the modules."""
+    bin65 makes: the modules by the names that bin65 gives them, the parts of areas, for each part
+    with bytes the file that bin65 writes, and the choice of modules."""
 
     call: Call
     config: Config
     script: str
     inputs: List[Tuple[str, bytes]]
-    names: Dict[str, str]
+    units: Dict[str, Unit]
     parts: List[Part]
     files: Dict[str, str]
     selection: Selection
@@ -82,14 +82,14 @@ class _Planner:
     def plan(self) -> Plan:
         """Returns the whole."""
         exported = self.exported()
-        inputs, names = self.inputs(self.symbols(exported))
+        inputs, units = self.inputs(self.symbols(exported))
         files = files_of(self.layout.parts, self.call.output, self.config.formats)
         rows = (it.name for it in self.config.rows if it.name in self.sizes)
         order = list(dict.fromkeys([*rows, *self.sizes]))
         needs = Needs(order, {name for it in exported.values() for name in it.names}, self.weak)
         script = script_of(self.layout.parts, files, needs)
         parts = self.layout.parts
-        return Plan(self.call, self.config, script, inputs, names, parts, files, self.selection)
+        return Plan(self.call, self.config, script, inputs, units, parts, files, self.selection)
 
     def weak_numbers(self) -> Dict[str, int]:
         """Returns the weak symbols that are numbers: bin65 decides whether they hold."""
@@ -118,22 +118,31 @@ class _Planner:
         """Returns the object with the names that the linker itself has, and with what the config
         and options import."""
         exports = [r65_writer.Export(name, _form(it)) for name, it in exported.items()]
-        wanted = dict.fromkeys([*self.wanted, *self.selection.table_imports(self.selection.units)])
+        wanted = dict.fromkeys(self.wanted)
         imports = [it for it in wanted if it not in exported and it not in self.names.placed]
         return r65_writer.written(r65_writer.Module("the config", imports, (), exports))
 
-    def inputs(self, symbols: bytes) -> Tuple[List[Tuple[str, bytes]], Dict[str, str]]:
-        """Returns the inputs by their files, and the names in messages by those files."""
-        found, names = [(SYMBOLS, symbols)], {SYMBOLS: self.call.config}
+    def inputs(self, symbols: bytes) -> Tuple[List[Tuple[str, bytes]], Dict[str, Unit]]:
+        """Returns the inputs by their files, and the modules by the names that bin65 gives them.
+        What a table imports is imported before the first input with an entry of the table."""
+        found, units = [(SYMBOLS, symbols)], {}
         for at, it in enumerate(self.modules):
             file = f"{at}-{PLAIN.sub('_', os.path.basename(it.name))}"
-            found.append((file, self.translated(it) if isinstance(it, Unit) else self.library(it)))
-            names[file] = it.name
+            imports = self.selection.table_imports(self.selection.chosen[at])
+            if imports:
+                module = r65_writer.Module("the config", imports)
+                found.append((f"{at}-imports.o", r65_writer.written(module)))
+            if isinstance(it, Unit):
+                found.append((file, self.translated(it)))
+                units[file] = it
+            else:
+                found.append((file, self.library(it)))
+                units.update({f"{file}({name})": one for name, one in zip(it.names(), it.units)})
         for table in self.config.tables:
             data = self.selection.table(table)
             if data is not None:
                 found.append((f"{PLAIN.sub('_', table.label)}.o", data))
-        return found, names
+        return found, units
 
     def translated(self, unit: Unit) -> bytes:
         """Translates a module with what the link decides about it."""
@@ -145,24 +154,22 @@ class _Planner:
         return self.selection.omitted(unit, self.given) if self.call.allows_twice else set()
 
     def library(self, archive: Archive) -> bytes:
-        """Returns a library, in which members that depend on the link are translated for it."""
-        chosen = {id(it) for it in self.selection.units}
+        """Returns a library, in which members that depend on the link are translated for it, and
+        without those that ld65 passes by."""
+        chosen, passed = {id(it) for it in self.selection.units}, self.selection.passed
         special = {
             at
             for at, it in enumerate(archive.units)
-            if id(it) in chosen and (it.has_bank or self.omitted(it))
+            if id(it) in passed or id(it) in chosen and (it.has_bank or self.omitted(it))
         }
         if not special and len(archive.libraries) == 1:
             return archive.libraries[0]
-        members: List[Tuple[str, bytes]] = []
-        known: Set[str] = set()
-        for data in archive.libraries:
-            for entry in read_index(data):
-                at, name = len(members), entry.name
-                body = data[entry.start : entry.start + entry.size]
-                body = self.translated(archive.units[at]) if at in special else body
-                members.append((f"{at}-{name}" if name in known else name, body))
-                known.add(name)
+        entries = [(data, it) for data in archive.libraries for it in read_index(data)]
+        members = []
+        for at, (name, (data, it)) in enumerate(zip(archive.names(), entries)):
+            unit, body = archive.units[at], data[it.start : it.start + it.size]
+            if id(unit) not in passed:
+                members.append((name, self.translated(unit) if at in special else body))
         return write_library(members, archive.name)
 
 

@@ -73,8 +73,8 @@ def _files(plan: Plan, folder: str, numbers: Mapping[str, int]) -> Dict[str, byt
 def _named(text: str, plan: Plan) -> str:
     """Returns the first line of a message of bin65's with the user's modules and areas."""
     text = text.strip().split("\n")[0]
-    for file, name in plan.names.items():
-        if text.startswith(file):
-            return name + text[len(file) :]
+    for file, unit in plan.units.items():
+        if text.startswith(f"{file}:"):
+            return unit.name + text[len(file) :]
     areas = {it.name: it.area for it in plan.parts}
     return re.sub(r"\w+", lambda it: areas.get(it[0], it[0]), text)

@@ -24,20 +24,24 @@ class Begun(NamedTuple):
 
 class Selection:
     """The modules of a link in order. bin65 chooses them by itself; they are known here for what
-    depends on them. `members` has the number of them from each library."""
+    depends on them. `chosen` has those of each input, `members` their number by library, and
+    `passed` (by their ids) the members in whose place others are linked."""
 
     def __init__(self, inputs: Sequence[Module], begun: Begun) -> None:
         self.begun = begun
         self.units: List[Unit] = []
+        self.chosen: List[List[Unit]] = []
         self.members: Dict[str, int] = {}
+        self.passed: Set[int] = set()
         self.exporters: Dict[str, Unit] = {}
         self.imports: Dict[str, None] = dict.fromkeys(begun.wanted)
         self.defined = set(begun.defined)
         for it in inputs:
             self.add([it] if isinstance(it, Unit) else self.members_of(it))
 
-    def add(self, units: Sequence[Unit]) -> None:
-        """Adds modules."""
+    def add(self, units: List[Unit]) -> None:
+        """Adds the modules of an input."""
+        self.chosen.append(units)
         for unit in units:
             if unit.refusal:
                 raise Problem(unit.refusal)
@@ -53,22 +57,27 @@ class Selection:
         return [it for number, it in self.begun.imported.items() if number in tables and it]
 
     def members_of(self, archive: Archive) -> List[Unit]:
-        """Returns the members that are needed at a library's place, in its order."""
-        first: Dict[str, int] = {}
-        for at, unit in enumerate(archive.units):
-            for name in unit.exports:
-                first.setdefault(name, at)
-        found: Set[int] = set()
-        waiting = [it for it in self.imports if it in first]
-        while waiting:
-            name = waiting.pop()
-            at = first.get(name, -1)
-            if at >= 0 and at not in found and name not in self.defined:
-                found.add(at)
-                waiting += [*archive.units[at].imports, *self.table_imports([archive.units[at]])]
-        if found:
-            self.members[archive.name] = self.members.get(archive.name, 0) + len(found)
-        return [archive.units[it] for it in sorted(found)]
+        """Returns the members that are needed at a library's place, in its order. ld65 passes over
+        all members until a pass adds none; bin65 takes the first exporter of each name. They differ
+        where several members export a name: those that ld65 passes by are left out."""
+        found: Dict[int, Unit] = {}
+        defined, wanted, seen = set(self.defined), set(self.imports) - self.defined, -1
+        needed = set(wanted)
+        while len(found) > seen:
+            seen = len(found)
+            for at, unit in enumerate(archive.units):
+                if not wanted.isdisjoint(unit.exports) and at not in found:
+                    found[at] = unit
+                    defined.update(unit.exports)
+                    needed.update(unit.imports, self.table_imports([unit]))
+                    wanted = needed - defined
+        chosen = [found[it] for it in sorted(found)]
+        needed.intersection_update(name for it in chosen for name in it.exports)
+        others = (it for at, it in enumerate(archive.units) if at not in found)
+        self.passed.update(id(it) for it in others if not needed.isdisjoint(it.exports))
+        if chosen:
+            self.members[archive.name] = self.members.get(archive.name, 0) + len(chosen)
+        return chosen
 
     def sizes(self, tables: Sequence[Table]) -> Dict[str, int]:
         """Returns the segments that modules and tables have, with the sums of their sizes."""
@@ -111,9 +120,17 @@ class Selection:
 
     def listed(self, table: Table) -> List[str]:
         """Returns the names in a table, by their priorities."""
-        entries = [it for unit in self.units for it in unit.condes if it[1] == table.number]
-        entries.sort(key=lambda it: (it[2], os.fsencode(it[0])), reverse=table.is_decreasing)
-        return [name for name, _, _ in entries]
+        entries = [
+            (priority, os.fsencode(name), name, unit)
+            for unit in self.units
+            for name, number, priority in unit.condes
+            if number == table.number
+        ]
+        for _, _, name, unit in entries:
+            if self.omitted(unit, self.begun.defined) & {name}:
+                raise Problem(f"{unit.name}: {name} is in a table and defined twice")
+        entries.sort(key=lambda it: it[:2], reverse=table.is_decreasing)
+        return [it[2] for it in entries]
 
     def table(self, table: Table) -> Optional[bytes]:
         """Returns the object with a table of .condes, None if it isn't made."""

@@ -27,28 +27,28 @@ class Theirs(NamedTuple):
     exports: Dict[str, int]
 
 
-def link(call: Call, tool: str, folder: str) -> Theirs:
+def link(call: Call, tool: str, folder: str, has_map: bool = True) -> Theirs:
     """Links in a folder. Raises a Problem with the linker's message if it refuses."""
     text, names = with_files(read_text(call.config), call.output)
     with open(os.path.join(folder, SCRIPT), "w", encoding="latin-1", newline="") as it:
         it.write(text)
-    words = [tool, *_words(call)]
+    words = [tool, *_words(call), *(["-m", MAP, "-vm"] if has_map else [])]
     ran = subprocess.run(
         words, cwd=folder, stdin=subprocess.DEVNULL, capture_output=True, check=False
     )
     if ran.returncode:
         said = os.fsdecode(ran.stderr).replace(SCRIPT, call.config).strip().split("\n")
-        raise Problem(f"ld65 refuses: {next((it for it in said if 'rror' in it), said[0])}")
+        raise Problem(f"ld65 refuses: {next((it for it in said if 'rror' in it), said[-1])}")
     made = {}
     for plain, raw in {**names, IMAGE: OUTPUT}.items():
         if os.path.isfile(os.path.join(folder, plain)):
             made[named(raw, call.output)] = read_bytes(os.path.join(folder, plain))
-    return Theirs(made, *_placed(read_text(os.path.join(folder, MAP))))
+    return Theirs(made, *(_placed(read_text(os.path.join(folder, MAP))) if has_map else ({}, {})))
 
 
 def _words(call: Call) -> List[str]:
     """Returns the arguments of a link, with the config and the files in the linker's folder."""
-    words = ["-C", SCRIPT, "-o", IMAGE, "-m", MAP, "-vm"]
+    words = ["-C", SCRIPT, "-o", IMAGE]
     words += [word for name, it in call.symbols.items() for word in ("-D", f"{name}={it}")]
     words += [word for name in call.imports for word in ("-u", name)]
     words += ["-S", str(call.start)] if call.start is not None else []

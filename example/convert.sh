@@ -23,7 +23,7 @@ shown cc65 -t c64 -O -o cc65/report.s ../../convert/report.c
 shown ca65 -o cc65/report.o cc65/report.s
 shown work65 convert -o report.o cc65/report.o
 echo '$ work65 convert -o c64.lib c64.lib    # that of cc65'
-work65 convert -o c64.lib "$library" 2> /dev/null
+work65 convert -o c64.lib "$library" 2> notes || { cat notes >&2; exit 1; }
 shown bin65 ca65 -o main.o ../../convert/main.s
 shown bin65 ld65 -C ../../convert/c64.cfg -m squares.map -o squares.prg main.o report.o c64.lib
 

@@ -6,7 +6,8 @@ from typing import Dict, Iterable, List, Optional
 from work65.frontend.files import read_bytes
 from work65.output import write
 from work65.problem import Problem, complain
-from work65.translating.cc65_objects import CcObject, Export, Kind, kind_of, read_library, read_object
+from work65.translating.cc65_objects import CcObject, Export, Kind, kind_of
+from work65.translating.cc65_objects import read_library, read_object
 from work65.translating.r65_libraries import write_library
 from work65.translating.translation import LinkFacts, translated
 
@@ -18,8 +19,10 @@ MOST_NAMED = 4
 
 def add_arguments(parser: argparse.ArgumentParser) -> None:
     """Adds the arguments of this subcommand."""
-    parser.add_argument("-o", dest="output", metavar="PATH", help="the converted file, or a folder for them (default: this folder)")
-    parser.add_argument("files", nargs="+", metavar="FILE", help="an object or a library of cc65's")
+    add = parser.add_argument
+    add("-o", dest="output", metavar="PATH",
+        help="the converted file, or a folder for them (default: this folder)")
+    add("files", nargs="+", metavar="FILE", help="an object or a library of cc65's")
 
 
 def output_of(name: str, wanted: Optional[str], count: int) -> str:
@@ -35,10 +38,12 @@ def output_of(name: str, wanted: Optional[str], count: int) -> str:
 
 def listed(exports: Iterable[Export], name: str) -> None:
     """Prints a note on routines in tables that only cc65's linker makes."""
-    names = [f"{it.name} ({TABLES.get(kind, f'table {kind}')})" for it in exports for kind, _ in it.condes]
+    kinds = [(it.name, kind) for it in exports for kind, _ in it.condes]
+    names = [f"{it} ({TABLES.get(kind, f'table {kind}')})" for it, kind in kinds]
     if names:
         more = f" and {len(names) - MOST_NAMED} more" if len(names) > MOST_NAMED else ""
-        complain(f"{name}: the linker of bin65 makes no tables of routines: {', '.join(names[:MOST_NAMED])}{more}")
+        what = "the linker of bin65 makes no tables of routines"
+        complain(f"{name}: {what}: {', '.join(names[:MOST_NAMED])}{more}")
 
 
 def converted_object(obj: CcObject, exports: List[Export]) -> bytes:
@@ -52,12 +57,15 @@ def converted(data: bytes, name: str) -> bytes:
     exports: List[Export] = []
     kind = kind_of(data)
     if kind is None:
-        what = "already an object or a library of bin65's" if data[:3] == b"R65" else "no object and no library of cc65's"
-        raise Problem(f"{name}: {what}")
+        if data[:3] == b"R65":
+            raise Problem(f"{name}: already an object or a library of bin65's")
+        raise Problem(f"{name}: no object and no library of cc65's")
     if kind is Kind.OBJECT:
         found = converted_object(read_object(data, name), exports)
     else:
-        found = write_library([(it.name, converted_object(it.object(), exports)) for it in read_library(data, name)], name)
+        members = read_library(data, name)
+        objects = (converted_object(it.object(), exports) for it in members)
+        found = write_library(zip((it.name for it in members), objects), name)
     listed(exports, name)
     return found
 

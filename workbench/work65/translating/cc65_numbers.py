@@ -1,4 +1,5 @@
-"""Numbers and texts of cc65's files: a number has 7 bits in each byte, the lowest first; a set top bit says that more bytes follow."""
+"""Numbers and texts of cc65's files. A number has 7 bits in each byte, the lowest first; a set top
+bit says that more bytes follow."""
 from typing import List, Tuple
 
 

@@ -1,4 +1,5 @@
-"""Objects and libraries of cc65's tools. All lengths and numbers are checked: a damaged file is a Problem that names the module."""
+"""Objects and libraries of cc65's tools. All lengths and numbers are checked: a damaged file is a
+Problem that names the module."""
 import struct
 from array import array
 from enum import Enum
@@ -11,8 +12,9 @@ OBJECT_MAGIC, LIBRARY_MAGIC = b"\x55\x7a\x6e\x61", b"\x6e\x61\x55\x7a"
 OBJECT_VERSION, LIBRARY_VERSION = 0x11, 0x0D
 # An object's head: magic, version, flags, and the offsets and sizes of these tables.
 HEAD = struct.Struct("<4sHH22I")
-OPTIONS, FILES, SECTIONS, IMPORTS, EXPORTS, DEBUG_SYMBOLS, LINES, STRINGS, ASSERTIONS, SCOPES, SPANS = range(11)
-# A library's head: magic, version, flags, offset of the index. A member's entry, after its name: flags, time, offset, size.
+OPTIONS, FILES, SECTIONS, IMPORTS, EXPORTS, DEBUG_SYMBOLS, LINES, STRINGS, ASSERTIONS = range(9)
+# A library's head: magic, version, flags, offset of the index. A member's entry, after its name:
+# flags, time, offset, size.
 LIBRARY_HEAD = struct.Struct("<4sHHI")
 ENTRY = struct.Struct("<HIII")
 UNSIGNED, SIGNED = struct.Struct("<I"), struct.Struct("<i")
@@ -20,7 +22,8 @@ UNSIGNED, SIGNED = struct.Struct("<I"), struct.Struct("<i")
 NO_LINE = -1
 # How deep an expression may be nested.
 DEEPEST = 300
-# The bits of an export's type: how many condes bytes it has, whether it has a size, and whether its value is an expression.
+# The bits of an export's type: how many condes bytes it has, whether it has a size, and whether its
+# value is an expression.
 CONDES_COUNT, HAS_SIZE, HAS_EXPRESSION = 0x07, 0x08, 0x10
 
 
@@ -69,7 +72,8 @@ class Import(NamedTuple):
 
 
 class Export(NamedTuple):
-    """An exported name and its value; `condes` has a type and a priority for each table that lists it."""
+    """An exported name and its value; `condes` has the type and priority in each table of
+    routines."""
 
     name: str
     address_size: int
@@ -106,7 +110,7 @@ Fragment = Union[bytes, Value, Fill]
 
 
 class Section(NamedTuple):
-    """The object's part of a segment. Its fragments are at an offset of the object, and are read when they are asked for."""
+    """The object's part of a segment. Its fragments are read when they are asked for."""
 
     owner: "CcObject"
     name: str
@@ -135,11 +139,13 @@ class Reading:
     def __exit__(self, _: object, error: Optional[BaseException], __: object) -> None:
         if isinstance(error, (Damage, IndexError, struct.error)):
             reason = str(error) if isinstance(error, Damage) else "it is cut short"
-            raise Problem(f"{self.name}: can't be read as a file of cc65's tools: {reason}") from error
+            what = "can't be read as a file of cc65's tools"
+            raise Problem(f"{self.name}: {what}: {reason}") from error
 
 
 class CcObject:
-    """An object of cc65's assembler. Fragments and source lines are read only when they are asked for."""
+    """An object of cc65's assembler. Fragments and source lines are read when they are asked
+    for."""
 
     def __init__(self, data: bytes, name: str) -> None:
         self.data, self.name, self.reading = data, name, Reading(name)
@@ -205,8 +211,9 @@ class CcObject:
         for _ in range(count):
             kind, at = number(data, at)
             address_size, at = data[at], at + 1
-            condes = tuple((it >> 5, (it & 0x1F) + 1) for it in data[at : at + (kind & CONDES_COUNT)])
-            name, at = number(data, at + (kind & CONDES_COUNT))
+            after = at + (kind & CONDES_COUNT)
+            condes = tuple((it >> 5, (it & 0x1F) + 1) for it in data[at:after])
+            name, at = number(data, after)
             value: Expression
             if kind & HAS_EXPRESSION:
                 value, at = self.expression(at)
@@ -304,7 +311,8 @@ class CcObject:
         return found
 
     def read_lines(self) -> "array[int]":
-        """Reads the source lines: of each the file's number and, in the lower 32 bits, the line. What is no line of a source is NO_LINE."""
+        """Reads the source lines: of each the file's number and, in the lower 32 bits, the line.
+        What is no line of a source is NO_LINE."""
         data, found, files = self.data, array("q"), len(self.files)
         count, at = self.table(LINES)
         for _ in range(count):
@@ -330,7 +338,8 @@ def tables_of(data: bytes) -> List[Tuple[int, int]]:
     if magic != OBJECT_MAGIC:
         raise Damage("it isn't an object")
     if version != OBJECT_VERSION:
-        raise Damage(f"its version is {version}; only objects of version {OBJECT_VERSION} can be read")
+        readable = f"only objects of version {OBJECT_VERSION} can be read"
+        raise Damage(f"its version is {version}; {readable}")
     tables = [(start, start + size) for start, size in zip(numbers[::2], numbers[1::2])]
     if max(end for _, end in tables) > len(data):
         raise Damage("it is cut short")
@@ -366,7 +375,8 @@ def members_of(data: bytes, library: str) -> Iterator[Member]:
     if magic != LIBRARY_MAGIC:
         raise Damage("it isn't a library")
     if version != LIBRARY_VERSION:
-        raise Damage(f"its version is {version}; only libraries of version {LIBRARY_VERSION} can be read")
+        readable = f"only libraries of version {LIBRARY_VERSION} can be read"
+        raise Damage(f"its version is {version}; {readable}")
     count, at = number(data, at)
     total = 0
     for _ in range(count):

@@ -1,4 +1,5 @@
-"""Forms of bin65's objects, in their normal form: bin65 refuses an object in which one could be folded."""
+"""Forms of bin65's objects, in their normal form: bin65 refuses an object whose forms could be
+folded."""
 import operator
 from typing import Callable, Dict
 
@@ -10,6 +11,7 @@ TIMES, DIVIDED, REMAINDER, AND, EXCLUSIVE, LEFT, RIGHT, PLUS, MINUS, OR = range(
 EQUAL, UNEQUAL, LESS, GREATER, AT_MOST, AT_LEAST, BOTH, ONE_OF_TWO, EITHER = range(0x2A, 0x33)
 # How many numbers, addresses, imports and operations a form may have.
 MOST_NODES = 255
+TOO_LONG = f"an expression of more than {MOST_NODES} numbers, names and operations"
 
 
 class NoValue(Exception):
@@ -48,12 +50,15 @@ def prefix_value(code: int, value: int) -> int:
 
 
 OPERATORS: Dict[int, Callable[[int, int], int]] = {
-    TIMES: operator.mul, DIVIDED: quotient, REMAINDER: lambda left, right: left - right * quotient(left, right),
+    TIMES: operator.mul, DIVIDED: quotient,
+    REMAINDER: lambda left, right: left - right * quotient(left, right),
     AND: operator.and_, EXCLUSIVE: operator.xor, OR: operator.or_,
     LEFT: lambda left, right: left << count(right), RIGHT: lambda left, right: left >> count(right),
     PLUS: operator.add, MINUS: operator.sub,
-    EQUAL: operator.eq, UNEQUAL: operator.ne, LESS: operator.lt, GREATER: operator.gt, AT_MOST: operator.le, AT_LEAST: operator.ge,
-    BOTH: lambda left, right: left != 0 and right != 0, EITHER: lambda left, right: left != 0 or right != 0,
+    EQUAL: operator.eq, UNEQUAL: operator.ne, LESS: operator.lt, GREATER: operator.gt,
+    AT_MOST: operator.le, AT_LEAST: operator.ge,
+    BOTH: lambda left, right: left != 0 and right != 0,
+    EITHER: lambda left, right: left != 0 or right != 0,
     ONE_OF_TWO: lambda left, right: (left != 0) != (right != 0),
 }  # fmt: skip
 

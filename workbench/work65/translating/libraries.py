@@ -1,4 +1,5 @@
-"""Libraries of cc65's tools, translated. The larger ones are kept in the user's cache folder, by their checksum."""
+"""Libraries of cc65's tools, translated. Larger ones are kept in the user's cache folder by
+checksum."""
 import hashlib
 import json
 import os
@@ -12,20 +13,23 @@ from work65.translating.r65_libraries import read_index, write_library
 from work65.translating.translation import NEEDS_LINK, translated
 from work65.translating.r65_writer import Export, Module, Untranslatable
 
-# Entries of another number, or of another version of work65, are not read. A change of what a translation is needs another number.
+# Entries of another number, or of another version of work65, are not read. A change of what a
+# translation is needs another number.
 CACHE_FORMAT = 2
 # A smaller library is translated in no time. Of the cached ones the last used stay.
 SMALLEST_CACHED, MOST_CACHED = 32768, 64
 CHECKSUM_SIZE = 32
 
-# Exports with the type and the priority of each table that lists them; segments with the size of the member's part.
+# Exports with the type and the priority of each table that lists them; segments with the size of
+# the member's part.
 Condes = Tuple[Tuple[str, int, int], ...]
 Sections = Tuple[Tuple[str, int], ...]
 
 
 class MemberFacts(NamedTuple):
-    """A member of a translated library. If it can't be translated alone, `refusal` is the reason, or `has_bank` is true: the library
-    then has a stand-in of its exports and imports, and a link that selects it has to replace it."""
+    """A member of a translated library. If it can't be translated alone, `refusal` is the reason,
+    or `has_bank` is true: the library then has a stand-in of its exports and imports, and a link
+    that selects it has to replace it."""
 
     name: str
     exports: Tuple[str, ...]
@@ -55,8 +59,9 @@ class Special(NamedTuple):
 
 def stand_in(obj: CcObject) -> bytes:
     """Returns an object that has only the exports and the imports of another one."""
-    names = [it.name for it in obj.imports if r65_writer.NAME.fullmatch(it.name)]
-    exports = {it.name: Export(it.name, 0) for it in obj.exports if r65_writer.NAME.fullmatch(it.name)}
+    is_name = r65_writer.NAME.fullmatch
+    names = [it.name for it in obj.imports if is_name(it.name)]
+    exports = {it.name: Export(it.name, 0) for it in obj.exports if is_name(it.name)}
     return r65_writer.written(Module(obj.name, names, (), exports.values()))
 
 
@@ -68,7 +73,8 @@ def translated_member(obj: CcObject) -> Tuple[bytes, Special]:
         return translated(obj), Special(condes, sections)
     except Untranslatable as error:
         has_bank = error.reason == NEEDS_LINK
-        return stand_in(obj), Special(condes, sections, has_bank, "" if has_bank else error.without_module())
+        refusal = "" if has_bank else error.without_module()
+        return stand_in(obj), Special(condes, sections, has_bank, refusal)
 
 
 def translated_library(data: bytes, name: str) -> Tuple[bytes, List[Special]]:
@@ -89,7 +95,8 @@ def cache_folder() -> Optional[str]:
 
 
 def cached(path: str) -> Optional[Tuple[bytes, List[Special]]]:
-    """Reads an entry of the cache: a checksum of the rest, a line of JSON, the library. None if there is none, or a damaged one."""
+    """Reads an entry of the cache: a checksum of the rest, a line of JSON, the library. Returns
+    None if there is none, or a damaged one."""
     try:
         with open(path, "rb") as file:
             checksum, rest = file.read(CHECKSUM_SIZE), file.read()
@@ -109,7 +116,8 @@ def special_of(condes: List[Any], sections: List[Any], has_bank: bool, refusal: 
 
 
 def keep(path: str, data: bytes, specials: List[Special]) -> None:
-    """Writes an entry of the cache, completely or not at all. A folder that can't be written is no error."""
+    """Writes an entry of the cache, completely or not at all. That it can't be written is no
+    error."""
     rest = json.dumps(specials, separators=(",", ":")).encode() + b"\n" + data
     part = f"{path}.{os.getpid()}"
     with suppress(OSError):
@@ -126,8 +134,8 @@ def keep(path: str, data: bytes, specials: List[Special]) -> None:
 
 def forget_old(folder: str) -> None:
     """Removes the entries that weren't used for the longest time, if there are too many."""
-    entries = sorted((entry.stat().st_mtime_ns, entry.path) for entry in os.scandir(folder) if entry.is_file())
-    for _, path in entries[:-MOST_CACHED]:
+    files = [entry for entry in os.scandir(folder) if entry.is_file()]
+    for _, path in sorted((it.stat().st_mtime_ns, it.path) for it in files)[:-MOST_CACHED]:
         os.remove(path)
 
 

@@ -38,8 +38,10 @@ def names_of(data: bytes) -> Tuple[List[bytes], List[bytes]]:
 def member_name(name: str, library: str) -> bytes:
     """Returns the bytes of a member's name."""
     found = name.encode("utf-8", "backslashreplace")
-    if not 1 <= len(found) <= MOST_IN_NAME or name in (".", "..") or any(it in "/\x7f" or it < " " for it in name):
-        raise Problem(f"{library}: a member has a name that bin65's libraries can't hold: {name[:40]!r}")
+    is_bad = name in (".", "..") or any(it in "/\x7f" or it < " " for it in name)
+    if is_bad or not 1 <= len(found) <= MOST_IN_NAME:
+        what = "a member has a name that bin65's libraries can't hold"
+        raise Problem(f"{library}: {what}: {name[:40]!a}")
     return found
 
 
@@ -49,7 +51,7 @@ def counted(names: List[bytes]) -> bytes:
 
 
 def write_library(members: Iterable[Tuple[str, bytes]], library: str) -> bytes:
-    """Returns the bytes of a library of objects, each with its name, in this order. Messages name the library by `library`."""
+    """Returns the bytes of a library of objects, each with its name, in this order."""
     index, objects, known = [], [], set()
     for name, data in members:
         word = member_name(name, library)
@@ -57,7 +59,8 @@ def write_library(members: Iterable[Tuple[str, bytes]], library: str) -> bytes:
             raise Problem(f"{library}: a second member {name}")
         known.add(word)
         exports, imports = names_of(data)
-        index.append(b"%c%b%b" % (len(word), word, COUNT.pack(len(data)) + counted(exports) + counted(imports)))
+        facts = COUNT.pack(len(data)) + counted(exports) + counted(imports)
+        index.append(b"%c%b%b" % (len(word), word, facts))
         objects.append(data)
     return b"".join((HEAD, COUNT.pack(len(index)), *index, *objects))
 

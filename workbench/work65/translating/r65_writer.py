@@ -6,13 +6,14 @@ from typing import Dict, Iterable, NamedTuple, Optional, Sequence, Tuple, Union
 from work65.formats.objects import Fill, Form, Import, Place
 from work65.problem import Problem
 from work65.translating.cc65_objects import Position
-from work65.translating.forms import MOST_NODES, node_count
+from work65.translating.forms import MOST_NODES, TOO_LONG, node_count
 
 HEAD = b"R65o\x02"
 FILE, IMPORT, SECTION, LITERAL, FILL, VALUE, EXPORT, ASSERT, END = 9, 1, 2, 3, 4, 5, 6, 7, 8
 MOST_IN_RECORD, MOST_IN_SECTION, GREATEST_EXPONENT, MOST_IN_NAME = 4096, 16_777_216, 15, 255
 RECORD, VALUE_HEAD, LOCATION = struct.Struct("<BH"), struct.Struct("<BHBII"), struct.Struct("<II")
-SECTION_HEAD, NUMBER_FORM, PLACE_FORM, IMPORT_FORM = map(struct.Struct, ("<IB", "<Bq", "<BIq", "<BI"))
+SECTION_HEAD, NUMBER_FORM = struct.Struct("<IB"), struct.Struct("<Bq")
+PLACE_FORM, IMPORT_FORM = struct.Struct("<BIq"), struct.Struct("<BI")
 INDEX = struct.Struct("<I")
 NAME = re.compile("[!-~]{1,255}")
 # The bytes of each width, and the smallest and the greatest value that fit.
@@ -58,8 +59,9 @@ class Assertion(NamedTuple):
 
 
 class Module(NamedTuple):
-    """An object to write. `name` is for messages. `imports` come first; those that only forms hold follow, and aren't listed here.
-    Likewise a section that only forms hold is an empty one after the others."""
+    """An object to write. `name` is for messages. `imports` come first; those that only forms hold
+    follow, and aren't listed here. Likewise a section that only forms hold is an empty one after
+    the others."""
 
     name: str
     imports: Sequence[str] = ()
@@ -104,7 +106,8 @@ class ObjectWriter:
     def name(self, name: str, position: Optional[Position] = None) -> bytes:
         """Returns the bytes of a name."""
         if not NAME.fullmatch(name):
-            raise self.refuse(position, f"a name with more than {MOST_IN_NAME} bytes or with other bytes than 21 to 7E: {name[:40]!a}")
+            what = f"a name with more than {MOST_IN_NAME} bytes or with other bytes than 21 to 7E"
+            raise self.refuse(position, f"{what}: {name[:40]!a}")
         return name.encode("ascii")
 
     def location(self, position: Optional[Position]) -> Tuple[int, int]:
@@ -115,7 +118,8 @@ class ObjectWriter:
     def form(self, form: Form) -> bytes:
         """Returns the bytes of a form."""
         if isinstance(form, Place):
-            return PLACE_FORM.pack(1, self.sections.setdefault(form.section, len(self.sections)), form.offset)
+            section = self.sections.setdefault(form.section, len(self.sections))
+            return PLACE_FORM.pack(1, section, form.offset)
         if isinstance(form, Import):
             return IMPORT_FORM.pack(2, self.imports.setdefault(form.name, len(self.imports)))
         if isinstance(form, int):
@@ -126,7 +130,7 @@ class ObjectWriter:
         """Returns the bytes of a form that isn't a part of another one."""
         found = self.form(form)
         if len(found) > MOST_NODES and node_count(form) > MOST_NODES:
-            raise self.refuse(position, f"an expression of more than {MOST_NODES} numbers, names and operations")
+            raise self.refuse(position, TOO_LONG)
         return found
 
     def flush(self) -> None:
@@ -179,7 +183,8 @@ class ObjectWriter:
                 size += fragment.size
                 self.add_fill(fragment.size)
             if size > MOST_IN_SECTION:
-                raise self.refuse(None, f"segment {section.name} has more than {MOST_IN_SECTION} bytes")
+                what = f"has more than {MOST_IN_SECTION} bytes"
+                raise self.refuse(None, f"segment {section.name} {what}")
         self.flush()
         return size
 
@@ -187,8 +192,9 @@ class ObjectWriter:
         """Returns the record of a section."""
         exponent = section.alignment.bit_length() - 1
         if section.alignment != 1 << max(exponent, 0) or exponent > GREATEST_EXPONENT:
-            most = 1 << GREATEST_EXPONENT
-            raise self.refuse(None, f"segment {section.name} has the alignment {section.alignment}, no power of two up to {most}")
+            what = f"no power of two up to {1 << GREATEST_EXPONENT}"
+            reason = f"segment {section.name} has the alignment {section.alignment}, {what}"
+            raise self.refuse(None, reason)
         return record(SECTION, SECTION_HEAD.pack(size, exponent) + self.name(section.name))
 
     def add_exports(self, exports: Iterable[Export]) -> None:
@@ -206,8 +212,9 @@ class ObjectWriter:
         """Adds assertions."""
         for it in assertions:
             text = it.text[:MOST_IN_NAME]
-            head = bytes((it.is_error,)) + LOCATION.pack(*self.location(it.position)) + bytes((len(text),)) + text
-            self.body += record(ASSERT, head + self.whole_form(it.form, it.position))
+            head = bytes((it.is_error,)) + LOCATION.pack(*self.location(it.position))
+            form = self.whole_form(it.form, it.position)
+            self.body += record(ASSERT, head + bytes((len(text),)) + text + form)
 
     def write(self) -> bytes:
         """Returns the bytes of the object."""
@@ -220,7 +227,8 @@ class ObjectWriter:
         sections = [self.section_record(it, self.add_fragments(it)) for it in self.module.sections]
         self.add_exports(self.module.exports)
         self.add_assertions(self.module.assertions)
-        sections += [self.section_record(Section(it, 1, ()), 0) for it in list(self.sections)[len(sections) :]]
+        others = list(self.sections)[len(sections) :]
+        sections += [self.section_record(Section(it, 1, ()), 0) for it in others]
         files = [record(FILE, file_name(it)) for it in self.files]
         imports = [record(IMPORT, self.name(it)) for it in self.imports]
         return b"".join((HEAD, *files, *imports, *sections, self.body, record(END, b"")))
@@ -228,7 +236,8 @@ class ObjectWriter:
 
 def file_name(name: str) -> bytes:
     """Returns a source's name in UTF-8; bytes that aren't UTF-8 are shown by their numbers."""
-    return name.encode("utf-8", "backslashreplace")[:MOST_IN_RECORD].decode("utf-8", "ignore").encode()
+    found = name.encode("utf-8", "backslashreplace")[:MOST_IN_RECORD]
+    return found.decode("utf-8", "ignore").encode()
 
 
 def written(module: Module) -> bytes:

@@ -4,24 +4,34 @@ from typing import AbstractSet, Callable, Iterator, NamedTuple, Optional, Sequen
 from work65.formats import objects
 from work65.formats.objects import Form, Place
 from work65.translating import forms, r65_writer
-from work65.translating.cc65_objects import CcObject, Expression, Fill, ImportIndex, Operation, Section, SectionIndex
+from work65.translating.cc65_objects import CcObject, Expression, Fill, ImportIndex, Operation
+from work65.translating.cc65_objects import Section, SectionIndex
 from work65.translating.forms import NoValue, joined, node_count, prefixed
 from work65.translating.r65_writer import Untranslatable
 
 NEEDS_LINK = "a .bank has a value only in a link"
 # The operators and prefixes that bin65 has as well, by cc65's code.
 OPERATORS = {
-    0x01: forms.PLUS, 0x02: forms.MINUS, 0x03: forms.TIMES, 0x04: forms.DIVIDED, 0x05: forms.REMAINDER, 0x06: forms.OR,
-    0x07: forms.EXCLUSIVE, 0x08: forms.AND, 0x09: forms.LEFT, 0x0A: forms.RIGHT, 0x0B: forms.EQUAL, 0x0C: forms.UNEQUAL,
-    0x0D: forms.LESS, 0x0E: forms.GREATER, 0x0F: forms.AT_MOST, 0x10: forms.AT_LEAST, 0x11: forms.BOTH, 0x12: forms.EITHER,
-    0x13: forms.ONE_OF_TWO,
+    0x01: forms.PLUS, 0x02: forms.MINUS, 0x03: forms.TIMES, 0x04: forms.DIVIDED,
+    0x05: forms.REMAINDER, 0x06: forms.OR, 0x07: forms.EXCLUSIVE, 0x08: forms.AND,
+    0x09: forms.LEFT, 0x0A: forms.RIGHT, 0x0B: forms.EQUAL, 0x0C: forms.UNEQUAL,
+    0x0D: forms.LESS, 0x0E: forms.GREATER, 0x0F: forms.AT_MOST, 0x10: forms.AT_LEAST,
+    0x11: forms.BOTH, 0x12: forms.EITHER, 0x13: forms.ONE_OF_TWO,
 }  # fmt: skip
-PREFIXES = {0x41: forms.NEGATED, 0x42: forms.COMPLEMENT, 0x44: forms.OPPOSITE, 0x48: forms.LOW, 0x49: forms.HIGH, 0x4A: forms.THIRD}
+PREFIXES = {
+    0x41: forms.NEGATED, 0x42: forms.COMPLEMENT, 0x44: forms.OPPOSITE,
+    0x48: forms.LOW, 0x49: forms.HIGH, 0x4A: forms.THIRD,
+}  # fmt: skip
 BOTH, EITHER, MAXIMUM, MINIMUM, SWAP, BANK = 0x11, 0x12, 0x14, 0x15, 0x43, 0x45
-# The parts of a value that bin65 has no prefix for: how far it is shifted to the right, and which bits are kept.
-PARTS = {0x4B: (24, 0xFF), 0x4C: (0, 0xFFFF), 0x4D: (16, 0xFFFF), 0x4E: (0, 0xFFFFFF), 0x4F: (0, 0xFFFFFFFF), 0x50: (0, 0xFFFF)}
-# By the bytes of a value and whether it is signed: values of bin65's widths, and of each how far the value is shifted to the right, and
-# which bits are kept (0: all). The last one checks the range of the whole.
+# The parts of a value that bin65 has no prefix for: how far it is shifted to the right, and which
+# bits are kept.
+PARTS = {
+    0x4B: (24, 0xFF), 0x4C: (0, 0xFFFF), 0x4D: (16, 0xFFFF), 0x4E: (0, 0xFFFFFF),
+    0x4F: (0, 0xFFFFFFFF), 0x50: (0, 0xFFFF),
+}  # fmt: skip
+# By the bytes of a value and whether it is signed: values of bin65's widths, and of each how far
+# the value is shifted to the right, and which bits are kept (0: all). The last one checks the range
+# of the whole.
 PARTS_OF_VALUE = {
     (1, False): ((r65_writer.BYTE, 0, 0),),
     (2, False): ((r65_writer.WORD, 0, 0),),
@@ -30,13 +40,16 @@ PARTS_OF_VALUE = {
     (1, True): ((r65_writer.BRANCH, 0, 0),),
     (2, True): ((r65_writer.BYTE, 0, 0xFF), (r65_writer.BRANCH, 8, 0)),
     (3, True): ((r65_writer.WORD, 0, 0xFFFF), (r65_writer.BRANCH, 16, 0)),
-    (4, True): ((r65_writer.WORD, 0, 0xFFFF), (r65_writer.BYTE, 16, 0xFF), (r65_writer.BRANCH, 24, 0)),
-}
+    (4, True): (
+        (r65_writer.WORD, 0, 0xFFFF), (r65_writer.BYTE, 16, 0xFF), (r65_writer.BRANCH, 24, 0),
+    ),
+}  # fmt: skip
 
 
 class LinkFacts(NamedTuple):
-    """What a link decides about an object: which exports are left out, what it imports besides, the number of a `.bank`, and whether
-    the sections are kept that have no bytes, no alignment and no labels."""
+    """What a link decides about an object: which exports are left out, what it imports besides, the
+    number of a `.bank`, and whether the sections are kept that have no bytes, no alignment and no
+    labels."""
 
     omitted: AbstractSet[str] = frozenset()
     imported: Sequence[str] = ()
@@ -52,12 +65,14 @@ def part_of(form: Form, shift: int, mask: int) -> Form:
 
 def swapped(form: Form) -> Form:
     """Returns the form of a word whose bytes are swapped."""
-    return joined(forms.OR, part_of(form, 8, 0xFF), joined(forms.AND, joined(forms.LEFT, form, 8), 0xFF00))
+    higher = joined(forms.AND, joined(forms.LEFT, form, 8), 0xFF00)
+    return joined(forms.OR, part_of(form, 8, 0xFF), higher)
 
 
 def one_of(code: int, left: Form, right: Form) -> Form:
     """Returns the form of the greater or the lesser of two values."""
-    is_left, is_right = (forms.GREATER, forms.AT_MOST) if code == MAXIMUM else (forms.LESS, forms.AT_LEAST)
+    is_left = forms.GREATER if code == MAXIMUM else forms.LESS
+    is_right = forms.AT_MOST if code == MAXIMUM else forms.AT_LEAST
     first = joined(forms.TIMES, joined(is_left, left, right), left)
     return joined(forms.PLUS, first, joined(forms.TIMES, joined(is_right, left, right), right))
 
@@ -78,7 +93,7 @@ class Translation:
         """Returns the form of an expression."""
         if isinstance(expression, Operation):
             code, parts = expression
-            return self.prefix(code, parts[0]) if len(parts) == 1 else self.operation(code, parts[0], parts[1])
+            return self.prefix(code, parts[0]) if len(parts) == 1 else self.operation(code, *parts)
         if isinstance(expression, SectionIndex):
             return self.places[expression.index]
         return self.imports[expression.index] if isinstance(expression, ImportIndex) else expression
@@ -87,7 +102,8 @@ class Translation:
         """Returns the form of an operator and two parts."""
         left = self.form(first)
         if isinstance(left, int) and (code == BOTH and not left or code == EITHER and left):
-            return int(code == EITHER)  # ld65 doesn't look at the second part, which may have no value
+            # ld65 doesn't look at the second part, which may have no value.
+            return int(code == EITHER)
         right = self.form(second)
         if code in OPERATORS:
             return joined(OPERATORS[code], left, right)
@@ -115,7 +131,7 @@ class Translation:
     def limit(form: Form) -> None:
         """Refuses a form that is to be written twice and would be too long."""
         if node_count(form) > forms.MOST_NODES:
-            raise NoValue(f"an expression of more than {forms.MOST_NODES} numbers, names and operations")
+            raise NoValue(forms.TOO_LONG)
 
     def form_at(self, expression: Expression, lines: int) -> Form:
         """Returns the form of an expression that has a place in a source."""
@@ -135,13 +151,14 @@ class Translation:
                 width, is_signed, expression, lines = fragment
                 form, position = self.form_at(expression, lines), self.object.position(lines)
                 for part, shift, mask in PARTS_OF_VALUE[width, is_signed]:
-                    yield r65_writer.Value(part, part_of(form, shift, mask) if shift or mask else form, position)
+                    yield r65_writer.Value(part, part_of(form, shift, mask), position)
 
     def exports(self) -> Iterator[r65_writer.Export]:
         """Yields the exports."""
         for it in self.object.exports:
             if it.name not in self.facts.omitted:
-                yield r65_writer.Export(it.name, self.form_at(it.value, it.lines), self.object.position(it.lines))
+                form, position = self.form_at(it.value, it.lines), self.object.position(it.lines)
+                yield r65_writer.Export(it.name, form, position)
 
     def assertions(self) -> Iterator[r65_writer.Assertion]:
         """Yields the assertions that the linker has to decide."""
@@ -156,9 +173,13 @@ class Translation:
     def translate(self) -> bytes:
         """Returns the object of bin65's."""
         imports = [*(it.name for it in self.imports), *self.facts.imported]
-        kept = [it for it in self.object.sections if self.facts.keeps_empty or it.size or it.alignment != 1]
-        sections = [r65_writer.Section(it.name, it.alignment, self.fragments(it) if it.count or it.size else ()) for it in kept]
-        return r65_writer.written(r65_writer.Module(self.object.name, imports, sections, self.exports(), self.assertions()))
+        sections = []
+        for it in self.object.sections:
+            if self.facts.keeps_empty or it.size or it.alignment != 1:
+                content = self.fragments(it) if it.count or it.size else ()
+                sections.append(r65_writer.Section(it.name, it.alignment, content))
+        name, exports, assertions = self.object.name, self.exports(), self.assertions()
+        return r65_writer.written(r65_writer.Module(name, imports, sections, exports, assertions))
 
 
 def translated(obj: CcObject, facts: LinkFacts = LinkFacts()) -> bytes:

@@ -213,7 +213,8 @@ def configs(tries):
             is_refused = ": not compared: ld65 refuses" in found.text
             linked += not is_refused
             if not is_refused:
-                tries.check(f"{config} with {made}", found.verdict == "same", found)
+                is_o65 = found.verdict == "not compared" and found.text.endswith("has the format o65, which can't be made")
+                tries.check(f"{config} with {made}", found.verdict == "same" or config == "module.cfg" and is_o65, found)
     tries.check("configs that link", linked >= 60, linked)
 
 
@@ -426,11 +427,27 @@ def links(tries):
     tries.check("link: a full disk", ran.returncode == 1 and not os.path.exists("new"), ran)
 
 
+def alone(tries):
+    """What is said without cc65."""
+    tools = f"{tries.top}/tools without cc65"
+    os.makedirs(tools)
+    for it in ("python3", "sh", "dirname", "readlink"):
+        os.symlink(shutil.which(it), f"{tools}/{it}")
+    for words in (("ld65", "-C", "a.cfg", "a.o"), ("--", "true")):
+        ran = tries.run("second", *words, PATH=tools, CC65_HOME="")
+        tries.check(f"no cc65: {words}", (ran.returncode, ran.stderr) == (2, "work65: cc65's ld65 isn't on the path\n"), ran)
+    for words, status in (((), 2), (("-C", "none.cfg", "none.o"), 1), (("-o",), 1)):
+        ran = tries.run("link", *words, PATH=tools, CC65_HOME="")
+        tries.check(f"no cc65: link {words}", ran.returncode == status and ran.stderr.startswith("work65: ") and not ran.stdout, ran)
+
+
 def main():
     count = int(sys.argv[2]) if len(sys.argv) > 2 else 300
     with tempfile.TemporaryDirectory() as top:
         tries = Tries(os.path.abspath(sys.argv[1]), top)
         os.makedirs(f"{top}/temporary")
+        os.environ["XDG_CACHE_HOME"] = f"{top}/cache"
+        alone(tries)
         if all(map(shutil.which, ("ca65", "ld65", "ar65", "cl65", "make"))):
             cases(tries)
             refusals(tries)
@@ -439,6 +456,9 @@ def main():
             links(tries)
             configs(tries)
             random_configs(tries, count)
+            tries.check("nothing is left", not os.listdir(f"{top}/temporary"), os.listdir(f"{top}/temporary"))
+        else:
+            print("cc65 isn't here: nothing is linked twice and compared")
         os.chdir("/")
         return report(tries.checks)
 

@@ -41,7 +41,7 @@ SCRIPTS = [
     "one_program", "second_builds", "cases", "disk", "sums", "version1",
     "migrating", "differences", "cc65_scripts", "tutorial", "language", "messages", "editors", "make_try", "makefile", "machines", "second", "labels",
     "workbench_list", "workbench_labels", "workbench_debug", "workbench_deps", "workbench_size", "workbench_bad", "workbench_check",
-    "workbench_faults", "workbench_lexer", "translating", "packaging", "release", "bench",
+    "workbench_faults", "workbench_lexer", "translating", "translating_cc65", "packaging", "release", "bench",
 ]
 EXAMPLES = ["first", "programs", "library", "sizes"]
 # It also needs the program of tests_calls65, which `rt ci` may build last.

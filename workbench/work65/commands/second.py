@@ -1,6 +1,7 @@
 """work65 second: builds a cc65 project with cc65's tools and with bin65, and compares the images. Changes nothing in the project."""
 import argparse
 import os
+from typing import Optional, Sequence
 
 from work65.commands.port import add_options, options_of
 from work65.frontend.files import read_bytes
@@ -16,10 +17,24 @@ from work65.signals import folder_for_a_while
 # How objects and libraries of cc65's begin.
 MADE_BY_CC65 = (b"Uzna", b"naUz")
 HELP = "report whether bin65 makes the same image of an unchanged cc65 project"
+USAGE = """work65 second [--keep DIR] [--json] -- COMMAND ..
+       work65 second [--keep DIR] [--json] ld65 ARGUMENT ..
+       work65 second [options] -C SCRIPT SOURCE .."""
+EPILOG = """With a COMMAND, like `make`, each link of the build is linked by bin65, too, from cc65's objects and libraries. After `ld65`, one link
+is, by the arguments of ld65. --keep leaves in DIR what bin65 linked; --json prints the results as JSON. All other options are for sources that
+bin65 assembles itself."""
+
+
+def run_words(words: Sequence[str]) -> Optional[int]:
+    """Checks the links of a build, or one link, by cc65's objects; None for a command line that names sources."""
+    from work65.linking import builds
+
+    return builds.run_words(words)
 
 
 def add_arguments(parser: argparse.ArgumentParser) -> None:
     """Adds the arguments of this subcommand."""
+    parser.usage, parser.epilog = USAGE, EPILOG
     add = parser.add_argument
     add("-C", dest="script", metavar="SCRIPT", required=True, help="the linker script, as for ld65")
     add_options(parser)

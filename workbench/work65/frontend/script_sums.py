@@ -43,6 +43,11 @@ def value_of(value: Sequence[Word], names: Mapping[str, Optional[int]]) -> Optio
         return None
 
 
+def _quotient(one: int, other: int) -> int:
+    """Returns a quotient as C has it, rounded to 0."""
+    return -(-one // other) if isinstance(other, int) and isinstance(one, int) and (one < 0) != (other < 0) else one // other
+
+
 class _SumReader:
     """Reads a sum from the left."""
 
@@ -66,7 +71,7 @@ class _SumReader:
         found = self.factor()
         while self.is_at("*", "/"):
             self.at += 1
-            found = found * self.factor() if self.value[self.at - 1].text == "*" else found // self.factor()
+            found = found * self.factor() if self.value[self.at - 1].text == "*" else _quotient(found, self.factor())
         return found
 
     def factor(self) -> int:
@@ -75,6 +80,8 @@ class _SumReader:
         self.at += 1
         if word.text == "-":
             return -self.factor()
+        if word.text == "+":
+            return self.factor()
         if word.text == "(":
             found = self.sum()
             if not self.is_at(")"):

@@ -1,0 +1,116 @@
+"""Runs a build with cc65's linker watched: a folder in front of PATH has a script for it, and so
+has one for CC65_HOME if that is set."""
+import json
+import os
+import shlex
+import signal
+import subprocess
+import sys
+from typing import Dict, List, Sequence
+
+import work65
+from work65.linking.builds import NOT_COMPARED, Wanted, linker, report
+from work65.linking.comparing import UNKNOWN, Verdict
+from work65.problem import Problem, complain
+from work65.program import Program
+from work65.signals import folder_for_a_while
+
+# The real linker runs first, as it would without us. Each link leaves a line in `seen`, and one in
+# `links` when it's checked.
+SHIM = """#!/bin/sh
+{linker} "$@" || exit
+echo >> {room}/seen
+{python} -S -E -c 'import sys; sys.path.insert(0, sys.argv[1])
+from work65.linking.shim import main
+main()' {package} {room} {linker} {bin65} {kept} "$@" < /dev/null > /dev/null 2>> {room}/errors
+exit 0
+"""
+LOST = "a link's check has ended without a result"
+NONE_SEEN = "no link was seen: the build made none, or called ld65 or cl65 by an absolute path"
+
+
+def watched(command: Sequence[str], wanted: Wanted) -> int:
+    """Runs a command, prints a line for each link, and returns the status: that of the command if
+    it fails."""
+    program, tool = Program.find(wanted.bin65), linker()
+    with folder_for_a_while() as room:
+        package = os.path.dirname(os.path.dirname(os.path.abspath(work65.__file__)))
+        values = {
+            "linker": tool, "room": room, "python": sys.executable, "package": package,
+            "bin65": program.path, "kept": wanted.kept,
+        }  # fmt: skip
+        status = _ran(command, _environment(values))
+        links = _links(room)
+        own = report(links, wanted) if links or wanted.is_json else NOT_COMPARED
+        if not links and not status:
+            complain(NONE_SEEN)
+    return status or own
+
+
+def _ran(command: Sequence[str], environment: Dict[str, str]) -> int:
+    """Runs the build, and returns its status. If a signal ends this program, so it does the build,
+    which is waited for."""
+    try:
+        build = subprocess.Popen(command, env=environment)
+    except OSError as error:
+        raise Problem(f"{command[0]} can't be run: {error.strerror}") from error
+    try:
+        build.wait()
+    except KeyboardInterrupt:
+        build.send_signal(signal.SIGTERM)
+        build.wait()
+        raise
+    return build.returncode if build.returncode >= 0 else 128 - build.returncode
+
+
+def _environment(values: Dict[str, str]) -> Dict[str, str]:
+    """Returns the environment of a build, in which ld65 is watched."""
+    shims = os.path.join(values["room"], "bin")
+    os.mkdir(shims)
+    _write_shim(shims, values)
+    path = os.environ.get("PATH", os.defpath)
+    found = {**os.environ, "PATH": f"{shims}{os.pathsep}{path}"}
+    home = os.environ.get("CC65_HOME", "")
+    own = os.path.join(home, "bin", "ld65")
+    if home and os.path.isfile(own):
+        found["CC65_HOME"] = _shadow(os.path.abspath(home), {**values, "linker": own})
+    return found
+
+
+def _write_shim(folder: str, values: Dict[str, str]) -> None:
+    """Writes the script that stands for ld65."""
+    path = os.path.join(folder, "ld65")
+    with open(path, "w", encoding="utf-8", errors="surrogateescape") as it:
+        it.write(SHIM.format(**{key: shlex.quote(value) for key, value in values.items()}))
+    os.chmod(path, 0o755)
+
+
+def _shadow(home: str, values: Dict[str, str]) -> str:
+    """Makes a folder like that of CC65_HOME, with links to all but ld65. cl65 calls the tools of
+    the folder by which it's called."""
+    shadow = os.path.join(values["room"], "home")
+    os.makedirs(os.path.join(shadow, "bin"))
+    tools = [os.path.join("bin", it) for it in os.listdir(os.path.join(home, "bin"))]
+    for name in [*os.listdir(home), *tools]:
+        if name not in ("bin", os.path.join("bin", "ld65")):
+            os.symlink(os.path.join(home, name), os.path.join(shadow, name))
+    _write_shim(os.path.join(shadow, "bin"), values)
+    return shadow
+
+
+def _links(room: str) -> List[Verdict]:
+    """Returns the results of all checks, in the order in which they came. A link whose check has
+    left none isn't compared."""
+    found = [json.loads(it) for it in _lines(room, "links")]
+    lost = len(_lines(room, "seen")) - len(found)
+    why = ": ".join([LOST, *_lines(room, "errors")[-1:]])
+    return [Verdict(*it) for it in found if it] + [Verdict(UNKNOWN, why, {})] * max(lost, 0)
+
+
+def _lines(room: str, name: str) -> List[str]:
+    """Returns the lines of a file that the scripts write, none if it isn't there."""
+    path = os.path.join(room, name)
+    if not os.path.exists(path):
+        return []
+    with open(path, encoding="utf-8", errors="surrogateescape") as it:
+        return it.read().splitlines()

@@ -23,12 +23,20 @@ use Rattle.ar65.proofs.LoopSteps.{ahead, each_none, refused_so}
 
 -- ---- Deletion.
 
-pub deleted_more : (before ms ns : List Member) (names : List (List ℕ)) (k : ℕ) (name put : List ℕ) → drop k names ≡ name ∷ drop (k + 1) names → put ≡ member_name name → without_files ms (drop k names) ≡ without_files before names → without_named_member ms put ≡ Ok ns → without_files ns (drop (k + 1) names) ≡ without_files before names
+pub deleted_more : (before ms ns : List Member) (names : List (List ℕ)) (k : ℕ) (name put : List ℕ)
+    → drop k names ≡ name ∷ drop (k + 1) names → put ≡ member_name name
+    → without_files ms (drop k names) ≡ without_files before names
+    → without_named_member ms put ≡ Ok ns
+    → without_files ns (drop (k + 1) names) ≡ without_files before names
 deleted_more before ms ns names k name put at named left gone =
     let here : without_named_member ms (member_name name) ≡ Ok ns = ap (without_named_member ms) (sym named) ∙ gone in
     sym (ap (λ r. r >>= (λ xs. without_files xs (drop (k + 1) names))) here) ∙ sym (ap (without_files ms) at) ∙ left
 
-pub not_deleted : (before ms : List Member) (names : List (List ℕ)) (k : ℕ) (name put : List ℕ) (e : LibraryFault) → drop k names ≡ name ∷ drop (k + 1) names → put ≡ member_name name → without_files ms (drop k names) ≡ without_files before names → RefinesErr is_library_memory e (without_named_member ms put) → RefinesErr is_library_memory e (without_files before names)
+pub not_deleted : (before ms : List Member) (names : List (List ℕ)) (k : ℕ) (name put : List ℕ) (e : LibraryFault)
+    → drop k names ≡ name ∷ drop (k + 1) names → put ≡ member_name name
+    → without_files ms (drop k names) ≡ without_files before names
+    → RefinesErr is_library_memory e (without_named_member ms put)
+    → RefinesErr is_library_memory e (without_files before names)
 not_deleted before ms names k name put e at named left gone =
     refused_so is_library_memory e (without_named_member ms put) (without_files before names)
     (λ h. sym left ∙ ap (without_files ms) at ∙ ap (λ r. r >>= (λ xs. without_files xs (drop (k + 1) names))) (ap (without_named_member ms) (sym named) ∙ h))
@@ -36,36 +44,48 @@ not_deleted before ms names k name put e at named left gone =
 
 -- ---- Extraction.
 
-pub file_missing : (library : List Member) (found : List MemberFile) (left : List (List ℕ)) (name : List ℕ) (more : List (List ℕ)) (put : List ℕ) (e : LibraryFault) {whole : Result (List MemberFile) LibraryFault} → left ≡ name ∷ more → put ≡ name → ahead found (files_of library left) ≡ whole → RefinesErr is_library_memory e (file_of library put) → RefinesErr is_library_memory e whole
+pub file_missing : (library : List Member) (found : List MemberFile) (left : List (List ℕ)) (name : List ℕ) (more : List (List ℕ)) (put : List ℕ) (e : LibraryFault) {whole : Result (List MemberFile) LibraryFault}
+    → left ≡ name ∷ more → put ≡ name → ahead found (files_of library left) ≡ whole
+    → RefinesErr is_library_memory e (file_of library put) → RefinesErr is_library_memory e whole
 file_missing library found left name more put e {whole} at named inv none =
     refused_so is_library_memory e (file_of library put) whole
     (λ h. sym inv ∙ each_none (file_of library) found left name more e at (ap (file_of library) (sym named) ∙ h))
     none
 
 -- if at least one FILE is named, the members of these names are extracted
-pub some_named : (ms : List Member) (files : List (Bor (List ℕ))) (b : Bool) → b ≡ false → b ≡ (length files == 0) → extracted_files ms (map (λ s. s.now) files) ≡ files_of ms (map member_name (map (λ s. s.now) files))
+pub some_named : (ms : List Member) (files : List (Bor (List ℕ))) (b : Bool) → b ≡ false
+    → b ≡ (length files == 0)
+    → extracted_files ms (map (λ s. s.now) files) ≡ files_of ms (map member_name (map (λ s. s.now) files))
 some_named ms [] b filled is = absurd (let bad : true ≡ false = sym is ∙ filled in cc)
 some_named ms (x ∷ xs) b filled is = refl
 
 -- ---- The operation.
 
-library_outside : (e : LibraryFault) (P : Type 0) → Unless (is_library_memory e) P → Unless (is_system_error (error.Library e)) P
+library_outside : (e : LibraryFault) (P : Type 0) → Unless (is_library_memory e) P
+    → Unless (is_system_error (error.Library e)) P
 library_outside fault.OutOfMemory P h = tt
 library_outside fault.FileError P h = tt
 library_outside e P h = h
 
-texts_in : (file : Option (List ℕ)) (ms : List Member) → in_file file library_at ≡ Ok ms → AreUtf8 (member_names ms)
+texts_in : (file : Option (List ℕ)) (ms : List Member) → in_file file library_at ≡ Ok ms
+    → AreUtf8 (member_names ms)
 texts_in None ms e = absurd cc
 texts_in (Some bytes) ms e = names_are_texts bytes ms e
 
-pub extracts : (known : Option Files) (a : ArchiveView) (ms : List Member) (names : List (List ℕ)) (found : List MemberFile) → names ≡ a.files → IfSome known (λ m. in_file (get m a.library) library_at ≡ Ok ms) → (AreUtf8 (member_names ms) → extracted_files ms names ≡ Ok found) → IfSome known (λ m. extract_result m a ≡ Ok (archived.Members found))
+pub extracts : (known : Option Files) (a : ArchiveView) (ms : List Member) (names : List (List ℕ)) (found : List MemberFile)
+    → names ≡ a.files → IfSome known (λ m. in_file (get m a.library) library_at ≡ Ok ms)
+    → (AreUtf8 (member_names ms) → extracted_files ms names ≡ Ok found)
+    → IfSome known (λ m. extract_result m a ≡ Ok (archived.Members found))
 unfolding extract_result
 extracts None a ms names found same read gives = tt
 extracts (Some m) a ms names found same read gives =
     let given : extracted_files ms a.files ≡ Ok found = ap (extracted_files ms) (sym same) ∙ gives (texts_in (get m a.library) ms read) in
     rw (read, given) refl
 
-pub not_extracted : (known : Option Files) (a : ArchiveView) (ms : List Member) (names : List (List ℕ)) (e : LibraryFault) → names ≡ a.files → IfSome known (λ m. in_file (get m a.library) library_at ≡ Ok ms) → (AreUtf8 (member_names ms) → RefinesErr is_library_memory e (extracted_files ms names)) → IfSome known (λ m. RefinesErr is_system_error (error.Library e) (extract_result m a))
+pub not_extracted : (known : Option Files) (a : ArchiveView) (ms : List Member) (names : List (List ℕ)) (e : LibraryFault)
+    → names ≡ a.files → IfSome known (λ m. in_file (get m a.library) library_at ≡ Ok ms)
+    → (AreUtf8 (member_names ms) → RefinesErr is_library_memory e (extracted_files ms names))
+    → IfSome known (λ m. RefinesErr is_system_error (error.Library e) (extract_result m a))
 unfolding extract_result
 not_extracted None a ms names e same read gives = tt
 not_extracted (Some m) a ms names e same read gives =

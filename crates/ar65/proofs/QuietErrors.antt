@@ -24,20 +24,24 @@ no_failure FileError other = absurd (other refl)
 no_failure _ other = refl
 
 -- an error of the library other than a failure of the store is passed on
-pub quiet : {T : Type 0} (f : LibraryFault) (r : Result T ArchiveFault) → (f ≡ FileError → ⊥) → IsErrAnd r (λ e. e ≡ Library f) → IsQuiet r
+pub quiet : {T : Type 0} (f : LibraryFault) (r : Result T ArchiveFault) → (f ≡ FileError → ⊥)
+    → IsErrAnd r (λ e. e ≡ Library f) → IsQuiet r
 quiet f (Ok x) other is = tt
 quiet f (Err e) other is = ap is_failure is ∙ no_failure f other
 
-pub memory_quiet : {T : Type 0} (r : Result T ArchiveFault) → IsErrAnd r (λ e. e ≡ Library OutOfMemory) → IsQuiet r
+pub memory_quiet : {T : Type 0} (r : Result T ArchiveFault)
+    → IsErrAnd r (λ e. e ≡ Library OutOfMemory) → IsQuiet r
 memory_quiet (Ok x) is = tt
 memory_quiet (Err e) is = ap is_failure is
 
 -- a call that returned a value didn't fail
-pub kept_errors : {T : Type 0} {old new : ℕ} (x : T) → PropagatesIoErrors {E = ArchiveFault} is_failure old new (Ok x) → new ≡ old
+pub kept_errors : {T : Type 0} {old new : ℕ} (x : T)
+    → PropagatesIoErrors {E = ArchiveFault} is_failure old new (Ok x) → new ≡ old
 kept_errors x passes = grind (arith, common_steps)
 
 -- a library that is too long
-pub too_long : (ms : List Member) (f : LibraryFault) → RefinesErr is_library_memory f (bytes_within_limit ms) → f ≡ FileError → ⊥
+pub too_long : (ms : List Member) (f : LibraryFault)
+    → RefinesErr is_library_memory f (bytes_within_limit ms) → f ≡ FileError → ⊥
 too_long ms f refused is = by (nat_lt file_limit (length (library_bytes ms))) f is refused
   where
     by : (long : Bool) (e : LibraryFault) → e ≡ FileError
@@ -48,7 +52,8 @@ too_long ms f refused is = by (nat_lt file_limit (length (library_bytes ms))) f 
     by false FileError same h = cc
     by long _ same h = cc
 
-pub quiet_count : {T : Type 0} {old new : ℕ} (r : Result T ArchiveFault) → IsQuiet r → new ≡ old → PropagatesIoErrors is_failure old new r
+pub quiet_count : {T : Type 0} {old new : ℕ} (r : Result T ArchiveFault) → IsQuiet r → new ≡ old
+    → PropagatesIoErrors is_failure old new r
 quiet_count (Ok x) is_quiet same = record { monotone = omega arith; reported = λ less. absurd (omega arith); caused = tt }
 quiet_count (Err e) is_quiet same = record {
   monotone = omega arith;
@@ -56,6 +61,7 @@ quiet_count (Err e) is_quiet same = record {
   caused = λ fails. (let both : true ≡ false = sym fails ∙ is_quiet in absurd cc);
 }
 
-pub quiet_named : {T : Type 0} (last_failure : LastFailure) (a : ArchiveView) (r : Result T ArchiveFault) → IsQuiet r → IfErr r (NamesCommandFailure last_failure a)
+pub quiet_named : {T : Type 0} (last_failure : LastFailure) (a : ArchiveView) (r : Result T ArchiveFault)
+    → IsQuiet r → IfErr r (NamesCommandFailure last_failure a)
 quiet_named last_failure a (Ok x) is_quiet = tt
 quiet_named last_failure a (Err e) is_quiet = λ fails. (let both : true ≡ false = sym fails ∙ is_quiet in absurd cc)

@@ -9,3 +9,4 @@ pub mod SomeArchive
 pub mod DeletionsAndExtractions
 pub mod ExtractThenAdd
 pub mod LoopSteps
+pub mod QuietErrors

@@ -1,13 +1,13 @@
 -- The bytes of a library's file are read in steps.
 use Rattle.std.proofs.lemmas.Grind.{common_steps}
 use Rattle.std.proofs.Common.{◌≡◌, ◌∙◌, ◌<◌, arith, ℕ, List, Bool, true, false, Option, Some, None, Result, Ok, Err, refl, sym, ap, subst, drop, length, suc, ◌+◌, ◌-◌, ◌≤◌, [], ◌∷◌, ◌++◌, map, nat_le, take, min}
-use Rattle.std.specs.Prelude.{IfSome, if◌then◌else◌}
+use Rattle.std.specs.Prelude.{IfOk, IfSome, IsErrAnd, IsErrOf, if◌then◌else◌}
 use Rattle.std.specs.FinMap as finmap
-use Rattle.base65.specs.Outcome.{◌>>=◌, RefinesErr}
-use Rattle.base65.specs.Store.{LastFailure, Files, PropagatesIoError}
+use Rattle.base65.specs.Outcome.{◌>>=◌, Refines, RefinesErr}
+use Rattle.base65.specs.Store.{FailsAtLastCount, LastFailure, Files, HasOnlyBytes, PropagatesIoError}
 use Rattle.object65.specs.Reading.{StoreFrame}
 use Rattle.library65.specs.declared.fault.LibraryFault.{LibraryFault}
-use Rattle.library65.specs.declared.fault.LibraryFault.TheVariants.{BadIndex, FileError}
+use Rattle.library65.specs.declared.fault.LibraryFault.TheVariants.{BadIndex, FileError, OutOfMemory}
 use Rattle.library65.specs.Fault.{is_system_error}
 use Rattle.library65.specs.Reading.{in_file, index_at, count_at, counted_names_at, member_entries_at, unplaced_entry_at, unplaced_entries_at, name_at, number_at, symbol_at, symbols_at}
 use Rattle.std.proofs.lemmas.List.{length-take, take_all}
@@ -59,6 +59,96 @@ kept_on x e kept other = record {
   count = none_passed _ _ e (kept_count _ _ x kept.count) other;
   last_failure = λ h. (let is : e ≡ FileError = cc h in absurd (other is));
 }
+
+no_failure : (y : LibraryFault) → y ≡ OutOfMemory → y ≡ FileError → ⊥
+no_failure y memory failed = cc
+
+failed_with : {T U : Type 0} (e y : LibraryFault) → y ≡ e → IsErrOf {T = T} (Err e) FileError → IsErrOf {T = U} (Err y) FileError
+failed_with e y same failed = cc
+
+passed_count : {T U : Type 0} {old mid : ℕ} (new : ℕ) (e y : LibraryFault) → y ≡ e → mid ≡ old
+    → PropagatesIoError {T = T} FileError mid new (Err e) → PropagatesIoError {T = U} FileError old new (Err y)
+passed_count {T} {U} {old} {mid} new e y same count passes = record {
+  monotone = omega (arith, passes.monotone);
+  reported = λ less. failed_with e y same (passes.reported (rw count less));
+  caused = λ failed. rw (sym count) (passes.caused (failed_with y e (sym same) failed));
+}
+
+-- ---- An error after calls that returned values.
+
+-- a call failed, after others that changed nothing: the frame is its own
+pub passed_frame : {X T U : Type 0} {files_of : X → Option Files} {failures_of : X → ℕ} {last_failure_of : X → LastFailure} {name : List ℕ} {old mid new : X} (e : LibraryFault) (r : Result U LibraryFault)
+    → IsErrAnd r (λ y. y ≡ e) → files_of mid ≡ files_of old → failures_of mid ≡ failures_of old
+    → StoreFrame {T = T} files_of failures_of last_failure_of FileError name mid new (Err e)
+    → StoreFrame files_of failures_of last_failure_of FileError name old new r
+passed_frame e (Ok x) h files count frame = absurd h
+passed_frame {T = T} {U = U} {failures_of = failures_of} {new = new} e (Err y) h files count frame = record {
+  files = frame.files ∙ files;
+  count = passed_count (failures_of new) e y h count frame.count;
+  last_failure = λ failed. frame.last_failure (failed_with y e (sym h) failed);
+}
+
+-- a call returned a value, after others that changed nothing
+pub kept_frame : {X T U : Type 0} {files_of : X → Option Files} {failures_of : X → ℕ} {last_failure_of : X → LastFailure} {name : List ℕ} {old mid new : X} (x : T) (y : U)
+    → files_of mid ≡ files_of old → failures_of mid ≡ failures_of old
+    → StoreFrame files_of failures_of last_failure_of FileError name mid new (Ok x)
+    → StoreFrame files_of failures_of last_failure_of FileError name old new (Ok y)
+kept_frame x y files count frame =
+    let kept = kept_count _ _ x frame.count ∙ count in
+    record {
+      files = frame.files ∙ files;
+      count = record { monotone = omega arith; reported = λ less. absurd (omega arith); caused = λ failed. absurd cc };
+      last_failure = λ failed. absurd cc;
+    }
+
+-- no call failed, and nothing was changed
+pub still_frame : {X U : Type 0} {files_of : X → Option Files} {failures_of : X → ℕ} {last_failure_of : X → LastFailure} {name : List ℕ} {old new : X} (y : U)
+    → files_of new ≡ files_of old → failures_of new ≡ failures_of old
+    → StoreFrame files_of failures_of last_failure_of FileError name old new (Ok y)
+still_frame y files kept = record {
+  files = files;
+  count = record { monotone = omega arith; reported = λ less. absurd (omega arith); caused = λ failed. absurd cc };
+  last_failure = λ failed. absurd cc;
+}
+
+-- memory ran out after calls that changed nothing
+pub memory_frame : {X T U : Type 0} {files_of : X → Option Files} {failures_of : X → ℕ} {last_failure_of : X → LastFailure} {name : List ℕ} {old mid new : X} (x : T) (r : Result U LibraryFault)
+    → IsErrAnd r (λ y. y ≡ OutOfMemory) → files_of mid ≡ files_of old → failures_of mid ≡ failures_of old
+    → StoreFrame files_of failures_of last_failure_of FileError name mid new (Ok x)
+    → StoreFrame files_of failures_of last_failure_of FileError name old new r
+memory_frame x (Ok y) h files count frame = absurd h
+memory_frame x (Err y) h files count frame = record {
+  files = frame.files ∙ files;
+  count = none_passed _ _ y (kept_count _ _ x frame.count ∙ count) (no_failure y h);
+  last_failure = λ failed. (let is : y ≡ FileError = cc failed in absurd (no_failure y h is));
+}
+
+pub memory_refines : {X Y : Type 0} (known : Option Files) (r : Result X LibraryFault) (view : X → Y) (read : Files → Result Y LibraryFault)
+    → IsErrAnd r (λ y. y ≡ OutOfMemory) → IfSome known (λ m. Refines is_system_error view r (read m))
+memory_refines None r view read h = tt
+memory_refines (Some m) (Ok x) view read h = absurd h
+memory_refines (Some m) (Err e) view read h = subst (λ (y : LibraryFault). RefinesErr is_system_error y (read m)) (sym h) tt
+
+-- after an error nothing is said of the bytes
+pub error_bytes : {X : Type 0} (known : Option Files) (name : List ℕ) (e : LibraryFault) (r : Result X LibraryFault)
+    → IsErrAnd r (λ y. y ≡ e) → IfSome known (λ m. HasOnlyBytes (finmap.get m name) r)
+error_bytes None name e r h = tt
+error_bytes (Some m) name e (Ok x) h = absurd h
+error_bytes (Some m) name e (Err y) h = tt
+
+-- no call of the store failed if memory ran out
+pub memory_elsewhere : {X : Type 0} (r : Result X LibraryFault) → IsErrAnd r (λ y. y ≡ OutOfMemory) → IsErrOf r FileError → ⊥
+memory_elsewhere (Ok x) h failed = absurd h
+memory_elsewhere (Err y) h failed = let is : y ≡ FileError = cc failed in absurd (no_failure y h is)
+
+pub memory_last : {X : Type 0} (old : ℕ) (r : Result X LibraryFault) → IsErrAnd r (λ y. y ≡ OutOfMemory) → FailsAtLastCount is_system_error old r
+memory_last old (Ok x) h = absurd h
+memory_last old (Err y) h = λ last. ap is_system_error h
+
+-- an error has no value
+pub no_value : {X : Type 0} (P : X → Type 0) (e : LibraryFault) (r : Result X LibraryFault) → IsErrAnd r (λ y. y ≡ e) → IfOk r P
+no_value P e (Ok x) h = absurd h
+no_value P e (Err y) h = tt
 
 -- ---- The names of exports or imports.
 

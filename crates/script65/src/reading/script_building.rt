@@ -3,7 +3,7 @@
 ghost use Rattle.std.specs.Prelude.{◌≡◌, IfOk, map};
 ghost use Rattle.base65.specs.Outcome.{Refines, try_map};
 ghost use Rattle.script65.specs.Faults.{is_system_error};
-ghost use Rattle.script65.specs.Scripts.{area_for, area_from, file_of, row_from, script_from, symbol_from};
+ghost use Rattle.script65.specs.Scripts.{area_for, area_from, file_of, row_from, row_start, script_from, symbol_from};
 
 use crate::fault::{Fault, FaultAt};
 use crate::reading::entries::{ConfigEntry, Entries, Table, Value};
@@ -68,6 +68,17 @@ fn area_for(
     index.ok_or(FaultAt::new(Fault::NoSuchArea, entry.at))
 }
 
+// Returns where a row starts, by its attributes `start` and `offset`.
+fn row_start(start: Option<u32>, offset: Option<u32>) -> RowStart
+    ensures { result ≡ row_start start offset }
+{
+    match (start, offset) {
+        (Some(start), _) => RowStart::Start(start),
+        (None, Some(offset)) => RowStart::Offset(offset),
+        (None, None) => RowStart::Aligned,
+    }
+}
+
 fn row_from(alloc: Global, entries: &Entries, entry: &ConfigEntry) -> Result<SegmentRow, FaultAt>
     ensures { Refines is_system_error (λ x. x) result (row_from entries.now entry.now) }
 {
@@ -79,11 +90,6 @@ fn row_from(alloc: Global, entries: &Entries, entry: &ConfigEntry) -> Result<Seg
     if both || (!entry.access().is_written() && load != run) {
         return Err(FaultAt::new(Fault::Excluded, entry.at));
     }
-    let begin = match (start, offset) {
-        (Some(start), _) => RowStart::Start(start),
-        (None, Some(offset)) => RowStart::Offset(offset),
-        (None, None) => RowStart::Aligned,
-    };
     let fill = match entries.areas.get(load) {
         Some(area) => area.fill_or(0),
         None => 0,
@@ -95,7 +101,7 @@ fn row_from(alloc: Global, entries: &Entries, entry: &ConfigEntry) -> Result<Seg
         access: entry.access(),
         align: entry.number_or(1, "align"),
         align_load: entry.number_or(1, "align_load"),
-        begin,
+        begin: row_start(start, offset),
         fill_value: entry.fill_or(fill),
         define: entry.flag_for("define"),
         optional: entry.flag_for("optional"),

@@ -1,3 +1,4 @@
+use Rattle.std.proofs.lemmas.Grind.{common_steps}
 use Rattle.std.proofs.Common.{arith, sym, ap}
 use Rattle.std.specs.Char.{digit_value}
 use Rattle.base65.proofs.Digit.{stops, ends}
@@ -11,3 +12,9 @@ returns-in_err-value c = rw c.from_residual-in_err-value.ensures (sym (stops c.a
 
 pub returns : goal.returns
 returns c = sym (ends c.args.text.now c.loop-byte.byte-index c.loop-byte.value c.args.radix c.loop-byte-test.false c.loop-byte.invariant.same (omega arith))
+
+pub loop-byte-preserved : goal.loop-byte-preserved
+loop-byte-preserved c = grind (arith, common_steps)
+
+pub returns-in_err-digit : goal.returns-in_err-digit
+returns-in_err-digit c = grind (arith, common_steps)

@@ -1,3 +1,4 @@
+use Rattle.std.proofs.lemmas.Grind.{common_steps}
 use Rattle.std.proofs.Common.{◌≡◌, ◌+◌, ◌-◌, ◌≤◌, ◌∙◌, length, arith, rules, length-drop}
 use Rattle.base65.proofs.BufferFill.{told_more, told_full, length-put_mid}
 use Rattle.base65.proofs.store.read_full.Goals as goal
@@ -21,3 +22,9 @@ returns-then-done-buf-clause-read g c =
     let len : length c.fill.buf - c.fill.done ≡ length c.read_at.new.buf = omega arith in
     let within : c.in_ok-n.n ≤ length c.read_at.new.buf = c.in_ok-n.ensures.bound in
     told_full _ _ _ _ _ _ _ _ _ c.fill.invariant.files rest len within c.if-done-buf.true c.fill.invariant.read c.in_ok-n.ensures.read
+
+pub returns-in_err-n-clause-failure_offset : goal.returns-in_err-n-clause-failure_offset
+returns-in_err-n-clause-failure_offset g c = grind (arith, common_steps)
+
+pub returns-then-n-eq0-clause-read : goal.returns-then-n-eq0-clause-read
+returns-then-n-eq0-clause-read g c = grind (arith, common_steps)

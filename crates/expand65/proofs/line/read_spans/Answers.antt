@@ -1,3 +1,4 @@
+use Rattle.std.proofs.lemmas.Grind.{common_steps}
 use Rattle.std.proofs.Common.{◌≡◌, ◌+◌, ◌-◌, arith, refl, take, drop, length-append, ◌<◌, ◌≤◌, ◌++◌, ◌∷◌, ◌∙◌, ℕ, List, [], Option, Some, None, Ok, Err, ap, append_assoc, length, subst, sym, true}
 use Rattle.std.proofs.lemmas.List.{append-nil}
 use Rattle.std.proofs.lemmas.Result.{err_from_is_err_and}
@@ -104,3 +105,12 @@ returns-in-None-clause-tokens c =
     let kept = so_far.1 in
     let all : split_lexemes c.tokens.spans.items (take (length c.args.bytes.now - length c.tokens.lexer.rest.now) c.args.bytes.now) ≡ so_far.0 = ap (split_lexemes c.tokens.spans.items) (front_len c.args.bytes.now kept.0 c.tokens.lexer.rest.now kept.1) ∙ all_kept c.tokens.spans.items kept.0 so_far.0 kept.2 in
     (Ok so_far.0, (c.tokens.invariant.short, subst P (append-nil so_far.0) (so_far.2 [] None end)), ap Ok all)
+
+pub overflow_cast-blanks : goal.overflow_cast-blanks
+overflow_cast-blanks c = grind (arith, common_steps)
+
+pub overflow_cast-len : goal.overflow_cast-len
+overflow_cast-len c = grind (arith, common_steps)
+
+pub overflow_sub-blanks-in-Some : goal.overflow_sub-blanks-in-Some
+overflow_sub-blanks-in-Some c = grind (arith, common_steps)

@@ -4,3 +4,6 @@ use Rattle.expand65.proofs.repeats.variable_of.Goals as goal
 
 pub returns-clause-variable : goal.returns-clause-variable
 returns-clause-variable c = grind (arith, common_steps)
+
+pub returns-then-is_empty-clause-variable : goal.returns-then-is_empty-clause-variable
+returns-then-is_empty-clause-variable c = grind (arith, common_steps)

@@ -3,7 +3,7 @@ use Rattle.std.proofs.Common.{[], refl, arith}
 use Rattle.std.proofs.lemmas.Result.{err_from_is_err_and}
 use Rattle.library65.specs.Libraries.{with_library_entries, library_at}
 use Rattle.library65.specs.Reading.{index_at}
-use Rattle.library65.proofs.Steps.{begins, goes_on, kept_count, stops, library_begins}
+use Rattle.library65.proofs.Steps.{begins, goes_on, kept_count, passed_frame, still_frame, stops, library_begins}
 use Rattle.library65.proofs.loading.read_members.Goals as goal
 
 pub returns-in_err-index-clause-read : goal.returns-in_err-index-clause-read
@@ -21,3 +21,20 @@ loop-entry-init g c = record {
 
 pub loop-entry-preserved : goal.loop-entry-preserved
 loop-entry-preserved g c = grind (arith, common_steps)
+
+pub returns-in_err-load_member-clause-read : goal.returns-in_err-load_member-clause-read
+returns-in_err-load_member-clause-read g c = grind (arith, common_steps)
+
+pub returns-in_err-load_member-clause-frame : goal.returns-in_err-load_member-clause-frame
+returns-in_err-load_member-clause-frame g c =
+    passed_frame c.in_err-load_member.field-0.0 c.from_residual-in_err-load_member.result c.from_residual-in_err-load_member.ensures.1
+    c.loop-entry.invariant.files c.loop-entry.invariant.count c.in_err-load_member.ensures.frame
+
+pub returns-clause-read : goal.returns-clause-read
+returns-clause-read g c = grind (arith, common_steps)
+
+pub load_member-requires-clause-within : goal.load_member-requires-clause-within
+load_member-requires-clause-within g c = grind (arith, common_steps)
+
+pub returns-clause-frame : goal.returns-clause-frame
+returns-clause-frame g c = still_frame _ c.loop-entry.invariant.files c.loop-entry.invariant.count

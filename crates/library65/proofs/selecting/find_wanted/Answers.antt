@@ -1,4 +1,5 @@
-use Rattle.std.proofs.Common.{◌∙◌, ◌∷◌, [], map, take, sym, subst, ap}
+use Rattle.std.proofs.lemmas.Grind.{common_steps}
+use Rattle.std.proofs.Common.{arith, ◌∙◌, ◌∷◌, [], map, take, sym, subst, ap}
 use Rattle.std.proofs.lemmas.List.{map-append}
 use Rattle.library65.specs.Internal.Searching.{MarksExporters}
 use Rattle.library65.proofs.Selections.{finds_more}
@@ -18,3 +19,6 @@ loop-name-preserved c =
       stands = c.in_ok-find_name.ensures.stands;
       found = subst (λ ns. MarksExporters es defined ns old new) (sym (ap (map (λ n. n.items)) (taken_more c.args.names.now i c.name-item.result c.loop-name-test.true c.name-item.is) ∙ map-append (λ n. n.items) (take i c.args.names.now) (c.name-item.result ∷ []))) (finds_more es defined (map (λ n. n.items) (take i c.args.names.now)) c.name-item.result.items old mid new c.loop-name.invariant.found last);
     }
+
+pub returns : goal.returns
+returns c = grind (arith, common_steps)

@@ -25,3 +25,6 @@ loop-stored-init c =
 
 pub loop-stored-preserved : goal.loop-stored-preserved
 loop-stored-preserved c = grind (arith, common_steps)
+
+pub returns-in_err-encode_entries : goal.returns-in_err-encode_entries
+returns-in_err-encode_entries c = grind (arith, common_steps)

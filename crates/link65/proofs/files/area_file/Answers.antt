@@ -25,3 +25,6 @@ returns c =
     let are = c.as_slice-2.ensures.value ∙ dropped ∙ ap (filter has_bytes) c.into_vec-loads.ensures in
     file_of f.area.now f.placement f.loads c.as_slice-2.result.now c.in-Ok.len c.from_vec.result are (c.in-Ok.ensures.1 ∙ c.file_len.ensures)
     (subst (λ (xs : List ℕ). IsImage c.in-Ok.len f.area.now.fill_value (pieces_in f.placement.start c.as_slice-2.result.now) xs) (sym c.from_vec.ensures) (grind (arith, common_steps)))
+
+pub index_mut-requires : goal.index_mut-requires
+index_mut-requires c = grind (arith, common_steps)

@@ -1,4 +1,5 @@
-use Rattle.std.proofs.Common.{List}
+use Rattle.std.proofs.lemmas.Grind.{common_steps}
+use Rattle.std.proofs.Common.{arith, List}
 use Rattle.std.proofs.lemmas.Result.{err_from_is_err_and}
 use Rattle.link65.specs.Files.{written_row_bytes}
 use Rattle.script65.specs.declared.script.SegmentRow.{SegmentRow}
@@ -27,3 +28,9 @@ loop-row-preserved c =
       checked = flat_next check fixup c.args.rows.now c.loop-row.row-index c.row-item.result tt (check_each check (fixups_by_row c.args.rows.now segments)) c.loop-row-test.true c.row-item.is c.in_ok-bytes_of_row.ensures.checked c.loop-row.invariant.checked;
       bytes = next_mapped (written_row_bytes (bytes_in program)) c.args.rows.now c.loop-row.row-index c.row-item.result _ c.loop-row.all.items _ _ c.loop-row-test.true c.row-item.is c.in_ok-push.ensures.items c.in_ok-bytes_of_row.ensures.bytes c.loop-row.invariant.bytes;
     }
+
+pub returns-clause-bytes : goal.returns-clause-bytes
+returns-clause-bytes c = grind (arith, common_steps)
+
+pub returns-clause-checked : goal.returns-clause-checked
+returns-clause-checked c = grind (arith, common_steps)

@@ -1,3 +1,4 @@
+use Rattle.std.proofs.lemmas.Grind.{common_steps}
 use Rattle.std.proofs.Common.{◌≡◌, ◌∙◌, false, sym, subst, arith}
 use Rattle.std.specs.Str.{bytes_eq}
 use Rattle.link65.specs.declared.parts.ModuleExport.{ModuleExport}
@@ -15,3 +16,6 @@ returns-then-ne c =
     let read : bytes_eq c.as_slice.result.now c.as_slice-in-loop-i.result.now ≡ false = turned _ (sym c.ne.ensures ∙ c.if-ne.true) in
     let unlike : bytes_eq x y.name ≡ false = subst (λ (e : ModuleExport). bytes_eq x e.name ≡ false) (sym c.index-exports-i.is) (rw (c.as_slice.ensures, c.as_slice-in-loop-i.ensures) at read) in
     sym (sym c.loop-i.invariant ∙ differ names exports i x y (omega arith) (omega arith) c.index-names-i.is c.index-exports-i.is unlike)
+
+pub loop-i-preserved : goal.loop-i-preserved
+loop-i-preserved c = grind (arith, common_steps)

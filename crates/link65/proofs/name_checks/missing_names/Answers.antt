@@ -1,4 +1,5 @@
-use Rattle.std.proofs.Common.{◌∙◌, ◌+◌, ◌++◌, [], List, ℕ, drop, map, sym, ap}
+use Rattle.std.proofs.lemmas.Grind.{common_steps}
+use Rattle.std.proofs.Common.{arith, ◌∙◌, ◌+◌, ◌++◌, [], List, ℕ, drop, map, sym, ap}
 use Rattle.std.specs.List.{flat_map}
 use Rattle.script65.proofs.ListLemmas.{drop_item}
 use Rattle.link65.specs.declared.parts.LinkedModule.{LinkedModule}
@@ -26,3 +27,6 @@ loop-member-preserved c =
     ∙ ap (λ names. missing_after provided old (names ++ rest)) c.as_slice.ensures
     ∙ sym (ap (λ ms. missing_after provided old (flat_map imports ms)) (drop_item c.args.members.now c.loop-member.member-index c.member-item.result c.loop-member-test.true c.member-item.is))
     ∙ c.loop-member.invariant
+
+pub returns : goal.returns
+returns c = grind (arith, common_steps)

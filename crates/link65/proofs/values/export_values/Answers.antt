@@ -39,3 +39,9 @@ loop-export-preserved c =
       checked = passes_next check all c.loop-export.export-index e tt (check_each check all) c.loop-export-test.true c.export-item.is (ap (λ (r : Result ℤ LinkFault). r >>= (λ v. Ok tt)) c.in_ok-located_value.ensures) c.loop-export.invariant.checked;
       values = next_mapped value all c.loop-export.export-index e _ c.loop-export.values.items c.push.new.self.items (values_in program) c.loop-export-test.true c.export-item.is c.in_ok-push.ensures.items (search (rules, found)) c.loop-export.invariant.values;
     }
+
+pub returns-clause-values : goal.returns-clause-values
+returns-clause-values c = grind (arith, common_steps)
+
+pub returns-clause-checked : goal.returns-clause-checked
+returns-clause-checked c = grind (arith, common_steps)

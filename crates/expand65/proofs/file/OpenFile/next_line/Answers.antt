@@ -96,3 +96,6 @@ returns-then-not-branch-clause-last_failure g c = grind (arith, common_steps)
 
 pub returns-then-branch-clause-frame : goal.returns-then-branch-clause-frame
 returns-then-branch-clause-frame g c = grind (arith, common_steps)
+
+pub returns-in_err-append_piece-clause-read : goal.returns-in_err-append_piece-clause-read
+returns-in_err-append_piece-clause-read g c = grind (arith, common_steps)

@@ -28,3 +28,9 @@ returns-clause-named c =
     let lt : c.in_ok-index.index < length c.args.self.now.outputs.items = grind (arith, common_steps) in
     let keys = keys_stay c.args.name.now c.args.self.now.names.keys c.insert_full.new.self.keys _ c.in_ok-index.is_new c.if-is_new.false c.in_ok-index.ensures.added c.in_ok-index.ensures.keys in
     ap (map (λ k. k.now)) keys ∙ c.requires ∙ sym (names_stay c.as_slice.result.now c.args.self.now.outputs.items _ c.in_ok-index.index lt (extended c.args.self.now.outputs.items c.in_ok-index.index c.index_mut.result.now c.as_slice.result.now c.extend_from_slice.new.self lt c.index_mut.ensures.value c.in_ok-extend_from_slice.ensures.ok))
+
+pub returns-then-is_new-clause-named : goal.returns-then-is_new-clause-named
+returns-then-is_new-clause-named c = grind (arith, common_steps)
+
+pub index_mut-requires : goal.index_mut-requires
+index_mut-requires c = grind (arith, common_steps)

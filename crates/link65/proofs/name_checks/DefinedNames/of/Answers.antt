@@ -17,3 +17,6 @@ returns c = sym c.loop-name.invariant ∙ ap (λ ns. with_new_names (names_in c.
 
 pub returns-in_err-add : goal.returns-in_err-add
 returns-in_err-add c = grind (arith, common_steps)
+
+pub loop-name-preserved : goal.loop-name-preserved
+loop-name-preserved c = grind (arith, common_steps)

@@ -1,4 +1,5 @@
-use Rattle.std.proofs.Common.{sym, ap, ◌∙◌}
+use Rattle.std.proofs.lemmas.Grind.{common_steps}
+use Rattle.std.proofs.Common.{arith, sym, ap, ◌∙◌}
 use Rattle.script65.specs.Placing.{has_row}
 use Rattle.script65.proofs.Members.{need_step, need_stops}
 use Rattle.script65.proofs.placing.areas.check_rows.Goals as goal
@@ -13,3 +14,6 @@ pub loop-need-preserved : goal.loop-need-preserved
 loop-need-preserved c = need_step c.args.rows.now c.args.needs.now c.loop-need.need-index c.need-item.result c.loop-need-test.true c.need-item.is
     (ap (has_row c.args.rows.now) (sym c.as_slice.ensures) ∙ sym (c.in_ok-names.ensures c.as_slice.result.now) ∙ sym c.contains.ensures ∙ c.if-not-contains.false)
     c.loop-need.invariant
+
+pub returns : goal.returns
+returns c = grind (arith, common_steps)

@@ -1,4 +1,5 @@
-use Rattle.std.proofs.Common.{◌≡◌, ℕ, Option, ◌++◌, map, drop, ◌+◌, sym, ap, ◌∙◌, subst}
+use Rattle.std.proofs.lemmas.Grind.{common_steps}
+use Rattle.std.proofs.Common.{arith, ◌≡◌, ℕ, Option, ◌++◌, map, drop, ◌+◌, sym, ap, ◌∙◌, subst}
 use Rattle.script65.specs.Placing.{size_of, unplaced_row}
 use Rattle.script65.specs.declared.placing.row_placing.RowState.{RowState}
 use Rattle.script65.proofs.Members.{map_more}
@@ -11,3 +12,6 @@ loop-row-preserved c =
     (ap (λ (o : Option ℕ). let s : RowState = record { size = o; run = 0; load = 0 } in s)
     (c.copied.ensures ∙ c.get.ensures.value ∙ c.in_ok-sizes.ensures c.as_slice.result.now ∙ ap (size_of c.args.needs.now) c.as_slice.ensures))
     c.loop-row.invariant)
+
+pub returns : goal.returns
+returns c = grind (arith, common_steps)

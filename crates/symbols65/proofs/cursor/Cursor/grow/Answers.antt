@@ -1,4 +1,5 @@
-use Rattle.std.proofs.Common.{◌∙◌, ◌+◌, ◌≤◌, List, ap, refl, set, subst, sym}
+use Rattle.std.proofs.lemmas.Grind.{common_steps}
+use Rattle.std.proofs.Common.{arith, ◌∙◌, ◌+◌, ◌≤◌, List, ap, refl, set, subst, sym}
 use Rattle.object65.specs.Objects.{section_limit}
 use Rattle.semantics65.specs.declared.contents.Segment.{Segment}
 use Rattle.semantics65.specs.Layout.{Cursor, context_of, segment_after}
@@ -30,3 +31,6 @@ returns c =
     ∙ ap (λ (g : Segment). set gs w.current (segment_after c.args.count c.args.alignment g)) own
     ∙ grown_is gs w.current c.args.count c.args.alignment in
     rw (← c.self.view_is) (ap (λ (l : List Segment). record (cursor_of w) { segments = l }) grown)
+
+pub overflow_add-segment : goal.overflow_add-segment
+overflow_add-segment c = grind (arith, common_steps)

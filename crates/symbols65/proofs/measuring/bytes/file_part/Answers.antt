@@ -1,4 +1,5 @@
-use Rattle.std.proofs.Common.{◌≡◌, refl, subst, Err}
+use Rattle.std.proofs.lemmas.Grind.{common_steps}
+use Rattle.std.proofs.Common.{arith, ◌≡◌, refl, subst, Err}
 use Rattle.std.proofs.lemmas.Result.{err_from_is_err_and}
 use Rattle.base65.specs.Outcome.{Unless}
 use Rattle.ast65.specs.Faults.{is_out_of_memory}
@@ -29,3 +30,9 @@ returns-in_err-start-2 c = λ y start len h.
     let e = c.in_err-start-2.field-0.0 in
     let none = subst (λ n. Unless (is_out_of_memory e) (range_in_file n c.in_ok-start.start c.in_ok-len.len ≡ Err e)) c.len.ensures c.in_err-start-2.ensures.part in
     rw (p.1, p.2, c.in-Some.is) (refused y w start len s refl c.in_ok-start.start c.in_ok-len.len (c.in_ok-start.ensures y s (own_size w) start h.first) (c.in_ok-len.ensures y s (own_size w) len h.second) c.in-Some.bytes e none))
+
+pub returns-in_err-length : goal.returns-in_err-length
+returns-in_err-length c = grind (arith, common_steps)
+
+pub returns : goal.returns
+returns c = grind (arith, common_steps)

@@ -1,3 +1,5 @@
+use Rattle.std.proofs.Common.{arith}
+use Rattle.std.proofs.lemmas.Grind.{common_steps}
 use Rattle.symbols65.specs.Views.{table_of}
 use Rattle.symbols65.proofs.measuring.kinds.layout_by_kind.Goals as goal
 
@@ -9,3 +11,6 @@ returns-in-Reserve c = rw c.in-Reserve.is (c.reserve.ensures (table_of c.args.be
 
 pub returns-in-Align : goal.returns-in-Align
 returns-in-Align c = rw c.in-Align.is (c.align.ensures (table_of c.args.before.symbols.now) c.in-Align.alignment c.in-Align.value (rw c.in-Align.is at c.requires))
+
+pub returns-in_err-check_segment-in-Segment : goal.returns-in_err-check_segment-in-Segment
+returns-in_err-check_segment-in-Segment c = grind (arith, common_steps)

@@ -1,3 +1,4 @@
+use Rattle.std.proofs.lemmas.Grind.{common_steps}
 use Rattle.std.proofs.Common.{rules, ◌≡◌, ◌∙◌, List, Option, Ok, Err, ap, drop, option_map, subst, ◌∷◌, [], ◌+◌, length, length-append, arith}
 use Rattle.std.proofs.lemmas.Result.{err_from_is_err_and}
 use Rattle.base65.specs.Outcome.{Unless}
@@ -44,3 +45,6 @@ loop-item-preserved c =
       long = ap length c.in_ok-push.ensures.items ∙ length-append c.loop-item.forms.items (form ∷ []) ∙ ap (λ n. n + 1) long;
       finals = rw c.in_ok-push.ensures.items (finals_more y s c.args.items.now c.loop-item.forms.items i item form long (item_at c.args.items.now i item (omega arith) c.item-item.is) c.loop-item.invariant.finals final);
     }
+
+pub returns-clause-scopes : goal.returns-clause-scopes
+returns-clause-scopes c = grind (arith, common_steps)

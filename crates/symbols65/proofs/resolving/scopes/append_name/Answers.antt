@@ -14,3 +14,6 @@ loop-part-init c =
 
 pub returns : goal.returns
 returns c = grind (arith, common_steps)
+
+pub loop-part-preserved : goal.loop-part-preserved
+loop-part-preserved c = grind (arith, common_steps)

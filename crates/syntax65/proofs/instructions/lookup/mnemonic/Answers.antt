@@ -1,3 +1,4 @@
+use Rattle.std.proofs.lemmas.Grind.{common_steps}
 use Rattle.std.proofs.Common.{arith}
 use Rattle.syntax65.proofs.Mnemonics.{of_three, of_others}
 use Rattle.syntax65.proofs.instructions.lookup.mnemonic.Goals as goal
@@ -10,3 +11,6 @@ returns-in_default-clause-value c = of_others c.args.bytes.now (λ e. absurd (om
 
 pub returns-in_default-2-clause-value : goal.returns-in_default-2-clause-value
 returns-in_default-2-clause-value c = of_others c.args.bytes.now (λ e. absurd (omega (arith, e)))
+
+pub returns-in_default-2-clause-spelled : goal.returns-in_default-2-clause-spelled
+returns-in_default-2-clause-spelled c = grind (arith, common_steps)

@@ -1,4 +1,5 @@
-use Rattle.std.proofs.Common.{[], None, Some}
+use Rattle.std.proofs.lemmas.Grind.{common_steps}
+use Rattle.std.proofs.Common.{arith, [], None, Some}
 use Rattle.std.proofs.lemmas.Result.{err_from_is_err_and}
 use Rattle.syntax65.specs.Tokens.{HasTokens}
 use Rattle.syntax65.proofs.Scanning.{read_all, refused}
@@ -14,3 +15,6 @@ pub returns-in-None : goal.returns-in-None
 returns-in-None c =
     let end : HasTokens c.line.lexer.first c.line.lexer.rest.now [] None = rw c.in-None.is at c.in_ok-token.ensures.next in
     read_all c.args.line.now c.line.lexer.rest.now c.line.found c.line.lexer.first c.line.invariant.so_far.0 c.line.invariant.short c.line.invariant.so_far.1 end
+
+pub line-preserved : goal.line-preserved
+line-preserved c = grind (arith, common_steps)

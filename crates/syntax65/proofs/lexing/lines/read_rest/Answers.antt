@@ -1,4 +1,5 @@
-use Rattle.std.proofs.Common.{subst, List, [], None, Some, true}
+use Rattle.std.proofs.lemmas.Grind.{common_steps}
+use Rattle.std.proofs.Common.{arith, subst, List, [], None, Some, true}
 use Rattle.std.proofs.lemmas.List.{append-nil}
 use Rattle.std.proofs.lemmas.Result.{err_from_is_err_and}
 use Rattle.syntax65.specs.Tokens.{Lexeme, lexemes, HasTokens, without_leading_blanks}
@@ -20,3 +21,6 @@ returns-in-None c = λ line short before.
     let P : List Lexeme → Type 0 = λ ts. HasTokens true line ts None in
     let end : HasTokens c.line.lexer.first c.line.lexer.rest.now [] None = rw c.in-None.is at c.in_ok-token.ensures.next in
     (short, subst P (append-nil tokens) (c.line.invariant line before [] None end))
+
+pub line-preserved : goal.line-preserved
+line-preserved c = grind (arith, common_steps)

@@ -1,4 +1,5 @@
-use Rattle.std.proofs.Common.{sym, subst, false, IsTrue}
+use Rattle.std.proofs.lemmas.Grind.{common_steps}
+use Rattle.std.proofs.Common.{arith, sym, subst, false, IsTrue}
 use Rattle.std.proofs.lemmas.Result.{err_from_is_err_and}
 use Rattle.syntax65.specs.Forms.{BeginsWithClass, HasFaultAt}
 use Rattle.syntax65.specs.Tokens.{IsEnd, without_leading_blanks}
@@ -19,3 +20,6 @@ returns-in_err-kind-clause-next c =
 
 pub returns-clause-cut : goal.returns-clause-cut
 returns-clause-cut c = cut_off c.args.self.now.rest.now c.skip_blanks-here.result.now c.split_at.result.0.now c.split_at.result.1.now c.in_ok-kind.len c.skip_blanks-here.ensures c.split_at.ensures.front c.split_at.ensures.back
+
+pub returns-clause-less : goal.returns-clause-less
+returns-clause-less c = grind (arith, common_steps)

@@ -475,7 +475,8 @@ def several_scripts(tries):
         *((f"a sign: {text!r}", {"k.s": exporter, "l.s": importing.format(text)}, 1, f"l.s:{line}: ") for exporter, text, line in (
             (below["k.s"], "m = k\n .byte m < 0", 3), (below["k.s"], ".define KK k\n .byte KK < 0", 3),
             (below["k.s"], ".macro is q\n .byte q < 0\n.endmacro\n is k", 3), (".scope s\nk = -1\n.export k\n.endscope\n", " .byte k < 0", 2),
-            (" .export k\nl1: nop\nl2: nop\nk = l1 - l2\n", " .byte k < 0", 2))),
+            (" .export k\nl1: nop\nl2: nop\nk = l1 - l2\n", " .byte k < 0", 2),
+            (" .export k\nk = 1 << 32\n", " .byte k > 0", 2))),
         *((f"a large number: {text!r}", {"l.s": importing.format(text)}, 1, f"l.s:{line}: ") for text, line in (
             ("d = k - $1000\n .byte (d & $FFFFFFFF) > 0", 3), (" .byte ((k - $1000) & $FFFFFFFF) / 256", 2), (" .byte (k << 20) > $80000000", 2),
             ("M = 1 << 31\n .byte (k | M) > 0", 3))),

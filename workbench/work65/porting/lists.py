@@ -1,16 +1,19 @@
 """Lists of imports and exports: address sizes, definitions, and those within a scope."""
 from dataclasses import dataclass, field
-from typing import Dict, List, Sequence
+from typing import Dict, List, Sequence, Set
 
 from work65.frontend.edits import text_of_tokens
-from work65.frontend.statements import Statement, parts_of
-from work65.frontend.tokens import Kind, Token
+from work65.frontend.statements import Statement, parts_of, statement_of
+from work65.frontend.tokens import Kind, Token, line_of
 from work65.porting.context import Context
 from work65.porting.line import Unportable, replaced
+from work65.porting.project import Project
 
 SHORT = frozenset(("zp", "zeropage", "direct"))
 LONG = frozenset(("abs", "absolute", "near"))
 SHORT_IMPORTS = {".import": ".importzp", ".global": ".globalzp"}
+IMPORTS = frozenset((".import", ".importzp", ".forceimport", ".global", ".globalzp"))
+AUTOIMPORT = "the names are known only from cc65's object: write an .import for each"
 ZERO_PAGE = {".import": ".importzp", ".global": ".globalzp", ".export": ".exportzp"}
 
 
@@ -33,6 +36,14 @@ def listed(text: str, statement: Statement, context: Context, own: Sequence[str]
         if all(len(it) == 1 for it in parts_of(statement.rest)):
             return [text]
     return replaced(text, statement, names.definitions + _directives(names))
+
+
+def imported_by(project: Project, module: str) -> Set[str]:
+    """Returns the names that the lists of a module and of the files that it includes import."""
+    paths = project.closure(module) & project.texts.keys()
+    lines = [line_of(it.text).tokens for path in paths for it in project.logical(path)]
+    rows = [it.rest for it in (statement_of(one, project.is_macro) for one in lines) if it.head in IMPORTS]
+    return {part[0].text for it in rows for part in parts_of(it) if part}
 
 
 def of_imports(text: str, statement: Statement, names: Sequence[str]) -> List[str]:

@@ -12,7 +12,6 @@ from work65.porting.characters import as_elements
 from work65.porting.context import OpenScope
 from work65.porting.expansion import Macro
 from work65.porting.facts import facts_of
-from work65.porting.imported import AUTOIMPORT, names_of
 from work65.porting.known import ModuleState
 from work65.porting.leaves import Line
 from work65.porting.line import Unportable, commented_out, replaced
@@ -321,8 +320,8 @@ class Rewriter:
             return [commented_out(text)]
         names = self.project.spread.imports.get(self.state.module)
         if names is None or not self.context.is_plain:
-            raise Unportable(".autoimport", "autoimport", AUTOIMPORT if names is None else "")
-        new = [it for it in names if it not in names_of(self.project, self.state.module) | self.state.imported]
+            raise Unportable(".autoimport", "autoimport", lists.AUTOIMPORT if names is None else "")
+        new = [it for it in names if it not in lists.imported_by(self.project, self.state.module) | self.state.imported]
         self.state.imported |= set(new)
         return lists.of_imports(text, statement, new)
 

@@ -58,12 +58,13 @@ def _lines(verifier: Verifier, module: str, needs: alone.Needs, objects: List[st
     """Returns the lines whose bytes differ if both linkers link a module with these constants."""
     source, more = (os.path.join(verifier.room, it) for it in ("constants.s", "constants"))
     with open(source, "w", encoding="latin-1") as it:
-        it.writelines(f".export {name}\n{name} = {value}\n" for name, value in given.items())
-    verifier.theirs.assemble(source, f"{more}.cc65")
-    verifier.ours().assemble(source, f"{more}.bin65")
+        it.writelines(f".export {name}\n{name} = ({value >> 32} << 32) | {value & 0xFFFFFFFF}\n"
+                      for name, value in given.items())
     for at in alone.PLACEMENTS:
         script, room = alone.script_of(needs, at), os.path.join(verifier.room, "link")
         try:
+            verifier.theirs.assemble(source, f"{more}.cc65")
+            verifier.ours().assemble(source, f"{more}.bin65")
             cc65 = verifier.theirs.link(script, [objects[0], f"{more}.cc65"], room)
             bin65 = verifier.ours().link(script, [objects[1], f"{more}.bin65"], room)
         except Refused:

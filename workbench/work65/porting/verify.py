@@ -13,7 +13,7 @@ from work65.instrumenting.copies import Constants
 from work65.instrumenting.sources import Closure
 from work65.porting import alone, copying, filling, unasserted
 from work65.porting.difference import Finder, LinkedModule
-from work65.porting.imported import AUTOIMPORT
+from work65.porting.lists import AUTOIMPORT
 from work65.porting.leaves import Leaf, Line, of_debug_file, of_marks
 from work65.porting.measuring import Measure, Pair, has_open_size
 from work65.porting.port import Ported

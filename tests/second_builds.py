@@ -352,9 +352,10 @@ def builds(tries):
         new = set(os.listdir(folder)) - before
         tries.check(f"nothing is left: {name}", new <= {"5.bin", "6.bin", "c.o"}, new)
         tries.check(f"no link is seen: {name}", ("work65: no link was seen" in ran.stderr) == (lines == [] and status == 2), ran)
-    ran = tries.run("second", "--json", "--keep", f"{tries.top}/kept", "--", "sh", "-c", "ld65 @answers; ld65 @answers", folder=folder)
+    ran = tries.run("second", "--json", "--keep", f"{tries.top}/kept", "--", "sh", "-c", "ld65 @answers; echo building; ld65 @answers", folder=folder)
     links = json.loads(ran.stdout)["links"]
-    tries.check("JSON", [(it["verdict"], it["sizes"]) for it in links] == [("same", {"5.bin": 8})] * 2, ran)
+    is_so = [(it["verdict"], it["sizes"]) for it in links] == [("same", {"5.bin": 8})] * 2
+    tries.check("JSON", is_so and ran.stderr == "building\n", ran)
     for name in ("5.bin", "5.bin-2"):
         place = f"{tries.top}/kept/{name}"
         os.remove(f"{place}/image")

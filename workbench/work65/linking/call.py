@@ -187,6 +187,8 @@ class _Places:
     def own(self, sub: str) -> List[str]:
         """Returns cc65's own folders: the one beside that of targets, which cl65 knows, and those
         beside the linker."""
+        if not self.tool:
+            return []
         tool = os.path.realpath(self.tool)
         prefix = os.path.dirname(os.path.dirname(tool))
         found = [os.path.join(prefix, sub), os.path.join(prefix, "share", "cc65", sub)]

@@ -174,7 +174,7 @@ class _Places:
         home, sub = self.environment.get("CC65_HOME"), variable.lower()
         searches: List[Callable[[], List[str]]] = [
             lambda: [""], lambda: self.words.options.get(option, []),
-            lambda: self.environment.get(f"LD65_{variable}", "").split(os.pathsep),
+            lambda: [self.environment.get(f"LD65_{variable}", "")],
             lambda: [os.path.join(home, sub)] if home else [], lambda: self.own(sub),
         ]  # fmt: skip
         for search in searches if variable else searches[:1]:

@@ -55,7 +55,7 @@ def _checked(call: Call, tools: Tools, folder: str, is_done: bool) -> Verdict:
     if tools.kept:
         keep(plan, folder, tools.kept)
     found = compared(plan, _made(plan) if is_done else other.files, ours)
-    said = moved(other, ours)
+    said = moved(plan, other, ours)
     if found.verdict == SAME and said:
         text = f"{plan.label}: the same image, but other addresses: {said}"
         return Verdict(DIFFERENT, text, found.sizes)

@@ -352,15 +352,40 @@ def builds(tries):
         new = set(os.listdir(folder)) - before
         tries.check(f"nothing is left: {name}", new <= {"5.bin", "6.bin", "c.o"}, new)
         tries.check(f"no link is seen: {name}", ("work65: no link was seen" in ran.stderr) == (lines == [] and status == 2), ran)
-    ran = tries.run("second", "--json", "--keep", f"{tries.top}/kept", "--", "sh", "-c", "ld65 @answers; ld65 @answers", folder=folder)
+    ran = tries.run("second", "--json", "--keep", f"{tries.top}/kept", "--", "sh", "-c", "ld65 @answers; echo building; ld65 @answers", folder=folder)
     links = json.loads(ran.stdout)["links"]
-    tries.check("JSON", [(it["verdict"], it["sizes"]) for it in links] == [("same", {"5.bin": 8})] * 2, ran)
+    is_so = [(it["verdict"], it["sizes"]) for it in links] == [("same", {"5.bin": 8})] * 2
+    tries.check("JSON", is_so and ran.stderr == "building\n", ran)
     for name in ("5.bin", "5.bin-2"):
         place = f"{tries.top}/kept/{name}"
         os.remove(f"{place}/image")
         again = read(f"{place}/link.txt").decode().replace("bin65", tries.tools.program.path, 1)
         subprocess.run(["/bin/sh", "-c", again], cwd=place, check=True, env={})
         tries.check(f"{name} is repeated without Python", read(f"{place}/image") == read(f"{folder}/5.bin"))
+
+
+# Names of files: quotes and signs of shells, bytes that aren't UTF-8, a line end, words of ld65's and of configs.
+HOSTILE = (b"a'b \"$x\" `id`", b"caf\xe9 \xff", b"new\nline", b"-dash", b"%O%S", b"@at", b"(p)", "日本".encode())
+
+
+def hostile_names(tries):
+    """Objects and images with names that a shell, a terminal or ld65 could take for something else."""
+    folder = tries.folder("names")
+    tries.arguments(PLAIN, (PROGRAM,), ())
+    for it in HOSTILE:
+        os.makedirs(b"to/" + it)
+        shutil.copyfile("m0.o", b"to/" + it + b"/m.o")
+        words = (b"./to/" + it + b"/" + it, b"./to/" + it + b"/m.o")
+        script = 'ld65 -C l.cfg -o "$1" "$2"'
+        how = {**tries.environment, "LC_ALL": "C"}
+        command = ["/bin/sh", WORK65, "second", "--keep", "kept", "--", "sh", "-c", script, "sh", *words]
+        ran = subprocess.run(command, cwd=folder, capture_output=True, env=how, check=False)
+        good = words[0].replace(b"\n", b"?") + b": the same image, 8 bytes (1 module)\n"
+        tries.check(f"a name: {it}", (ran.returncode, ran.stdout, ran.stderr) == (0, good, b""), ran)
+        command = ["/bin/sh", WORK65, "link", "-C", "l.cfg", "-o", words[0] + b".2", words[1]]
+        ran = subprocess.run(command, cwd=folder, capture_output=True, env=how, check=False)
+        tries.check(f"a name: {it}, link", ran.returncode == 0 and read(words[0] + b".2") == read(words[0]), ran)
+    tries.check("names of kept links", sorted(os.listdir(b"kept")) == sorted(HOSTILE), os.listdir(b"kept"))
 
 
 def read(name):
@@ -452,6 +477,7 @@ def main():
             cases(tries)
             refusals(tries)
             builds(tries)
+            hostile_names(tries)
             differences(tries)
             links(tries)
             configs(tries)

@@ -14,7 +14,7 @@ from work65.linking.names import Names
 from work65.problem import Problem
 
 FILES = ("a.cfg", "a.o", "b.o", "l.lib", "sub/c.cfg", "sub/m.lib", "sub/d.o", "env/e.lib", "home/lib/f.lib", "home/cfg/g.cfg")
-ENVIRONMENT = {"LD65_LIB": "none:env", "CC65_HOME": "home"}
+ENVIRONMENT = {"LD65_LIB": "env", "CC65_HOME": "home"}
 # The words of a command line, and what it asks for: the config, the output, the inputs with their groups, and the rest.
 CALLS = {
     "-C a.cfg a.o": "a.cfg a.out a.o",

@@ -3,17 +3,9 @@ import argparse
 import os
 from typing import Optional, Sequence
 
-from work65.commands.port import add_options, options_of
-from work65.frontend.files import read_bytes
-from work65.instrumenting.library import sources_of
-from work65.porting.program import NOT_COMPARED, Comparison, SecondOptions
-from work65.porting.script_files import place_of
-from work65.porting.tools import missing
-from work65.porting.verify import Library
 from work65.problem import Problem
-from work65.program import Program
-from work65.signals import folder_for_a_while
 
+# Modules of `port` are imported in functions, since a check of one link needs none of them.
 # How objects and libraries of cc65's begin.
 MADE_BY_CC65 = (b"Uzna", b"naUz")
 HELP = "report whether bin65 makes the same image of an unchanged cc65 project"
@@ -34,6 +26,8 @@ def run_words(words: Sequence[str]) -> Optional[int]:
 
 def add_arguments(parser: argparse.ArgumentParser) -> None:
     """Adds the arguments of this subcommand."""
+    from work65.commands.port import add_options
+
     parser.usage, parser.epilog = USAGE, EPILOG
     add = parser.add_argument
     add("-C", dest="script", metavar="SCRIPT", required=True, help="the linker script, as for ld65")
@@ -46,6 +40,8 @@ def add_arguments(parser: argparse.ArgumentParser) -> None:
 
 def run(arguments: argparse.Namespace) -> int:
     """Compares. Returns 0 for the same image, 1 for another one, and 2 if nothing can be compared."""
+    from work65.porting.program import NOT_COMPARED
+
     try:
         return compared(arguments)
     except Problem as problem:
@@ -54,6 +50,16 @@ def run(arguments: argparse.Namespace) -> int:
 
 def compared(arguments: argparse.Namespace) -> int:
     """Compares, and prints the result."""
+    from work65.commands.port import options_of
+    from work65.frontend.files import read_bytes
+    from work65.instrumenting.library import sources_of
+    from work65.porting.program import Comparison, SecondOptions
+    from work65.porting.script_files import place_of
+    from work65.porting.tools import missing
+    from work65.porting.verify import Library
+    from work65.program import Program
+    from work65.signals import folder_for_a_while
+
     lacking = missing()
     if lacking is not None and arguments.image is None:
         raise Problem(f"cc65's {lacking} isn't on the path; give an image to compare with by --image")

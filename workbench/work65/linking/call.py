@@ -174,7 +174,7 @@ class _Places:
         home, sub = self.environment.get("CC65_HOME"), variable.lower()
         searches: List[Callable[[], List[str]]] = [
             lambda: [""], lambda: self.words.options.get(option, []),
-            lambda: self.environment.get(f"LD65_{variable}", "").split(os.pathsep),
+            lambda: [self.environment.get(f"LD65_{variable}", "")],
             lambda: [os.path.join(home, sub)] if home else [], lambda: self.own(sub),
         ]  # fmt: skip
         for search in searches if variable else searches[:1]:
@@ -187,6 +187,8 @@ class _Places:
     def own(self, sub: str) -> List[str]:
         """Returns cc65's own folders: the one beside that of targets, which cl65 knows, and those
         beside the linker."""
+        if not self.tool:
+            return []
         tool = os.path.realpath(self.tool)
         prefix = os.path.dirname(os.path.dirname(tool))
         found = [os.path.join(prefix, sub), os.path.join(prefix, "share", "cc65", sub)]

@@ -35,9 +35,10 @@ def checked(words: Sequence[str], tools: Tools, is_done: bool) -> Optional[Verdi
             return None
         with folder_for_a_while() as folder:
             return _checked(call, tools, folder, is_done)
-    except (Problem, OSError) as problem:
+    except (Problem, OSError) as error:
         name = call.output if call else "a link"
-        return Verdict(UNKNOWN, f"{name}: not compared: {problem}", {})
+        why = error.strerror if isinstance(error, OSError) else error
+        return Verdict(UNKNOWN, f"{name}: not compared: {why}", {})
 
 
 def _checked(call: Call, tools: Tools, folder: str, is_done: bool) -> Verdict:
@@ -54,7 +55,7 @@ def _checked(call: Call, tools: Tools, folder: str, is_done: bool) -> Verdict:
     if tools.kept:
         keep(plan, folder, tools.kept)
     found = compared(plan, _made(plan) if is_done else other.files, ours)
-    said = moved(other, ours)
+    said = moved(plan, other, ours)
     if found.verdict == SAME and said:
         text = f"{plan.label}: the same image, but other addresses: {said}"
         return Verdict(DIFFERENT, text, found.sizes)

@@ -89,8 +89,9 @@ def position_in(obj: CcObject, segment: str, offset: int) -> Optional[Position]:
     return None
 
 
-def moved(theirs: Theirs, ours: Linked) -> str:
-    """Returns the first segment or export that has another address in bin65's map, "" if none."""
+def moved(plan: Plan, theirs: Theirs, ours: Linked) -> str:
+    """Returns the first segment or export that has another address in bin65's map, "" if none. Of
+    the linker's own names those are looked at that bin65 has, too."""
     rows = {it.name: (it.run, it.size) for it in ours.map.rows}
     for name, place in theirs.segments.items():
         own = rows.get(name)
@@ -102,6 +103,8 @@ def moved(theirs: Theirs, ours: Linked) -> str:
             )
     for name, value in theirs.exports.items():
         number = ours.map.symbols.get(name)
+        if number is None and name in plan.selection.exporters:
+            return f"{name} is ${value:04X} in ld65's map, and isn't in bin65's"
         if number is not None and number & WIDTH != value:
             return f"{name} is ${value:04X} in ld65's map, ${number & WIDTH:04X} in bin65's"
     return ""

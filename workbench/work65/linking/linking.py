@@ -18,7 +18,7 @@ def link(words: Sequence[str]) -> int:
     """Links. Raises a Problem and writes nothing if bin65 can't make what ld65 would."""
     named = words[1] if words[:1] == ["--bin65"] and len(words) > 1 else None
     program = Program.find(named)
-    call = read_call(words[2:] if named else words, os.environ, shutil.which("ld65") or "ld65")
+    call = read_call(words[2:] if named else words, os.environ, shutil.which("ld65") or "")
     if call is None:
         raise Problem("nothing to link: give objects, and a config by -C or -t", 2)
     if call.debug:

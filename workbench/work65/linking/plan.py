@@ -133,7 +133,8 @@ class _Planner:
     def inputs(self, symbols: bytes) -> Tuple[List[Tuple[str, bytes]], Dict[str, Unit]]:
         """Returns the inputs by their files, and the modules by the names that bin65 gives them.
         What a table imports is imported before the first input with an entry of the table."""
-        found, units = [(SYMBOLS, symbols)], {}
+        found = [(SYMBOLS, symbols)]
+        units: Dict[str, Unit] = {}
         for at, it in enumerate(self.modules):
             file = f"{at}-{PLAIN.sub('_', os.path.basename(it.name))}"
             imports = self.selection.table_imports(self.selection.chosen[at])

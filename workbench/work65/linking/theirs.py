@@ -43,7 +43,9 @@ def link(call: Call, tool: str, folder: str, has_map: bool = True) -> Theirs:
     for plain, raw in {**names, IMAGE: OUTPUT}.items():
         if os.path.isfile(os.path.join(folder, plain)):
             made[named(raw, call.output)] = read_bytes(os.path.join(folder, plain))
-    return Theirs(made, *(_placed(read_text(os.path.join(folder, MAP))) if has_map else ({}, {})))
+    if not has_map:
+        return Theirs(made, {}, {})
+    return Theirs(made, *_placed(read_text(os.path.join(folder, MAP))))
 
 
 def _words(call: Call) -> List[str]:

@@ -39,7 +39,7 @@ def watched(command: Sequence[str], wanted: Wanted) -> int:
             "linker": tool, "room": room, "python": sys.executable, "package": package,
             "bin65": program.path, "kept": wanted.kept,
         }  # fmt: skip
-        status = _ran(command, _environment(values))
+        status = _ran(command, _environment(values), wanted.is_json)
         links = _links(room)
         own = report(links, wanted) if links or wanted.is_json else NOT_COMPARED
         if not links and not status:
@@ -47,11 +47,11 @@ def watched(command: Sequence[str], wanted: Wanted) -> int:
     return status or own
 
 
-def _ran(command: Sequence[str], environment: Dict[str, str]) -> int:
+def _ran(command: Sequence[str], environment: Dict[str, str], is_json: bool) -> int:
     """Runs the build, and returns its status. If a signal ends this program, so it does the build,
-    which is waited for."""
+    which is waited for. Beside JSON, what the build prints goes to standard error."""
     try:
-        build = subprocess.Popen(command, env=environment)
+        build = subprocess.Popen(command, env=environment, stdout=sys.stderr if is_json else None)
     except OSError as error:
         raise Problem(f"{command[0]} can't be run: {error.strerror}") from error
     try:

@@ -201,10 +201,10 @@ class Rows:
             number, at = self.given[row.name]
             self.edits[at] = (*self.edits[at][:2], f", start = ${begin + number:04X}")
             return True
-        number = _number(it) if it is not None else None
-        if it is None or begin is None or number is None or not row.is_run or _text(row.entry, "RUN") not in ("", area.name.text):
+        own = _number(it) if it is not None else None
+        if it is None or begin is None or own is None or not row.is_run or _text(row.entry, "RUN") not in ("", area.name.text):
             return False
-        self.edits.append((it.name.start, it.value[-1].end, f"start = ${begin + number:04X}"))
+        self.edits.append((it.name.start, it.value[-1].end, f"start = ${begin + own:04X}"))
         return True
 
     def may_be_parted(self, area: Entry) -> bool:

@@ -145,14 +145,9 @@ class Theirs:
         """Makes a library of objects."""
         ran(["ar65", "r", library, *members], folder)
 
-    def link(self, script: str, inputs: Sequence[str], room: str) -> Linked:
-        """Links objects by the text of a script."""
-        return self.link_with(script, inputs, room, {})
-
-    def link_with(self, script: str, inputs: Sequence[str], room: str, symbols: Dict[str, int]) -> Linked:
-        """Links objects by the text of a script, with symbols more."""
+    def link(self, script: str, inputs: Sequence[str], room: str, more: Sequence[str] = ()) -> Linked:
+        """Links objects by the text of a script, with more options."""
         names = _room(room, script)
-        more = [word for name, number in symbols.items() for word in ("-D", f"{name}={number}")]
         ran(["ld65", *more, "-C", "script", "-o", "image", "-m", "map", "-vm", "--dbgfile", "debug", *inputs], room)
         found = Linked(_files(room, names), debug=_text(room, "debug"))
         lines = _text(room, "map").split("\n")

@@ -139,8 +139,9 @@ class Verifier:
         for number, library in enumerate(whole.libraries):
             inputs.append(os.path.join(self.room, f"theirs{number}.lib"))
             self.theirs.archive(inputs[-1], [self.their_object(it) for it in library.members], self.room)
+        symbols = [w for name, number in self.options.symbols.items() for w in ("-D", f"{name}={number}")]
         try:
-            found = self.theirs.link_with(whole.theirs, inputs, os.path.join(self.room, "link"), self.options.symbols)
+            found = self.theirs.link(whole.theirs, inputs, os.path.join(self.room, "link"), symbols)
         except Refused as why:
             raise why.of_script(whole.script) from None
         return replace(found, exports={it: value for it, value in found.exports.items() if it in found.used})
@@ -249,9 +250,10 @@ class Verifier:
     def placed(self, found: Outcome, script: str, theirs: str, ours: str) -> bool:
         """Links a source's two objects by one script; False where neither linker links, which tells nothing."""
         sides: List[Union[Linked, Refused]] = []
-        for link, made in ((self.theirs.link, theirs), (self.ours().link, ours)):
+        tools: List[Tuple[Union[Theirs, Ours], str]] = [(self.theirs, theirs), (self.ours(), ours)]
+        for tool, made in tools:
             try:
-                sides.append(link(script, [made], os.path.join(self.room, "link")))
+                sides.append(tool.link(script, [made], os.path.join(self.room, "link")))
             except Refused as said:
                 sides.append(said)
         cc65, bin65 = sides
@@ -263,8 +265,8 @@ class Verifier:
                 found.is_same, found.sides = False, (script, cc65, bin65)
         elif isinstance(cc65, Linked) or isinstance(bin65, Linked):
             found.is_compared, found.is_same = True, False
-            tool, why = ("bin65", bin65) if isinstance(cc65, Linked) else ("ld65", cc65)
-            found.refusal = f"{tool} alone refuses to link it: {why}"
+            name, why = ("bin65", bin65) if isinstance(cc65, Linked) else ("ld65", cc65)
+            found.refusal = f"{name} alone refuses to link it: {why}"
         return isinstance(cc65, Linked) or isinstance(bin65, Linked)
 
     # Forms.

@@ -118,6 +118,9 @@ CASES = {
     "a file with the output's name in it": (PLAIN.replace("size = $1000", 'size = $1000, file = "%O.x%%"'), (OTHER, MORE), ()),
     "two files": (PLAIN.replace("M: ", 'K: start = 0, size = 5, fill = yes, file = "side.bin"; M: '), (OTHER, MORE), ()),
     "an exported name of a config that a library has": ("SYMBOLS { other: type = export, value = 5; }\n" + PLAIN, (MAIN, "lib", OTHER, MORE), ()),
+    "symbols of a config that need labels": (
+        "SYMBOLS { NEXT: type = export, value = other + 2; LATE: type = weak, value = more - other; }\n" + PLAIN,
+        (" .import NEXT, LATE\n .code\n .word NEXT, LATE\n", OTHER, MORE), ()),
     "an import of a config": ("SYMBOLS { other: type = import; }\n" + PLAIN, (MORE, "lib", OTHER), ()),
 }
 # A load file in which ld65 2.19 writes the block of N over that of M, behind which a segment without bytes lies.

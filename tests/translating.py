@@ -76,7 +76,8 @@ def greatest(tries):
     greatest_of_many = ("import", 2)
     for _ in range(99):
         greatest_of_many = (0x14, greatest_of_many, 1)
-    for name, more in {"256 nodes": (0x42, tree), "99 .max in each other": greatest_of_many, "255 nodes, twice": (0x14, tree, 1),
+    for name, more in {"256 nodes": (0x42, tree), "99 .max in each other": greatest_of_many,
+                       "255 nodes, twice": (0x14, tree, 1),
                        "256 nodes, twice": (0x43, (0x42, tree))}.items():
         found = tries.by_bin65((user([(2, False, more)]), provider()))
         why = "an expression of more than 255 numbers, names and operations"

@@ -118,8 +118,15 @@ CASES = {
     "a file with the output's name in it": (PLAIN.replace("size = $1000", 'size = $1000, file = "%O.x%%"'), (OTHER, MORE), ()),
     "two files": (PLAIN.replace("M: ", 'K: start = 0, size = 5, fill = yes, file = "side.bin"; M: '), (OTHER, MORE), ()),
     "an exported name of a config that a library has": ("SYMBOLS { other: type = export, value = 5; }\n" + PLAIN, (MAIN, "lib", OTHER, MORE), ()),
+    "symbols of a config that need labels": (
+        "SYMBOLS { NEXT: type = export, value = other + 2; LATE: type = weak, value = more - other; }\n" + PLAIN,
+        (" .import NEXT, LATE\n .code\n .word NEXT, LATE\n", OTHER, MORE), ()),
     "an import of a config": ("SYMBOLS { other: type = import; }\n" + PLAIN, (MORE, "lib", OTHER), ()),
 }
+# A load file in which ld65 2.19 writes the block of N over that of M, behind which a segment without bytes lies.
+LOST = 'MEMORY { Z: start = 0, size = $100, file = ""; M: start = $800, size = $100; N: start = $900, size = 4, fill = yes; }\n' \
+       "SEGMENTS { ZEROPAGE: load = Z, type = zp; CODE: load = M; BSS: load = M, type = bss; RODATA: load = M; DATA: load = M; }\n" \
+       "FILES { %O: format = atari; }\n"
 # What can't be linked by bin65: as above, and a part of the message.
 REFUSED = {
     "o65": (PLAIN + 'FILES { %O: format = o65; }\n', (OTHER, MORE), (), "o65"),
@@ -267,6 +274,8 @@ def config_of(some):
     lines = ["MEMORY {", *(area(some, it) for it in areas), "}", "SEGMENTS {"]
     lines += [row(some, it, areas) for it in some.sample(SEGMENTS, len(SEGMENTS))] + ["}"]
     if some.random() < 0.1:
+        # ld65 loses blocks before an area with `fill` (see LOST).
+        lines = [it.replace(", fill = yes", "") for it in lines]
         lines += ["FILES { %O: format = atari; }", "FORMATS { atari: runad = e0; }"]
     return "\n".join(lines) + "\n"
 
@@ -431,6 +440,17 @@ def differences(tries):
         tries.check(f"a difference: {name}", (ran.returncode, ran.stdout, ran.stderr) == (1, said, ""), ran)
 
 
+def lost(tries):
+    """A block that ld65 loses is found; without the segment of no bytes both linkers make the same load file."""
+    for segment, is_same in ((".bss\n .res 2\n", False), (".code\n", True)):
+        folder = tries.folder(f"lost {is_same}")
+        words = tries.arguments(LOST, (f" .code\n .byte 1, 2\n {segment}",), ())
+        ran = tries.run("second", "ld65", *words, folder=folder)
+        said = "image: the same image, 16 bytes (1 module)\n" if is_same else \
+            "image differs from byte 3 on (ld65 and bin65: 09 and 08): in a load file\n"
+        tries.check(f"a lost block: {is_same}", (ran.returncode, ran.stdout) == (int(not is_same), said), ran)
+
+
 def links(tries):
     """work65 link writes what cc65's linker would, with bin65's map and labels; a Makefile takes it as its linker."""
     folder = tries.folder("links")
@@ -479,6 +499,7 @@ def main():
             builds(tries)
             hostile_names(tries)
             differences(tries)
+            lost(tries)
             links(tries)
             configs(tries)
             random_configs(tries, count)

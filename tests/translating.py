@@ -15,7 +15,8 @@ import time
 
 import pages
 from made_objects import made_library, made_object
-from translations import AND, LIBRARIES, provider, random_expression, read, run_parts, user, write
+from translations import AND, LIBRARIES, provider, random_expression, read, run_parts
+from translations import translated, user, write
 from work65.problem import Problem
 from work65.translating import cc65_objects, libraries, translation
 from work65.translating.r65_libraries import names_of, write_library
@@ -52,14 +53,16 @@ IMAGES = {
 def by_hand(tries):
     """What has to come of objects is known without cc65."""
     small = made_object([("CODE", 1, [b"\xEA", (1, False, ("import", 0))])], ["v"], source="i.inc")
-    tries.check("an object by hand", translation.translated(cc65_objects.read_object(small, "m.o")) == BY_HAND)
-    twice = made_object([("CODE", 1, [(2, False, ("import", 1)), b"", b"a", b"b", (2, False, 0x6463)])], ["v", "v"])
+    tries.check("an object by hand", translated(small) == BY_HAND)
+    twice = made_object([("CODE", 1, [(2, False, ("import", 1)), b"", b"a", b"b",
+                                      (2, False, 0x6463)])], ["v", "v"])
     wanted = bytes.fromhex("0101007602090006000000") + b"\0CODE" + bytes.fromhex("050E00010000000007000000020000000003040061626364080000")
-    tries.check("a name imported twice", translation.translated(cc65_objects.read_object(twice, "m.o")).endswith(wanted))
+    tries.check("a name imported twice", translated(twice).endswith(wanted))
     for name, (fragment, wanted) in IMAGES.items():
         found = tries.by_bin65((user([b"()", fragment]), provider()))
         at = found[2 : 2 + fragment[0]] if isinstance(found, bytes) else None
-        tries.check(f"an image by hand: {name}", at == (None if wanted is None else bytes.fromhex(wanted)), found[:60])
+        tries.check(f"an image by hand: {name}",
+                    at == (None if wanted is None else bytes.fromhex(wanted)), found[:60])
 
 
 def greatest(tries):
@@ -68,24 +71,36 @@ def greatest(tries):
     tree = ("import", 2)
     for _ in range(127):
         tree = (0x08, tree, ("import", 2))
-    tries.check("255 nodes", tries.by_bin65((user([(2, False, tree)]), provider()))[:2] == b"\x34\x12")
-    for name, more in {"256 nodes": (0x42, tree), "255 nodes, twice": (0x14, tree, 1), "256 nodes, twice": (0x43, (0x42, tree))}.items():
+    found = tries.by_bin65((user([(2, False, tree)]), provider()))
+    tries.check("255 nodes", found[:2] == b"\x34\x12", found)
+    greatest_of_many = ("import", 2)
+    for _ in range(99):
+        greatest_of_many = (0x14, greatest_of_many, 1)
+    for name, more in {"256 nodes": (0x42, tree), "99 .max in each other": greatest_of_many,
+                       "255 nodes, twice": (0x14, tree, 1),
+                       "256 nodes, twice": (0x43, (0x42, tree))}.items():
         found = tries.by_bin65((user([(2, False, more)]), provider()))
-        tries.check(name, found == "0.o: made.s:7: an expression of more than 255 numbers, names and operations", found)
+        why = "an expression of more than 255 numbers, names and operations"
+        tries.check(name, found == f"0.o: made.s:7: {why}", found)
 
 
 def assertions(tries):
     """Assertions that only the linker can decide: true and false ones of each kind."""
     for action, kind in enumerate(("warning", "error", "ldwarning", "lderror")):
         for wanted in (0x1234, 0x1235):
-            found = tries.by_bin65((user([b"x"], [((0x0B, ("import", 2), wanted), action, f"a text ({kind})")]), provider()))
-            is_refused = isinstance(found, str) and found.strip() == f"0.r65:made.s:7: Error: a text ({kind})"
-            tries.check(f"{kind}: {wanted:X}", is_refused if wanted == 0x1235 and action & 1 else found[:1] == b"x", found)
+            assertion = ((0x0B, ("import", 2), wanted), action, f"a text ({kind})")
+            found = tries.by_bin65((user([b"x"], [assertion]), provider()))
+            if wanted == 0x1235 and action & 1:
+                is_so = found == f"0.r65:made.s:7: Error: a text ({kind})\n"
+            else:
+                is_so = found[:1] == b"x"
+            tries.check(f"{kind}: {wanted:X}", is_so, found)
 
 
 def facts(tries):
     """What a link decides about an object."""
-    sections = [("CODE", 1, [b"a", (1, False, (0x45, ("section", 1)))]), ("NULL", 1, []), ("DATA", 8, []), ("BSS", 1, [])]
+    sections = [("CODE", 1, [b"a", (1, False, (0x45, ("section", 1)))]), ("NULL", 1, []),
+                ("DATA", 8, []), ("BSS", 1, [])]
     data = made_object(sections, ["b", "a"], [("x", 1, ()), ("y", ("section", 3), ())])
     asked = []
 
@@ -95,10 +110,12 @@ def facts(tries):
 
     all_ = translation.LinkFacts({"x"}, ("a", "c"), bank_of, False)
     for name, wanted in {"some": (all_, [b"y"], [b"b", b"a", b"c"], ["CODE", "DATA", "BSS"]),
-                         "none": (translation.LinkFacts(bank_of=bank_of), [b"x", b"y"], [b"b", b"a"], ["CODE", "NULL", "DATA", "BSS"])}.items():
+                         "none": (translation.LinkFacts(bank_of=bank_of), [b"x", b"y"],
+                                  [b"b", b"a"], ["CODE", "NULL", "DATA", "BSS"])}.items():
         found = translation.translated(cc65_objects.read_object(data, "m.o"), wanted[0])
         segments = [found[it.start() + 8 : it.end()].decode() for it in re.finditer(rb"\x02..(.{4}[\x00\x03])(CODE|NULL|DATA|BSS)", found, re.S)]
-        tries.check(f"facts: {name}", (*names_of(found), segments) == wanted[1:] and b"\x03\x02\x00a\x07" in found, (names_of(found), segments))
+        is_so = (*names_of(found), segments) == wanted[1:] and b"\x03\x02\x00a\x07" in found
+        tries.check(f"facts: {name}", is_so, (names_of(found), segments))
     tries.check("facts: the bank's expression", asked == [cc65_objects.SectionIndex(1)] * 2, asked)
 
 
@@ -126,53 +143,77 @@ def messages(tries):
     reads = {
         "": (b"", f"{damaged}it is cut short"),
         "text": (b"a text that is longer than a head" * 9, f"{damaged}it isn't an object"),
-        "a version": (whole[:4] + b"\x12" + whole[5:], f"{damaged}its version is 18; only objects of version 17 can be read"),
+        "a version": (whole[:4] + b"\x12" + whole[5:],
+                      f"{damaged}its version is 18; only objects of version 17 can be read"),
         "cut": (whole[:-1], f"{damaged}it is cut short"),
         "library": (library * 9, f"{damaged}it isn't an object"),
-        "a deep expression": (made_object([("CODE", 1, [])], (), [("deep", nested(301), ())]), f"{damaged}an expression is nested over 300 deep"),
+        "a deep expression": (made_object([("CODE", 1, [])], (), [("deep", nested(301), ())]),
+                              f"{damaged}an expression is nested over 300 deep"),
     }
     for name, (data, wanted) in reads.items():
-        tries.check(f"message: {name}", said(cc65_objects.read_object, data, "x.o") == f"x.o: {wanted}", said(cc65_objects.read_object, data, "x.o"))
-    for name, data, wanted in (("overlapping members", library[:-19] + b"\x04" + library[-18:] * 4, "its members overlap"),
-                               ("a library's version", library[:4] + b"\x0e" + library[5:], "its version is 14; only libraries of version 13 can be read"),
-                               ("a cut library", library[:-1], "it is cut short"), ("no library", whole, "it isn't a library")):
+        found = said(cc65_objects.read_object, data, "x.o")
+        tries.check(f"message: {name}", found == f"x.o: {wanted}", found)
+    for name, data, wanted in (("overlapping members", library[:-19] + b"\x04" + library[-18:] * 4,
+                                "its members overlap"),
+                               ("a library's version", library[:4] + b"\x0e" + library[5:],
+                                "its version is 14; only libraries of version 13 can be read"),
+                               ("a cut library", library[:-1], "it is cut short"),
+                               ("no library", whole, "it isn't a library")):
         found = said(cc65_objects.read_library, data, "x.lib")
         tries.check(f"message: {name}", found == f"x.lib: {damaged}{wanted}", found)
-    deep = cc65_objects.read_object(made_object([("CODE", 1, [])], (), [("deep", nested(300), ())]), "x.o")
-    another = made_object([("CODE", 1, [b"abc"])]).replace(b"\x03\x01\x02\x01\x00\x03abc", b"\x04\x01\x02\x01\x00\x03abc")
+    deep = made_object([("CODE", 1, [])], (), [("deep", nested(300), ())])
+    another = made_object([("CODE", 1, [b"abc"])])
+    another = another.replace(b"\x03\x01\x02\x01\x00\x03abc", b"\x04\x01\x02\x01\x00\x03abc")
     found = said(translation.translated, cc65_objects.read_object(another, "x.o"))
-    tries.check("message: a section's size", found == f"x.o: {damaged}a section has another size", found)
-    tries.check("a deep expression", b"deep" in translation.translated(deep))
+    tries.check("message: a section's size", found == f"x.o: {damaged}a section has another size",
+                found)
+    tries.check("a deep expression", b"deep" in translated(deep))
     names = {
-        "an alignment": ([("CODE", 3, [])], [], [], "segment CODE has the alignment 3, no power of two up to 32768"),
-        "a great alignment": ([("CODE", 65536, [])], [], [], "segment CODE has the alignment 65536, no power of two up to 32768"),
-        "a long name": ([], ["n" * 256], [], f"a name with more than 255 bytes or with other bytes than 21 to 7E: '{'n' * 40}'"),
-        "a name with a blank": ([], ["a b"], [], "a name with more than 255 bytes or with other bytes than 21 to 7E: 'a b'"),
-        "a name with a control byte": ([("A\n", 1, [b"a"])], [], [], "a name with more than 255 bytes or with other bytes than 21 to 7E: 'A\\n'"),
-        "a segment twice": ([("CODE", 1, []), ("CODE", 1, [])], [], [], "a second section of segment CODE"),
-        "a bank": ([("CODE", 1, [(1, False, (0x45, ("section", 0)))])], [], [], "made.s:7: a .bank has a value only in a link"),
-        "a division": ([("CODE", 1, [(1, False, (0x05, 1, 0))])], [], [], "made.s:7: a division by zero"),
-        "a shift": ([("CODE", 1, [(1, False, (0x09, 1, 64))])], [], [], "made.s:7: a shift by less than 0 or more than 63"),
-        "a range": ([("CODE", 1, [(1, False, 256)])], [], [], "made.s:7: a value is out of range: 256"),
-        "an operation": ([("CODE", 1, [(1, False, (0x46, 1))])], [], [], "made.s:7: an unknown operation: 46"),
+        "an alignment": ([("CODE", 3, [])], [], [],
+                         "segment CODE has the alignment 3, no power of two up to 32768"),
+        "a great alignment": ([("CODE", 65536, [])], [], [],
+                              "segment CODE has the alignment 65536, no power of two up to 32768"),
+        "a long name": ([], ["n" * 256], [],
+                        f"a name with more than 255 bytes or with other bytes than 21 to 7E: '{'n' * 40}'"),
+        "a name with a blank": ([], ["a b"], [],
+                                "a name with more than 255 bytes or with other bytes than 21 to 7E: 'a b'"),
+        "a name with a control byte": ([("A\n", 1, [b"a"])], [], [],
+                                       "a name with more than 255 bytes or with other bytes than 21 to 7E: 'A\\n'"),
+        "a segment twice": ([("CODE", 1, []), ("CODE", 1, [])], [], [],
+                            "a second section of segment CODE"),
+        "a bank": ([("CODE", 1, [(1, False, (0x45, ("section", 0)))])], [], [],
+                   "made.s:7: a .bank has a value only in a link"),
+        "a division": ([("CODE", 1, [(1, False, (0x05, 1, 0))])], [], [],
+                       "made.s:7: a division by zero"),
+        "a shift": ([("CODE", 1, [(1, False, (0x09, 1, 64))])], [], [],
+                    "made.s:7: a shift by less than 0 or more than 63"),
+        "a range": ([("CODE", 1, [(1, False, 256)])], [], [],
+                    "made.s:7: a value is out of range: 256"),
+        "an operation": ([("CODE", 1, [(1, False, (0x46, 1))])], [], [],
+                         "made.s:7: an unknown operation: 46"),
         "an assertion": ([], [], [(0, 3, "too long")], "made.s:7: an assertion fails: too long"),
-        "a great section": ([("CODE", 1, [("fill", 16777217)])], [], [], "segment CODE has more than 16777216 bytes"),
+        "a great section": ([("CODE", 1, [("fill", 16777217)])], [], [],
+                            "segment CODE has more than 16777216 bytes"),
     }
     for name, (sections, imports, assertions, wanted) in names.items():
         obj = cc65_objects.read_object(made_object(sections, imports, (), assertions), "x.o")
-        tries.check(f"message: {name}", said(translation.translated, obj) == f"x.o: {wanted}", said(translation.translated, obj))
+        found = said(translation.translated, obj)
+        tries.check(f"message: {name}", found == f"x.o: {wanted}", found)
 
 
 def real_objects(tries):
     """Objects for tests: made ones, and members of a library of cc65's where it is there."""
     chance = random.Random(5)
-    trees = [(width, width == 3, (AND, random_expression(chance, 3), 0x7F)) for width in (1, 2, 3, 4) for _ in range(3)]
+    trees = []
+    for width in (1, 2, 3, 4) * 3:
+        trees.append((width, width == 3, (AND, random_expression(chance, 3), 0x7F)))
     found = [provider(), user([b"abc", *trees, ("fill", 9)], [(("import", 0), 1, "text")])]
     if tries.has_cc65:
         pages.put(f"{tries.top}/g.s", SOURCE)
         tries.ran("ca65", "-g", "g.s", "-o", "g.o")
         members = cc65_objects.read_library(read(f"{LIBRARIES}/c64.lib"), "c64.lib")
-        found += [read(f"{tries.top}/g.o"), *(it.data for it in members if it.name in ("crt0.o", "cgetc.o", "itoa.o", "irq.o", "zerobss.o"))]
+        names = ("crt0.o", "cgetc.o", "itoa.o", "irq.o", "zerobss.o")
+        found += [read(f"{tries.top}/g.o"), *(it.data for it in members if it.name in names)]
     return found
 
 
@@ -207,7 +248,8 @@ def mutated(data, chance):
         elif kind == 1:
             found[at] = chance.choice((0, 1, 0x7F, 0x80, 0xFF, chance.randrange(256)))
         elif kind == 2:
-            found[at : at + 4] = chance.choice((0, 1, 0x7FFFFFFF, 0xFFFFFFFF, len(data), chance.randrange(1 << 32))).to_bytes(4, "little")
+            found[at : at + 4] = chance.choice((0, 1, 0x7FFFFFFF, 0xFFFFFFFF, len(data),
+                                                chance.randrange(1 << 32))).to_bytes(4, "little")
         elif kind == 3:
             del found[at : at + chance.randrange(1, 9)]
         elif kind == 4:
@@ -229,9 +271,12 @@ def mutants(tries):
     library = made_library([(f"{at}.o", it) for at, it in enumerate(bases[:3])])
     for at in range(count):
         is_library = at % 10 == 0
-        data, begun = mutated(library if is_library else chance.choice(bases), chance), time.process_time()
+        data = mutated(library if is_library else chance.choice(bases), chance)
+        begun = time.process_time()
         try:
-            members = cc65_objects.read_library(data, "x.lib") if is_library else [cc65_objects.Member("x.o", data, "x.lib")]
+            members = [cc65_objects.Member("x.o", data, "x.lib")]
+            if is_library:
+                members = cc65_objects.read_library(data, "x.lib")
             kept += [translation.translated(it.object()) for it in members]
         except Problem as problem:
             if "\n" in str(problem) or not str(problem).startswith("x.lib"):
@@ -240,16 +285,20 @@ def mutants(tries):
             wrong.append((at, repr(error)))
         slowest = max(slowest, time.process_time() - begun)
     tries.check(f"{count} damaged files", not wrong and slowest < 2, (slowest, wrong[:5]))
-    write(f"{tries.top}/kept.lib", write_library([(f"{at}.o", it) for at, it in enumerate(kept)], "kept.lib"))
+    write(f"{tries.top}/kept.lib", write_library([(f"{at}.o", it) for at, it in enumerate(kept)],
+                                                 "kept.lib"))
     ran = tries.ran(tries.program, "ar65", "t", "kept.lib")
-    tries.check("bin65 reads what is translated", ran.returncode == 0 and len(ran.stdout.split()) == len(kept) > count // 20, ran.stderr)
+    tries.check("bin65 reads what is translated",
+                ran.returncode == 0 and len(ran.stdout.split()) == len(kept) > count // 20,
+                ran.stderr)
     print(f"{len(kept)} of {count} damaged files translate; slowest {slowest:.3f} s")
 
 
 def cache(tries):
     """Cached translations: twice, damaged, at once, in a folder that can't be written, too many."""
     folder = f"{tries.top}/cache/work65"
-    members = [(f"m{at}.o", user([bytes(range(256)) * 9, (2, False, ("import", 0))])) for at in range(20)]
+    members = [(f"m{at}.o", user([bytes(range(256)) * 9,
+                                  (2, False, ("import", 0))])) for at in range(20)]
     data = made_library(members)
     program = f"import sys; sys.path.insert(0, {pages.ROOT + '/workbench'!r}); sys.dont_write_bytecode = True\n" + (
         "from work65.translating.libraries import library_of\nimport hashlib\n"
@@ -259,72 +308,102 @@ def cache(tries):
 
     def started(name="x.lib", limit=None, **more):
         how = {**os.environ, "XDG_CACHE_HOME": f"{tries.top}/cache", **more}
-        return subprocess.Popen([sys.executable, "-c", program, name], cwd=tries.top, stdout=subprocess.PIPE, stderr=subprocess.STDOUT, env=how,
+        return subprocess.Popen([sys.executable, "-c", program, name], cwd=tries.top,
+                                stdout=subprocess.PIPE, stderr=subprocess.STDOUT, env=how,
                                 preexec_fn=limit)
 
     def told(*running):
         return {it.communicate()[0] for it in running}
 
-    wanted = hashlib.sha256(repr(libraries.library_of(data, "x.lib")).encode()).hexdigest().encode() + b"\n"
-    tries.check("four at once", told(*(started() for _ in range(4))) == {wanted} and len(os.listdir(folder)) == 1, os.listdir(folder))
+    known = repr(libraries.library_of(data, "x.lib")).encode()
+    wanted = hashlib.sha256(known).hexdigest().encode() + b"\n"
+    tries.check("four at once",
+                told(*(started() for _ in range(4))) == {wanted} and len(os.listdir(folder)) == 1,
+                os.listdir(folder))
     entry = f"{folder}/{os.listdir(folder)[0]}"
     good = read(entry)
-    for name, changed in {"as written": good, "cut": good[:-1], "empty": b"", "a changed byte": good[:50] + b"x" + good[51:]}.items():
+    for name, changed in {"as written": good, "cut": good[:-1], "empty": b"",
+                          "a changed byte": good[:50] + b"x" + good[51:]}.items():
         write(entry, changed)
         tries.check(f"an entry: {name}", told(started()) == {wanted} and read(entry) == good)
-    full = started(limit=lambda: resource.setrlimit(resource.RLIMIT_FSIZE, (1000, 1000)), XDG_CACHE_HOME=f"{tries.top}/cache2")
-    tries.check("a full disk", told(full) == {wanted} and os.listdir(f"{tries.top}/cache2/work65") == [])
+    full = started(limit=lambda: resource.setrlimit(resource.RLIMIT_FSIZE, (1000, 1000)),
+                   XDG_CACHE_HOME=f"{tries.top}/cache2")
+    tries.check("a full disk",
+                told(full) == {wanted} and os.listdir(f"{tries.top}/cache2/work65") == [])
     write(f"{tries.top}/file", b"")
     tries.check("no folder", told(started(XDG_CACHE_HOME=f"{tries.top}/file")) == {wanted})
-    tries.check("no home", told(started(XDG_CACHE_HOME="relative", HOME="nowhere")) == {wanted} and not os.path.exists(f"{tries.top}/relative"))
+    is_told = told(started(XDG_CACHE_HOME="relative", HOME="nowhere")) == {wanted}
+    tries.check("no home", is_told and not os.path.exists(f"{tries.top}/relative"))
     for at in range(99):
         write(f"{folder}/old{at}", b"")
         os.utime(f"{folder}/old{at}", (at, at))
     os.remove(entry)
     told(started(), started("small.lib"))
     left = os.listdir(folder)
-    tries.check("the oldest go", len(left) == 64 and os.path.basename(entry) in left and "old98" in left and "old0" not in left, len(left))
+    tries.check("the oldest go",
+                len(left) == 64 and os.path.basename(entry) in left and "old98" in left and "old0" not in left, len(left))
 
 
 def convert(tries):
     """The subcommand: files, folders, messages, and that nothing is written if something is
     wrong."""
     os.makedirs(f"{tries.top}/a b")
-    for name, data in {"p.o": provider(), "ü.o": user([b"abc", (2, False, ("import", 0))]), "l.lib": made_library([("p.o", provider())]),
-                       "two.lib": made_library([("p.o", provider())] * 2), "name.lib": made_library([("a/b", provider())]), "bad.o": provider()[:-1], "bank.o": made_object([("CODE", 1, [(1, False, (0x45, ("section", 0)))])]),
-                       "new.o": BY_HAND, "t.o": made_object((), (), [("start", 5, [(0, 7), (3, 7)])])}.items():
+    for name, data in {"p.o": provider(), "ü.o": user([b"abc", (2, False, ("import", 0))]),
+                       "l.lib": made_library([("p.o", provider())]),
+                       "two.lib": made_library([("p.o", provider())] * 2),
+                       "name.lib": made_library([("a/b", provider())]), "bad.o": provider()[:-1],
+                       "bank.o": made_object([("CODE", 1, [(1, False, (0x45, ("section", 0)))])]),
+                       "t.o": made_object((), (), [("start", 5, [(0, 7), (3, 7)])]),
+                       "new.o": BY_HAND}.items():
         write(f"{tries.top}/a b/{name}", data)
     rows = {
         "one": (("a b/p.o", "-o", "one.o"), 0, "", ["one.o"]),
-        "a folder": (("a b/p.o", "a b/ü.o", "a b/l.lib", "-o", "out/"), 0, "", ["out/l.lib", "out/p.o", "out/ü.o"]),
+        "a folder": (("a b/p.o", "a b/ü.o", "a b/l.lib", "-o", "out/"), 0, "",
+                     ["out/l.lib", "out/p.o", "out/ü.o"]),
         "the folder here": (("a b/p.o",), 0, "", ["p.o"]),
-        "a damaged one": (("a b/p.o", "a b/bad.o", "-o", "out2/"), 1, "a b/bad.o: can't be read as a file of cc65's tools: it is cut short", []),
-        "a bank": (("a b/bank.o", "-o", "bank"), 1, "a b/bank.o: made.s:7: a .bank has a value only in a link", []),
-        "bin65's own": (("a b/new.o", "-o", "new"), 1, "a b/new.o: already an object or a library of bin65's", []),
+        "a damaged one": (("a b/p.o", "a b/bad.o", "-o", "out2/"), 1,
+                          "a b/bad.o: can't be read as a file of cc65's tools: it is cut short",
+                          []),
+        "a bank": (("a b/bank.o", "-o", "bank"), 1,
+                   "a b/bank.o: made.s:7: a .bank has a value only in a link", []),
+        "bin65's own": (("a b/new.o", "-o", "new"), 1,
+                        "a b/new.o: already an object or a library of bin65's", []),
         "a text": (("m.cfg", "-o", "text"), 1, "m.cfg: no object and no library of cc65's", []),
         "no file": (("none.o", "-o", "none"), 1, "none.o: No such file or directory", []),
-        "over itself": (("a b/p.o", "-o", "a b"), 2, "a b/p.o: it would be overwritten; name another file or folder by -o", []),
-        "two to one": (("a b/p.o", "a b/ü.o", "-o", "x"), 2, "x: no folder, and there are 2 files to convert", []),
-        "two of one name": (("a b/p.o", "one.o", "a b/../a b/p.o", "-o", "out3/"), 1, "one.o: already an object or a library of bin65's", []),
-        "twice": (("a b/p.o", "a b/p.o", "-o", "out3/"), 2, "out3/p.o: two files would be written there", []),
-        "a full disk": (("a b/p.o", "-o", "/dev/full"), 1, "/dev/full: No space left on device", []),
-        "two members of one name": (("a b/two.lib", "-o", "two"), 1, "a b/two.lib: a second member p.o", []),
-        "a member's name": (("a b/name.lib", "-o", "two"), 1, "a b/name.lib: a member has a name that bin65's libraries can't hold: 'a/b'", []),
-        "tables": (("a b/t.o", "-o", "tables"), 0, "a b/t.o: the linker of bin65 makes no tables of routines: start (constructor), start (table 3)", ["tables"]),
+        "over itself": (("a b/p.o", "-o", "a b"), 2,
+                        "a b/p.o: it would be overwritten; name another file or folder by -o", []),
+        "two to one": (("a b/p.o", "a b/ü.o", "-o", "x"), 2,
+                       "x: no folder, and there are 2 files to convert", []),
+        "two of one name": (("a b/p.o", "one.o", "a b/../a b/p.o", "-o", "out3/"), 1,
+                            "one.o: already an object or a library of bin65's", []),
+        "twice": (("a b/p.o", "a b/p.o", "-o", "out3/"), 2,
+                  "out3/p.o: two files would be written there", []),
+        "a full disk": (("a b/p.o", "-o", "/dev/full"), 1, "/dev/full: No space left on device",
+                        []),
+        "two members of one name": (("a b/two.lib", "-o", "two"), 1,
+                                    "a b/two.lib: a second member p.o", []),
+        "a member's name": (("a b/name.lib", "-o", "two"), 1,
+                            "a b/name.lib: a member has a name that bin65's libraries can't hold: 'a/b'", []),
+        "tables": (("a b/t.o", "-o", "tables"), 0,
+                   "a b/t.o: the linker of bin65 makes no tables of routines: start (constructor), start (table 3)", ["tables"]),
     }
     for name, (words, status, message, written) in rows.items():
         before = all_files(tries.top)
         ran = tries.work65("convert", *words)
         said_ = f"work65: {message}\n" if message else ""
-        is_so = (ran.returncode, ran.stdout, ran.stderr, sorted(all_files(tries.top) - before)) == (status, "", said_, sorted(written))
+        is_so = (ran.returncode, ran.stdout, ran.stderr,
+                 sorted(all_files(tries.top) - before)) == (status, "", said_, sorted(written))
         tries.check(f"convert: {name}", is_so, (ran, all_files(tries.top) - before))
-    ran = tries.ran(tries.program, "ld65", "-C", "m.cfg", "-o", "converted.bin", "out/ü.o", "out/l.lib")
-    tries.check("converted files link", ran.returncode == 0 and b"abc\x0A\x80" in read(f"{tries.top}/converted.bin"), ran)
+    ran = tries.ran(tries.program, "ld65", "-C", "m.cfg", "-o", "converted.bin", "out/ü.o",
+                    "out/l.lib")
+    tries.check("converted files link",
+                ran.returncode == 0 and b"abc\x0A\x80" in read(f"{tries.top}/converted.bin"), ran)
 
 
 def all_files(top):
     """The files in a folder and below, without those of the cache."""
-    return {os.path.relpath(f"{folder}/{it}", top) for folder, _, names in os.walk(top) for it in names if "/cache" not in folder}
+    return {os.path.relpath(f"{folder}/{it}", top) for folder, _,
+            names in os.walk(top) for it in names if "/cache" not in folder}
 
 
 if __name__ == "__main__":

@@ -15,19 +15,22 @@ import subprocess
 
 import pages
 from made_objects import made_object
-from translations import (DWORD, LIBRARIES, SHIFT_RIGHT, TOOLS, WORK65, provider, random_expression, read, run_parts, user,
-                          write)
-from work65.translating import cc65_objects, libraries, translation
+from translations import (DWORD, LIBRARIES, SHIFT_RIGHT, TOOLS, WORK65, provider,
+                          random_expression, read, run_parts,
+                          translated, user, write)
+from work65.translating import cc65_objects, libraries
 
 def expressions(tries):
     """Random expressions: all 64 bits of each, by both linkers."""
     chance, refused, different, links = random.Random(65), [], [], 1000 if tries.is_all else 100
     for at in range(links):
         trees = [random_expression(chance, chance.randrange(1, 5)) for _ in range(20)]
-        fragments = [(4, False, (DWORD, tree if not shift else (SHIFT_RIGHT, tree, shift))) for tree in trees for shift in (0, 32)]
+        fragments = [(4, False, (DWORD, it)) for it in trees]
+        fragments += [(4, False, (DWORD, (SHIFT_RIGHT, it, 32))) for it in trees]
         for width, tree in zip((1, 2, 3, 4), trees):
             part = (SHIFT_RIGHT, (DWORD, tree), 32 - 8 * width)
-            fragments += [(width, False, part), (width, True, (0x02, part, (0x09, 1, 8 * width - 1)))]
+            lower = (0x02, part, (0x09, 1, 8 * width - 1))
+            fragments += [(width, False, part), (width, True, lower)]
         objects = (user(fragments, [((0x06, 1, trees[0]), 3, "no")]), provider())
         wanted, found = tries.by_ld65(objects), tries.by_bin65(objects)
         if isinstance(found, str):
@@ -42,11 +45,14 @@ def expressions(tries):
 def ranges(tries):
     """Values around the limits of each width, as numbers and as what only the linker knows: both
     linkers accept or refuse them."""
-    limits = (0, 1 << 7, 1 << 8, 1 << 15, 1 << 16, 1 << 23, 1 << 24, 1 << 31, 1 << 32, -(1 << 7), -(1 << 15), -(1 << 23), -(1 << 31))
+    limits = (0, 1 << 7, 1 << 8, 1 << 15, 1 << 16, 1 << 23, 1 << 24, 1 << 31, 1 << 32, -(1 << 7),
+              -(1 << 15), -(1 << 23), -(1 << 31))
     wrong, accepted, refused = [], [], 0
     for width, is_signed in itertools.product((1, 2, 3, 4), (False, True)):
         for value in sorted({it + more for it in limits for more in (-1, 0, 1)}):
-            low = (0x01, (0x02, value, 0x1234), ("import", 2)) if -(1 << 30) < value < 1 << 30 else wide(value)
+            low = (0x01, (0x02, value, 0x1234), ("import", 2))
+            if not -(1 << 30) < value < 1 << 30:
+                low = wide(value)
             for tree in (low, value) if -(1 << 31) <= value < 1 << 31 else (low,):
                 fragment = (width, is_signed, tree)
                 objects = (user([fragment]), provider())
@@ -56,9 +62,12 @@ def ranges(tries):
                     refused += 1
                 else:
                     wrong.append((width, is_signed, hex(value)))
-    tries.check("values that don't fit are refused", not wrong and refused > 100, (refused, wrong[:9]))
+    tries.check("values that don't fit are refused", not wrong and refused > 100,
+                (refused, wrong[:9]))
     objects = (user(accepted), provider())
-    tries.check("values that fit", len(accepted) > 100 and tries.by_ld65(objects) == tries.by_bin65(objects), len(accepted))
+    tries.check("values that fit",
+                len(accepted) > 100 and tries.by_ld65(objects) == tries.by_bin65(objects),
+                len(accepted))
     print(f"{len(accepted)} values fit, {refused} don't")
 
 
@@ -106,13 +115,16 @@ def places(tries):
             said_ = tries.ran("ld65", "-C", "m.cfg", "-o", "cc65.bin", "0.o", "1.o").stderr.decode()
             wanted = re.search(r"Range error in module '(.*)', line (\d+)", said_)
             found = tries.by_bin65(objects)
-            tries.check(f"place {at}{''.join(words)}", wanted and found.strip() == f"0.r65:{wanted[1]}:{wanted[2]}: Error: out of range", (said_, found))
+            place = f"{wanted[1]}:{wanted[2]}" if wanted else None
+            is_so = found == f"0.r65:{place}: Error: out of range\n"
+            tries.check(f"place {at}{''.join(words)}", is_so, (said_, found))
 
 
 def bits(tries):
     """Objects with one changed bit: where cc65's linker makes an image, the same or a message."""
     chance, linked, wrong, refused = random.Random(8), 0, [], []
-    objects = [user([b"abc", (2, False, ("import", 0)), (1, False, (0x48, ("import", 1))), ("fill", 3), (3, False, ("section", 0)), b"end"]), provider()]
+    objects = [user([b"abc", (2, False, ("import", 0)), (1, False, (0x48, ("import", 1))),
+                     ("fill", 3), (3, False, ("section", 0)), b"end"]), provider()]
     for at in range(1500 if tries.is_all else 200):
         which = chance.randrange(2)
         changed = list(objects)
@@ -125,7 +137,9 @@ def bits(tries):
             refused.append(found)
         elif found != wanted:
             wrong.append(at)
-    tries.check("changed bits: the same image or a message", not wrong and linked > 50 and len(refused) < linked // 2, (linked, wrong, refused[:5]))
+    tries.check("changed bits: the same image or a message",
+                not wrong and linked > 50 and len(refused) < linked // 2,
+                (linked, wrong, refused[:5]))
     print(f"{linked} links of objects with a changed bit: {len(refused)} refused, {len(wrong)} differ")
 
 
@@ -139,11 +153,15 @@ def listed_by_od65(text):
     found = []
     for file in re.split(r"^\S.*:\n", text, flags=re.M)[1:]:
         tables = dict(re.findall(r"^  (Segments|Imports|Exports):\n((?:    .*\n)+)", file, re.M))
-        items = {name: [dict(re.findall(r"^      ([^:\n]+): +(.*)$", it, re.M)) for it in body.split("    Index:")[1:]] for name, body in tables.items()}
+        line, items = re.compile(r"^      ([^:\n]+): +(.*)$", re.M), {}
+        for name, body in tables.items():
+            items[name] = [dict(line.findall(it)) for it in body.split("    Index:")[1:]]
         found.append((
-            [(it["Name"], int(it["Size"]), int(it["Alignment"]), it["Address size"][:4], int(it["Fragment count"])) for it in items["Segments"]],
+            [(it["Name"], int(it["Size"]), int(it["Alignment"]), it["Address size"][:4],
+              int(it["Fragment count"])) for it in items["Segments"]],
             [(it["Address size"][:4], it["Name"]) for it in items["Imports"]],
-            [(it["Address size"][:4], it["Name"], it["Type"].partition("CONDES=")[2].rstrip(")"), it.get("Value", "")[:10]) for it in items["Exports"]],
+            [(it["Address size"][:4], it["Name"], it["Type"].partition("CONDES=")[2].rstrip(")"),
+              it.get("Value", "")[:10]) for it in items["Exports"]],
         ))
     return found
 
@@ -153,9 +171,11 @@ def listed_by_reader(obj):
     exports = []
     for it in obj.exports:
         tables = ",".join(f"[{kind},{priority}]" for kind, priority in it.condes)
-        exports.append((f"0x{it.address_size:02X}", f'"{it.name}"', tables, f"0x{it.value:08X}" if isinstance(it.value, int) else ""))
+        exports.append((f"0x{it.address_size:02X}", f'"{it.name}"', tables,
+                        f"0x{it.value:08X}" if isinstance(it.value, int) else ""))
     return (
-        [(f'"{it.name}"', it.size, it.alignment, f"0x{it.address_size:02X}", it.count) for it in obj.sections],
+        [(f'"{it.name}"', it.size, it.alignment, f"0x{it.address_size:02X}",
+          it.count) for it in obj.sections],
         [(f"0x{it.address_size:02X}", f'"{it.name}"') for it in obj.imports],
         exports,
     )
@@ -167,23 +187,33 @@ def beside_od65(tries):
         folder = f"{tries.top}/{name}.members"
         os.makedirs(folder)
         members = cc65_objects.read_library(read(f"{LIBRARIES}/{name}"), name)
-        subprocess.run(["ar65", "x", f"{LIBRARIES}/{name}", *(it.name for it in members)], cwd=folder, check=True)
-        tries.check(f"{name}: the members", sorted(os.listdir(folder)) == sorted(it.name for it in members) and all(read(f"{folder}/{it.name}") == it.data for it in members))
-        words = ["od65", "--dump-segments", "--dump-imports", "--dump-exports", *(it.name for it in members)]
-        shown = listed_by_od65(subprocess.run(words, cwd=folder, capture_output=True, text=True, check=True).stdout)
+        subprocess.run(["ar65", "x", f"{LIBRARIES}/{name}", *(it.name for it in members)],
+                       cwd=folder, check=True)
+        are_all = sorted(os.listdir(folder)) == sorted(it.name for it in members)
+        are_same = all(read(f"{folder}/{it.name}") == it.data for it in members)
+        tries.check(f"{name}: the members", are_all and are_same)
+        words = ["od65", "--dump-segments", "--dump-imports", "--dump-exports",
+                 *(it.name for it in members)]
+        shown = listed_by_od65(subprocess.run(words, cwd=folder, capture_output=True, text=True,
+                                              check=True).stdout)
         read_ = [listed_by_reader(it.object()) for it in members]
         wrong = [(it.name, one, two) for it, one, two in zip(members, shown, read_) if one != two]
-        tries.check(f"{name}: {len(members)} objects beside od65", len(shown) == len(read_) > 400 and not wrong, wrong[:1])
+        tries.check(f"{name}: {len(members)} objects beside od65",
+                    len(shown) == len(read_) > 400 and not wrong, wrong[:1])
 
 
 # What cc65's assembler writes, in a source of random lines: operators and functions of expressions,
 # and statements of a value.
 SIGNS = ("+", "-", "*", "&", "|", "^", "=", "<>", "<", ">", "<=", ">=", "&&", "||", ".xor")
-FUNCTIONS = ("<({})", ">({})", "^({})", "~({})", "(.not ({}))", "-({})", ".loword({})", ".hiword({})", "({}) / 3", "({}) .mod 7", "({}) << 2",
-             "({}) >> 5", ".max({}, {})", ".min({}, {})", ".lobyte({})", ".hibyte({})", ".bankbyte({})")
-STATEMENTS = (".byte .lobyte({})", ".word .loword({})", ".dword ({}) & $7FFFFFFF", ".faraddr .loword({})", ".dbyt .loword({})", "lda #<({})",
+FUNCTIONS = ("<({})", ">({})", "^({})", "~({})", "(.not ({}))", "-({})", ".loword({})",
+             ".hiword({})", "({}) / 3", "({}) .mod 7", "({}) << 2",
+             "({}) >> 5", ".max({}, {})", ".min({}, {})", ".lobyte({})", ".hibyte({})",
+             ".bankbyte({})")
+STATEMENTS = (".byte .lobyte({})", ".word .loword({})", ".dword ({}) & $7FFFFFFF",
+              ".faraddr .loword({})", ".dbyt .loword({})", "lda #<({})",
               "ldx #>({})", ".assert ({}) <> $1234567, lderror, \"no\"")
-ADDRESSES = ("lda {}", "jmp {}", "brl {}", "per {}", "jsl {}", "lda f:{}", ".addr {}, {}", "sta {} + 3, x", ".faraddr {}", ".word .loword({} - *)", "pea {}")
+ADDRESSES = ("lda {}", "jmp {}", "brl {}", "per {}", "jsl {}", "lda f:{}", ".addr {}, {}",
+             "sta {} + 3, x", ".faraddr {}", ".word .loword({} - *)", "pea {}")
 
 
 class Sources:
@@ -198,7 +228,8 @@ class Sources:
 
     def expression(self, module, depth):
         if depth == 0 or self.chance.random() < 0.2:
-            number = self.chance.choice((str(self.chance.randrange(300)), f"${self.chance.randrange(1 << 31):X}"))
+            number = self.chance.choice((str(self.chance.randrange(300)),
+                                         f"${self.chance.randrange(1 << 31):X}"))
             return self.chance.choice((self.address(module), self.address(module), number))
         parts = [self.expression(module, depth - 1) for _ in range(2)]
         if self.chance.random() < 0.4:
@@ -208,14 +239,17 @@ class Sources:
     def line(self, module):
         kind = self.chance.randrange(20)
         if kind < 9:
-            return self.chance.choice(STATEMENTS).format(self.expression(module, self.chance.randrange(4)))
+            value = self.expression(module, self.chance.randrange(4))
+            return self.chance.choice(STATEMENTS).format(value)
         if kind < 16:
             return self.chance.choice(ADDRESSES).format(self.address(module), self.address(module))
-        return self.chance.choice((".res 3", ".align 4", ".byte \"text\"", ".rodata", ".data", ".code", ".code", "nop", "bne *+4", ".res 2, 7"))
+        return self.chance.choice((".res 3", ".align 4", ".byte \"text\"", ".rodata", ".data",
+                                   ".code", ".code", "nop", "bne *+4", ".res 2, 7"))
 
     def source(self, module):
         others = [it for at, labels in enumerate(self.labels) if at != module for it in labels]
-        lines = [f".export {', '.join(self.labels[module])}", f".import {', '.join(others)}", ".code"]
+        lines = [f".export {', '.join(self.labels[module])}", f".import {', '.join(others)}",
+                 ".code"]
         for label in self.labels[module]:
             lines += [f"{label}:", *(self.line(module) for _ in range(5))]
         return "".join(f" {it}\n" if not it.endswith(":") else f"{it}\n" for it in lines)
@@ -239,7 +273,9 @@ def sources(tries):
             refused.append(found)
         elif found != wanted:
             different.append(at)
-    tries.check("random sources: the same image", not different and len(refused) * 100 <= linked > 30, (linked, refused[:5], different))
+    tries.check("random sources: the same image",
+                not different and len(refused) * 100 <= linked > 30,
+                (linked, refused[:5], different))
     print(f"{linked} links of 3 random sources: {len(different)} differ, {len(refused)} refused")
 
 
@@ -253,15 +289,19 @@ def whole_libraries(tries):
         members = cc65_objects.read_library(data, name)
         write(f"{tries.top}/{name}", library.data)
         ran = tries.ran(tries.program, "ar65", "t", name)
-        tries.check(f"{name}: bin65 reads it", ran.stdout.decode().split() == [it.name for it in members] and not any(it.refusal for it in library.members))
+        are_all = ran.stdout.decode().split() == [it.name for it in members]
+        tries.check(f"{name}: bin65 reads it",
+                    are_all and not any(it.refusal for it in library.members))
         wrong = []
         for fact, member in zip(library.members, members):
             obj = member.object()
             tables = tuple((it.name, *pair) for it in obj.exports for pair in it.condes)
             if (set(fact.exports), set(fact.imports), fact.condes, fact.sections) != (
-                    {it.name for it in obj.exports}, {it.name for it in obj.imports}, tables, tuple((it.name, it.size) for it in obj.sections)):
+                    {it.name for it in obj.exports}, {it.name for it in obj.imports}, tables,
+                    tuple((it.name, it.size) for it in obj.sections)):
                 wrong.append(fact)
-        tries.check(f"{name}: what is known of the members", not wrong and len(members) > 400, wrong[:1])
+        tries.check(f"{name}: what is known of the members", not wrong and len(members) > 400,
+                    wrong[:1])
         drawn(tries, path, name, library)
 
 
@@ -269,19 +309,22 @@ def drawn(tries, path, name, library):
     """Programs that use two exports of a library, linked by both linkers."""
     chance, linked, wrong = random.Random(name), 0, []
     rows = sorted({segment for it in library.members for segment, _ in it.sections} | {"CODE"})
-    pages.put(f"{tries.top}/l.cfg", "MEMORY { ZP: start = 0, size = $100; M: start = $1000, size = $E000; }\nSEGMENTS {\n" + "".join(
+    pages.put(f"{tries.top}/l.cfg",
+              "MEMORY { ZP: start = 0, size = $100; M: start = $1000, size = $E000; }\nSEGMENTS {\n" + "".join(
         f"{it}: load = {'ZP, type = zp' if it == 'ZEROPAGE' else 'M'}, optional = yes;\n" for it in rows) + "}\n")
     exports = [name for it in library.members for name in it.exports]
     for _ in range(100 if tries.is_all else 16):
         used = chance.sample(exports, 2)
-        user_ = made_object([("CODE", 1, [(2, False, (0x4C, ("import", at))) for at in range(2)])], used)
+        user_ = made_object([("CODE", 1, [(2, False, (0x4C, ("import", at))) for at in range(2)])],
+                            used)
         write(f"{tries.top}/u.o", user_)
-        write(f"{tries.top}/u.r65", translation.translated(cc65_objects.read_object(user_, "u.o")))
+        write(f"{tries.top}/u.r65", translated(user_))
         if tries.ran("ld65", "-C", "l.cfg", "-o", "cc65.bin", "u.o", path).returncode == 0:
             linked += 1
             ran = tries.ran(tries.program, "ld65", "-C", "l.cfg", "-o", "bin65.bin", "u.r65", name)
             if ran.returncode or read(f"{tries.top}/cc65.bin") != read(f"{tries.top}/bin65.bin"):
                 wrong.append((used, ran.stderr))
+    print(f"{name}: {linked} programs that use it")
     tries.check(f"{name}: programs that use it", linked > 3 and not wrong, (linked, wrong[:3]))
 
 
@@ -290,8 +333,10 @@ def example(tries):
     shutil.copytree(f"{pages.ROOT}/example/convert", f"{tries.top}/example/convert")
     shutil.copy(f"{pages.ROOT}/example/convert.sh", f"{tries.top}/example")
     how = {**os.environ, "WORK65": WORK65}
-    ran = subprocess.run(["sh", f"{tries.top}/example/convert.sh", tries.program], capture_output=True, text=True, env=how, check=False)
-    tries.check("the example", ran.returncode == 0 and ran.stdout.endswith("squares.prg is the image that cc65 makes.\n"), ran)
+    ran = subprocess.run(["sh", f"{tries.top}/example/convert.sh", tries.program],
+                         capture_output=True, text=True, env=how, check=False)
+    is_so = ran.stdout.endswith("squares.prg is the image that cc65 makes.\n")
+    tries.check("the example", ran.returncode == 0 and is_so, ran)
 
 
 def nothing(tries):

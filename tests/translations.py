@@ -32,7 +32,8 @@ SEGMENTS {
 OPERATORS = (*range(0x01, 0x16),)
 PREFIXES = (0x41, 0x42, 0x43, 0x44, *range(0x48, 0x51))
 DIVISIONS, SHIFTS, OR, AND, SHIFT_RIGHT, DWORD = (0x04, 0x05), (0x09, 0x0A), 0x06, 0x08, 0x0A, 0x4F
-NUMBERS = (0, 1, 2, 3, 5, 7, 8, 15, 16, 127, 128, 255, 256, 0x8000, 0xFFFF, 0x10000, 0x12345678, 0x7FFFFFFF, -1, -2, -128, -256, -0x80000000)
+NUMBERS = (0, 1, 2, 3, 5, 7, 8, 15, 16, 127, 128, 255, 256, 0x8000, 0xFFFF, 0x10000, 0x12345678,
+           0x7FFFFFFF, -1, -2, -128, -256, -0x80000000)
 
 
 class Tries:
@@ -50,27 +51,36 @@ class Tries:
         return subprocess.run(words, cwd=self.top, capture_output=True, check=False)
 
     def work65(self, *words, **more):
-        how = {**os.environ, "BIN65": self.program, "TMPDIR": f"{self.top}/temporary", "XDG_CACHE_HOME": f"{self.top}/cache", **more}
-        return subprocess.run(["/bin/sh", WORK65, *words], cwd=self.top, capture_output=True, text=True, env=how, check=False)
+        how = {**os.environ, "BIN65": self.program, "TMPDIR": f"{self.top}/temporary",
+               "XDG_CACHE_HOME": f"{self.top}/cache", **more}
+        return subprocess.run(["/bin/sh", WORK65, *words], cwd=self.top, capture_output=True,
+                              text=True, env=how, check=False)
 
     def by_ld65(self, objects):
         """The image of cc65's linker, None if it refuses the objects."""
         for at, it in enumerate(objects):
             write(f"{self.top}/{at}.o", it)
-        ran = self.ran("ld65", "-C", "m.cfg", "-o", "cc65.bin", *(f"{at}.o" for at in range(len(objects))))
+        ran = self.ran("ld65", "-C", "m.cfg", "-o", "cc65.bin",
+                       *(f"{at}.o" for at in range(len(objects))))
         return None if ran.returncode else read(f"{self.top}/cc65.bin")
 
     def by_bin65(self, objects):
         """The image of bin65's linker for the translated objects, or the message (a text) if it or
         the translation refuses them."""
         try:
-            found = [translation.translated(cc65_objects.read_object(it, f"{at}.o")) for at, it in enumerate(objects)]
+            found = [translated(it, f"{at}.o") for at, it in enumerate(objects)]
         except Problem as problem:
             return str(problem)
         for at, it in enumerate(found):
             write(f"{self.top}/{at}.r65", it)
-        ran = self.ran(self.program, "ld65", "-C", "m.cfg", "-o", "bin65.bin", *(f"{at}.r65" for at in range(len(found))))
+        ran = self.ran(self.program, "ld65", "-C", "m.cfg", "-o", "bin65.bin",
+                       *(f"{at}.r65" for at in range(len(found))))
         return ran.stderr.decode() if ran.returncode else read(f"{self.top}/bin65.bin")
+
+
+def translated(data, name="m.o"):
+    """The translation of an object's bytes."""
+    return translation.translated(cc65_objects.read_object(data, name))
 
 
 def write(name, data):
@@ -87,11 +97,13 @@ def random_expression(chance, depth):
     """An expression of four imports (two addresses and two numbers) and three sections."""
     if depth == 0 or chance.random() < 0.15:
         section = ("section", chance.randrange(3))
-        return chance.choice((chance.choice(NUMBERS), chance.randrange(-300, 300), ("import", chance.randrange(4)), section,
+        return chance.choice((chance.choice(NUMBERS), chance.randrange(-300, 300),
+                              ("import", chance.randrange(4)), section,
                               (0x01, section, chance.randrange(-20, 400))))
     if chance.random() < 0.3:
         return (chance.choice(PREFIXES), random_expression(chance, depth - 1))
-    code, left, right = chance.choice(OPERATORS), random_expression(chance, depth - 1), random_expression(chance, depth - 1)
+    code, left, right = chance.choice(OPERATORS), random_expression(chance,
+                                                                    depth - 1), random_expression(chance, depth - 1)
     if code in DIVISIONS:
         right = (OR, (AND, right, 0x7FF), 1)
     if code in SHIFTS:
@@ -101,13 +113,16 @@ def random_expression(chance, depth):
 
 def provider():
     """The object that exports the four names: two addresses and two numbers."""
-    exports = (("first", (0x01, ("section", 0), 5), ()), ("second", ("section", 1), ()), ("third", 0x1234, ()), ("fourth", -2, ()))
-    return made_object([("CODE", 1, [b"0123456789"]), ("BSS", 4, [("fill", 7)]), ("ZEROPAGE", 1, [])], (), exports)
+    exports = (("first", (0x01, ("section", 0), 5), ()), ("second", ("section", 1), ()),
+               ("third", 0x1234, ()), ("fourth", -2, ()))
+    return made_object([("CODE", 1, [b"0123456789"]), ("BSS", 4, [("fill", 7)]),
+                        ("ZEROPAGE", 1, [])], (), exports)
 
 
 def user(fragments, assertions=()):
     """An object that has these fragments in CODE."""
-    sections = [("CODE", 1, fragments), ("RODATA", 16, [b"abc", ("fill", 5)]), ("ZEROPAGE", 2, [("fill", 3)])]
+    sections = [("CODE", 1, fragments), ("RODATA", 16, [b"abc", ("fill", 5)]),
+                ("ZEROPAGE", 2, [("fill", 3)])]
     return made_object(sections, ["first", "second", "third", "fourth"], (), assertions)
 
 

@@ -81,6 +81,7 @@ LOADED = {
     "M 800 01 runad": f"{HEAD} 00 08 00 08 01 {RUN} 34 12",
     "M 800 01, M 900  runad": f"{HEAD} 00 08 00 08 01 {RUN} 34 12",
     "M 800 01, N 900 02 initad": f"{HEAD} 00 08 00 08 01 e2 02 e3 02 78 56 00 09 00 09 02",
+    "M 800 , M 803 03 gap": f"{HEAD} 03 08 03 08 03",
     "M 800 , N 900 02 initad": f"{HEAD} 00 09 00 09 02",
 }
 
@@ -119,8 +120,8 @@ def loaded(text):
     wanted = Atari("start" if "runad" in text else "", (("M", "call"),) if "initad" in text else ())
     pieces = []
     for it in text.replace(" runad", "").replace(" initad", "").split(", "):
-        area, address, data = it.split(" ")[:3]
-        pieces.append(Piece(area, int(address, 16), bytes.fromhex(data)))
+        area, address, data, *gap = it.split(" ")
+        pieces.append(Piece(area, int(address, 16), bytes.fromhex(data), bool(gap)))
     return atari(pieces, wanted, {"start": 0x1234, "call": 0x5678}).hex(" ")
 
 

@@ -10,11 +10,12 @@ HEAD = b"\xff\xff"
 
 
 class Piece(NamedTuple):
-    """Bytes of an area and their address."""
+    """Bytes of an area, their address, and whether they begin with a gap before a segment."""
 
     area: str
     address: int
     data: bytes
+    has_gap: bool = False
 
 
 def atari(pieces: Sequence[Piece], wanted: Atari, numbers: Mapping[str, int]) -> bytes:
@@ -37,8 +38,10 @@ def atari(pieces: Sequence[Piece], wanted: Atari, numbers: Mapping[str, int]) ->
 
 
 def _with(blocks: List[Piece], it: Piece) -> List[Piece]:
-    """Returns blocks with one more, which takes the place of an empty one of another area."""
-    is_replaced = blocks and not blocks[-1].data and blocks[-1].area != it.area
+    """Returns blocks with one more. It takes the place of an empty one of another area, and so it
+    does within an area if it begins with a gap."""
+    is_other = it.has_gap or bool(blocks) and blocks[-1].area != it.area
+    is_replaced = is_other and blocks and not blocks[-1].data
     return (blocks[:-1] if is_replaced else blocks) + [it]
 
 

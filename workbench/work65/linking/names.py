@@ -2,13 +2,15 @@
 symbols."""
 from typing import Callable, Dict, List, Mapping, Optional
 
+from work65.linking import linear
 from work65.linking.config import Config, Words
 from work65.linking.linear import Linear, read
 from work65.problem import Problem
 
 
 class Names(Dict[str, Linear]):
-    """Names by which sums are computed. `placed` has those of areas and rows that are placed."""
+    """Names by which sums are computed. `placed` has those of areas and rows that are placed. Only
+    the values of symbols may have exports that aren't numbers: `takes_places` says so."""
 
     def __init__(
         self, config: str, given: Mapping[str, int], symbols: Mapping[str, Words],
@@ -18,12 +20,18 @@ class Names(Dict[str, Linear]):
         self.config, self.given, self.symbols, self.exported = config, given, symbols, exported
         self.placed: Dict[str, Linear] = {}
         self.open: List[str] = []
+        self.takes_places = False
 
     def get(self, name: str, _: object = None) -> Optional[Linear]:  # type: ignore[override]
         """Returns the value of a name, None if it has none there."""
         if name in self.placed:
             return self.placed[name]
-        number = self.given[name] if name in self.given else self.exported(name)
+        try:
+            number = self.given[name] if name in self.given else self.exported(name)
+        except Problem:
+            if not self.takes_places:
+                raise
+            return linear.name(name)
         if number is not None:
             return Linear(number)
         if name not in self.symbols or name in self.open:

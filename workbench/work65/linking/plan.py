@@ -85,6 +85,7 @@ class _Planner:
         symbols = {it.name: it.value for it in config.symbols if it.kind != "IMPORT"}
         self.names = Names(call.config, call.symbols, symbols, self.selection.number)
         self.layout = laid_out(config, self.sizes, self.names)
+        self.names.takes_places = True
         self.weak = self.weak_numbers()
 
     def plan(self) -> Plan:

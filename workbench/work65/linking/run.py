@@ -60,7 +60,9 @@ def _files(plan: Plan, folder: str, numbers: Mapping[str, int]) -> Dict[str, byt
         path = os.path.join(folder, plan.files.get(part.name, ""))
         data = read_bytes(path) if os.path.isfile(path) else b""
         if plan.config.formats.get(part.file) == ATARI:
-            piece = containers.Piece(part.area, number_of(part.symbol("START"), numbers), data)
+            start = number_of(part.symbol("START"), numbers)
+            first = numbers[f"__{part.rows[0].name}_LOAD__"] if part.rows else start + len(data)
+            piece = containers.Piece(part.area, start, data, first > start)
             pieces.setdefault(part.file, []).append(piece)
         elif part.file:
             found[part.file] = data

@@ -280,6 +280,15 @@ def config_of(some):
     return "\n".join(lines) + "\n"
 
 
+def is_load_file(data):
+    """Whether a file is blocks with their addresses up to its end, as Atari's system loads them."""
+    at = 2
+    while at + 4 <= len(data):
+        first, last = (int.from_bytes(data[at + it : at + it + 2], "little") for it in (0, 2))
+        at += 4 + (last - first + 1) % 0x10000
+    return data[:2] == b"\xff\xff" and at == len(data)
+
+
 def random_configs(tries, count):
     """Random configs with random objects: none is silently another image. ld65 takes half of them."""
     tries.folder("random")
@@ -303,6 +312,12 @@ def random_configs(tries, count):
         at += 1
         if found.text.endswith(": no file has bytes"):
             continue
+        if found.text.endswith(": in a load file"):
+            subprocess.run(["ld65", *words], check=True, capture_output=True)
+            if not is_load_file(read("image")):
+                # The defect of LOST: a block over those before, and what is left of them behind it.
+                seen["broken by ld65"] += 1
+                continue
         seen[found.verdict] += 1
         if found.verdict != "same":
             wrong.append((at - 1, found.text))

@@ -4,6 +4,7 @@
 
 mod action;
 mod concatenation;
+mod failure;
 mod list_vec;
 mod mem_store;
 mod numbers;
@@ -17,6 +18,7 @@ mod width;
 
 pub use action::Action;
 pub use concatenation::{append_all, join};
+pub use failure::{OrFailure, OrMemory};
 pub use list_vec::ListVec;
 pub use mem_store::MemStore;
 pub use numbers::digits;

@@ -3,6 +3,7 @@ pub mod Chunks
 pub mod Outcome
 pub mod SystemErrors
 pub mod WrappingOperations
+pub mod Failures
 pub mod FileIndex
 pub mod Digit
 pub mod Texts

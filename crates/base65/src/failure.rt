@@ -1,6 +1,7 @@
 //! The failures that a call may have beside an error of its own: memory was refused, or the store
 //! failed.
 
+use crate::StoreFault;
 use std::alloc::{AllocError, AllocFailed};
 use std::fmt;
 
@@ -21,6 +22,10 @@ pub enum OrFailure<E> {
     /// An error of the input.
     Error(E),
 }
+
+/// The error of a store call: there is no such file.
+#[derive(Clone, Copy, Debug, PartialEq, Eq)]
+pub struct FileNotFound;
 
 impl<E> From<AllocError> for OrMemory<E> {
     ghost use Rattle.std.specs.Prelude.{◌≡◌};
@@ -76,6 +81,20 @@ impl<E> From<OrMemory<E>> for OrFailure<E> {
         match e {
             OrMemory::OutOfMemory => OrFailure::OutOfMemory,
             OrMemory::Error(e) => OrFailure::Error(e),
+        }
+    }
+}
+
+impl<E: From<FileNotFound>> From<StoreFault> for OrFailure<E> {
+    ghost use Rattle.base65.specs.Failure.{ConvertsStoreFault};
+
+    ghost from_gives = { ConvertsStoreFault (E.from_gives (record {})) };
+
+    fn from(fault: StoreFault) -> OrFailure<E> {
+        match fault {
+            StoreFault::OutOfMemory => OrFailure::OutOfMemory,
+            StoreFault::FileNotFound => OrFailure::Error(E::from(FileNotFound)),
+            StoreFault::FileError => OrFailure::StoreFailed,
         }
     }
 }

@@ -18,7 +18,7 @@ mod width;
 
 pub use action::Action;
 pub use concatenation::{append_all, join};
-pub use failure::{OrFailure, OrMemory};
+pub use failure::{FileNotFound, OrFailure, OrMemory};
 pub use list_vec::ListVec;
 pub use mem_store::MemStore;
 pub use numbers::digits;

@@ -17,7 +17,7 @@ use Rattle.object65.specs.Items.{nonempty_literal, is_none, draft_with_fragment,
 use Rattle.object65.specs.Scanning.{is_some_fill, ends_in_fill, is_filled, next_fill, section_fill}
 use Rattle.object65.proofs.SmallParts.{left, right, and}
 use Rattle.object65.specs.declared.builder.Draft.{Draft}
-use Rattle.object65.specs.declared.fault.ObjectFault.TheVariants.{OutOfOrder}
+use Rattle.object65.specs.declared.fault.ObjectError.TheVariants.{OutOfOrder}
 use Rattle.object65.specs.declared.scan.SectionFill.{SectionFill}
 use Rattle.std.proofs.lemmas.List.{length-drop, take_all, drop_all, take-append-le, drop-append-le}
 

@@ -7,8 +7,8 @@ use Rattle.std.specs.List.{flat_map, list_all, AllByRecursion}
 use Rattle.std.specs.Str.{bytes_eq}
 use Rattle.byteorder.specs.Endian.{little_bytes, little_number}
 use Rattle.object65.specs.declared.builder.Draft.{Draft}
-use Rattle.object65.specs.declared.fault.ObjectFault.{ObjectFault}
-use Rattle.object65.specs.declared.fault.ObjectFault.TheVariants.{FailedBefore, CutShort, NotAnObject, UnknownVersion, BytesAfterEnd}
+use Rattle.object65.specs.declared.fault.ObjectError.{ObjectError}
+use Rattle.object65.specs.declared.fault.ObjectError.TheVariants.{FailedBefore, CutShort, NotAnObject, UnknownVersion, BytesAfterEnd}
 use Rattle.object65.specs.declared.object.Object.{Object}
 use Rattle.object65.specs.declared.object.Section.{Section}
 use Rattle.object65.specs.declared.object.Export.{Export}
@@ -160,7 +160,7 @@ end_read : (xs : List ℕ) (u : Unit {0}) → (if nat_lt 0 (length (take 1 xs)) 
 end_read x u e = grind (arith, common_steps)
 
 finish_read : (t : State) (o : Object) → t.failed ≡ false → t.ended ≡ true → object_of_state t ≡ Ok o → object_from t ≡ o
-finish_read t o running ended e = let same : ◌≡◌ {A = Result Object ObjectFault} (Ok (object_from t)) (Ok o) = sym (ap (λ b. if b then Err FailedBefore else (if t.ended then Ok (object_from t) else Err CutShort)) running ∙ ap (λ b. if b then Ok (object_from t) else Err CutShort) ended) ∙ e in cc
+finish_read t o running ended e = let same : ◌≡◌ {A = Result Object ObjectError} (Ok (object_from t)) (Ok o) = sym (ap (λ b. if b then Err FailedBefore else (if t.ended then Ok (object_from t) else Err CutShort)) running ∙ ap (λ b. if b then Ok (object_from t) else Err CutShort) ended) ∙ e in cc
 
 pub read_is_object : (bytes : List ℕ) (at limit : ℕ) (o : Object) → IsBytes (bytes_between bytes at limit) → object_at at limit bytes ≡ Ok o → IsObject (bytes_between bytes at limit) o
 unfolding object_at
@@ -262,7 +262,7 @@ same_trail v w (e ∷ es) (f ∷ fs) s t u more short_e short_f h k over_t over_
     let first = entry_same e f (flat_map record_bytes es ++ more) (flat_map record_bytes fs) short_e.0.1 short_f.0.1 (sym (append_assoc (record_bytes e) (flat_map record_bytes es) more) ∙ same) in
     let y = bound (state_after_record s e) _ _ h in
     let z = bound (state_after_record s f) _ _ k in
-    let step : ◌≡◌ {A = Result State ObjectFault} (Ok z.0) (Ok y.0) = sym z.1 ∙ ap (state_after_record s) (sym first.0) ∙ y.1 in
+    let step : ◌≡◌ {A = Result State ObjectError} (Ok z.0) (Ok y.0) = sym z.1 ∙ ap (state_after_record s) (sym first.0) ∙ y.1 in
     let there : z.0 ≡ y.0 = cc in
     same_trail v w es fs y.0 t u more short_e.1 short_f.1 y.2 (ap (λ x. state_after_records x fs) (sym there) ∙ z.2) over_t over_u first.1
 
@@ -274,7 +274,7 @@ no_prefix bytes more o p a b =
     let version : p.version ≡ o.version = sym (fifth (o.version ∷ (flat_map record_bytes (object_records o) ++ more)) (p.version ∷ flat_map record_bytes (object_records p)) (ap (drop 4) whole)) in
     let taken = ap (λ v. state_after_records (start v) (object_records p)) (sym version) ∙ second.taken in
     let same = same_trail o.version p.version (object_records o) (object_records p) (start o.version) first.state second.state more (short_entries o a.well_formed) (short_entries p b.well_formed) first.taken taken first.ended second.ended (ap (drop 5) whole) in
-    let objects : ◌≡◌ {A = Result Object ObjectFault} (Ok o) (Ok p) = sym first.object ∙ ap object_of_state same.1 ∙ second.object in
+    let objects : ◌≡◌ {A = Result Object ObjectError} (Ok o) (Ok p) = sym first.object ∙ ap object_of_state same.1 ∙ second.object in
     (same.0, cc)
   where
     fifth : (xs ys : List ℕ) → xs ≡ ys → get_or xs 0 0 ≡ get_or ys 0 0

@@ -9,8 +9,8 @@ use Rattle.std.specs.Int.{w64, cast_signed, cast_unsigned}
 use Rattle.std.specs.Prelude.{FitsSigned}
 use Rattle.byteorder.specs.Endian.{little_number, little_bytes}
 use Rattle.byteorder.specs.Numbers.{length-bytes_low_first, little_from-lt}
-use Rattle.object65.specs.declared.fault.ObjectFault.{ObjectFault}
-use Rattle.object65.specs.declared.fault.ObjectFault.TheVariants.{BadSize}
+use Rattle.object65.specs.declared.fault.ObjectError.{ObjectError}
+use Rattle.object65.specs.declared.fault.ObjectError.TheVariants.{BadSize}
 use Rattle.base65.specs.declared.values.Op1.{Op1}
 use Rattle.base65.specs.declared.values.Op1.TheVariants.{Plus, Negate, BitNot, LowByte, HighByte, BankByte, Not}
 use Rattle.base65.specs.declared.values.Op2.{Op2}
@@ -33,7 +33,7 @@ use Rattle.object65.proofs.RecordSequences.{bound, passes}
 use borrow.Author.Tests.{ltb-false}
 
 abbrev Part : Type 0
-Part = List ℕ → Result (Form × List ℕ) ObjectFault
+Part = List ℕ → Result (Form × List ℕ) ObjectError
 
 nil : (xs : List ℕ) → xs ++ [] ≡ xs
 nil [] = refl

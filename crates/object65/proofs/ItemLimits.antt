@@ -3,11 +3,12 @@ use Rattle.std.proofs.lemmas.Grind.{common_steps}
 use Rattle.std.proofs.Common.{◌≡◌, ◌∙◌, ◌≤◌, ℕ, List, [], ◌∷◌, ◌++◌, length, true, ◌&&◌, nat_le, Result, Ok, Err, refl, ap, subst, arith, ◌+◌, zero, suc, Option, Some, Bool, false, ◌==◌, if◌then◌else◌, sym}
 use Rattle.std.proofs.lemmas.Bool.Decides.{nat_tests}
 use Rattle.std.specs.List.{list_all, AllByRecursion}
-use Rattle.object65.specs.declared.fault.ObjectFault.{ObjectFault}
+use Rattle.object65.specs.declared.fault.ObjectError.{ObjectError}
 use Rattle.object65.specs.declared.object.Object.{Object}
 use Rattle.object65.specs.declared.object.Section.{Section}
 use Rattle.std.specs.Prelude.{IfOk, slice_get, slice_set}
-use Rattle.object65.specs.Record.{◌>>=◌, Refines, is_memory, RawRecord, is_version}
+use Rattle.base65.specs.declared.failure.OrMemory.{OrMemory}
+use Rattle.object65.specs.Record.{◌>>=◌, RefinesOrMemory, RawRecord, is_version}
 use Rattle.object65.specs.Objects.{is_well_formed_object, is_well_formed_section, is_well_formed_fragment, are_all_merged, section_len, section_limit, fragment_len}
 use Rattle.object65.specs.Small.{is_small_text}
 use Rattle.object65.specs.Scanning
@@ -17,7 +18,7 @@ use Rattle.object65.proofs.ReachedStates.{GoodState, GoodDraft}
 use Rattle.object65.proofs.RecordSequences.{bound, version_kept, going}
 use Rattle.object65.proofs.Steps.{good_after, good_start}
 use Rattle.object65.specs.declared.builder.Draft.{Draft}
-use Rattle.object65.specs.declared.fault.ObjectFault.TheVariants.{FailedBefore, FileError, OutOfOrder}
+use Rattle.object65.specs.declared.fault.ObjectError.TheVariants.{FailedBefore, OutOfOrder}
 use Rattle.object65.specs.declared.record.Item.{Item}
 use Rattle.object65.specs.declared.record.Item.TheVariants as item
 use Rattle.object65.specs.declared.object.Fragment.{Fragment}
@@ -25,7 +26,6 @@ use Rattle.object65.specs.declared.builder.Parts.{Parts}
 use Rattle.object65.specs.Items.{State, draft_with_fragment, with_item, drafts_with_fragment, drafts_with_fragment_at, empty_draft, has_small_text}
 use Rattle.object65.specs.Internal.Sound.{FitsDrafts, BuilderInvariant, IsReachable, state_in, state_of, without_scan_flags}
 use Rattle.object65.specs.Scanning.{IsReached, state_after_record}
-use Rattle.base65.specs.Outcome.{Unless}
 use Rattle.object65.proofs.Scannings.{IsPlaced, Leads, is_end, leads}
 
 -- ---- The invariant of a builder that hasn't failed.
@@ -72,8 +72,9 @@ pub good_sized : (o : Object) → is_well_formed_object o ≡ true → AllByRecu
 good_sized o e = sized_sections (length o.sections) (length o.imports) o.sections (parts o e).sections
 
 -- a property of the only possible success is a property of the result
-pub if_given : {X : Type 0} (result : Result X ObjectFault) (x : X) (P : X → Type 0) → Refines is_memory (λ y. y) result (Ok x) → P x → IfOk result P
-if_given y x z given p = grind (arith, common_steps)
+pub if_given : {E X : Type 0} (result : Result X E) (x : X) (P : X → Type 0) → IfOk result (λ y. y ≡ x) → P x → IfOk result P
+if_given (Ok y) x P is p = subst P (sym is) p
+if_given (Err e) x P is p = tt
 
 -- ---- The result of a call.
 
@@ -103,16 +104,11 @@ ended_by s t e h =
     ends s (item.Export name origin form) going = going
     ends s (item.Assert action origin text form) going = going
 
--- no record has a store error
-pub after_free : (s : State) (e : RawRecord) → state_after_record s e ≡ Err FileError → ⊥
-unfolding state_after_record
-after_free s e = grind (arith, common_steps, leads)
-
-pub taken_from : (s : State) (o : Scanning.Outline) (e : RawRecord) (new : Scanning.Outline) (result : Result Item ObjectFault) → o ≡ Scanning.outline_of s → Refines is_memory (λ i. (new, i)) result (Scanning.scan_step o e) → Refines is_memory (λ i. with_item s i) result (state_after_record s e)
+pub taken_from : (s : State) (o : Scanning.Outline) (e : RawRecord) (new : Scanning.Outline) (result : Result Item (OrMemory ObjectError)) → o ≡ Scanning.outline_of s → RefinesOrMemory (λ i. (new, i)) result (Scanning.scan_step o e) → RefinesOrMemory (λ i. with_item s i) result (state_after_record s e)
 unfolding state_after_record
 taken_from s o e new x same h = grind (arith, common_steps)
 
-pub kept_from : (s : State) (o : Scanning.Outline) (e : RawRecord) (new : Scanning.Outline) (result : Result Item ObjectFault) → o ≡ Scanning.outline_of s → Refines is_memory (λ i. (new, i)) result (Scanning.scan_step o e) → IfOk result (λ i. new ≡ Scanning.outline_of (with_item s i))
+pub kept_from : (s : State) (o : Scanning.Outline) (e : RawRecord) (new : Scanning.Outline) (result : Result Item (OrMemory ObjectError)) → o ≡ Scanning.outline_of s → RefinesOrMemory (λ i. (new, i)) result (Scanning.scan_step o e) → IfOk result (λ i. new ≡ Scanning.outline_of (with_item s i))
 kept_from s o e new (Ok i) same h = (led s o e (new, i) same h).1
 kept_from s o e new (Err f) same h = tt
 
@@ -169,7 +165,7 @@ within_of_item s item.End placed good small = tt
 
 -- ---- A scan.
 
-pub scanned_on : (o : Scanning.Outline) (e : RawRecord) (q : Result (Scanning.Outline × Item) ObjectFault) → o.failed ≡ false → o.ended ≡ false → Scanning.scan_record o e ≡ q → Scanning.scan_step o e ≡ q
+pub scanned_on : (o : Scanning.Outline) (e : RawRecord) (q : Result (Scanning.Outline × Item) ObjectError) → o.failed ≡ false → o.ended ≡ false → Scanning.scan_record o e ≡ q → Scanning.scan_step o e ≡ q
 unfolding Scanning.scan_step
 scanned_on o e q running going h = ap (λ b. if b then Err FailedBefore else (if o.ended then Err OutOfOrder else Scanning.scan_record o e)) running ∙ ap (λ b. if b then Err OutOfOrder else Scanning.scan_record o e) going ∙ h
 
@@ -199,9 +195,8 @@ texts_next s o x small h = grind (arith, common_steps)
 pub joined_next : (p q : Parts) (o n : Scanning.Outline) (i : Item) → state_of q ≡ without_scan_flags (with_item (state_of p) i) → n ≡ Scanning.outline_of (with_item (state_in p o) i) → state_in q n ≡ with_item (state_in p o) i
 joined_next p q o n i parts scan = grind (arith, common_steps)
 
-pub whole_next : (p q : Parts) (o n : Scanning.Outline) (e : RawRecord) (i : Item) → BuilderInvariant p o → Scanning.scan_step o e ≡ Ok (n, i) → Scanning.IsWithinLimits o i → ◌≡◌ {A = Result State ObjectFault} (Ok (without_scan_flags (with_item (state_of p) i))) (Ok (state_of q)) → BuilderInvariant q n
-whole_next p q o n e i w h within added =
-    let parts : state_of q ≡ without_scan_flags (with_item (state_of p) i) = cc in
+pub whole_next : (p q : Parts) (o n : Scanning.Outline) (e : RawRecord) (i : Item) → BuilderInvariant p o → Scanning.scan_step o e ≡ Ok (n, i) → Scanning.IsWithinLimits o i → state_of q ≡ without_scan_flags (with_item (state_of p) i) → BuilderInvariant q n
+whole_next p q o n e i w h within parts =
     let s = state_in p o in
     let l = led s o e (n, i) w.scanned h in
     let same = joined_next p q o n i parts l.1 in

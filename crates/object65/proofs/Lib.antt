@@ -3,7 +3,6 @@ pub mod Drafts
 pub mod Fields
 pub mod Foldings
 pub mod Forms
-pub mod NoStoreErrors
 pub mod SmallParts
 pub mod Names
 pub mod Numbers
@@ -11,7 +10,6 @@ pub mod ReachedStates
 pub mod Records
 pub mod Scannings
 pub mod RecordLimits
-pub mod ObjectExistence
 pub mod ScanInvariants
 pub mod Encodings
 pub mod Steps

@@ -11,7 +11,7 @@ use Rattle.std.specs.Prelude.{slice_get, slice_set}
 use Rattle.std.specs.Str.{is_utf8}
 use Rattle.byteorder.specs.Endian.{little_number, little_bytes}
 use Rattle.object65.specs.declared.builder.Draft.{Draft}
-use Rattle.object65.specs.declared.fault.ObjectFault.TheVariants.{BadSize, NotCanonical, IndexOutOfRange}
+use Rattle.object65.specs.declared.fault.ObjectError.TheVariants.{BadSize, NotCanonical, IndexOutOfRange}
 use Rattle.object65.specs.declared.object.Export.{Export}
 use Rattle.object65.specs.declared.object.Assert.{Assert}
 use Rattle.object65.specs.declared.object.Fragment.{Fragment}

@@ -5,8 +5,8 @@ use Rattle.std.proofs.lemmas.List.{take-append-drop, drop-drop, length-take, dro
 use Rattle.std.proofs.lemmas.Bool.Decides.{nat_tests}
 use borrow.Author.Tests.{ltb-false}
 use Rattle.byteorder.specs.Endian.{little_number, little_bytes}
-use Rattle.object65.specs.declared.fault.ObjectFault.{ObjectFault}
-use Rattle.object65.specs.declared.fault.ObjectFault.TheVariants.{CutShort, UnknownRecord, BadSize, OutOfOrder, FailedBefore}
+use Rattle.object65.specs.declared.fault.ObjectError.{ObjectError}
+use Rattle.object65.specs.declared.fault.ObjectError.TheVariants.{CutShort, UnknownRecord, BadSize, OutOfOrder, FailedBefore}
 use Rattle.object65.specs.Record.{IsBytes, ◌>>=◌, RawRecord, is_record_kind}
 use Rattle.object65.specs.Reading.{record_header, body_or_cut_short, record_with_end, bytes_between, record_at, file_limit, records_at}
 use Rattle.object65.specs.Spelling.{record_bytes, body_limit}
@@ -18,11 +18,11 @@ use Rattle.object65.specs.Scanning.{Outline, scan_step, state_after_record, stat
 
 -- ---- A record between an offset and a limit, and its bytes there.
 
-pub passes : {A : Type 0} (b : Bool) (f : ObjectFault) (r : Result A ObjectFault) (y : A) → cond b (Err f) r ≡ Ok y → (b ≡ false) × (r ≡ Ok y)
+pub passes : {A : Type 0} (b : Bool) (f : ObjectError) (r : Result A ObjectError) (y : A) → cond b (Err f) r ≡ Ok y → (b ≡ false) × (r ≡ Ok y)
 passes true f r y e = cc
 passes false f r y e = (refl, e)
 
-pub bound : {A B : Type 0} (r : Result A ObjectFault) (f : A → Result B ObjectFault) (y : B) → (r >>= f) ≡ Ok y → (x : A) × (r ≡ Ok x) × (f x ≡ Ok y)
+pub bound : {A B : Type 0} (r : Result A ObjectError) (f : A → Result B ObjectError) (y : B) → (r >>= f) ≡ Ok y → (x : A) × (r ≡ Ok x) × (f x ≡ Ok y)
 bound x f y e = grind (arith, common_steps)
 
 take_none : (n : ℕ) → take n (let none : List ℕ = [] in none) ≡ []
@@ -155,7 +155,7 @@ trail (suc left) bytes limit at s t end is e =
     let one = read_entry bytes limit at r.0 is read in
     elim (either u.0.ended) [
       | inl over ↦
-          let same : ◌≡◌ {A = Result (State × ℕ) ObjectFault} (Ok (u.0, r.0.1)) (Ok (t, end)) = sym (chosen u.0.ended _ _ over) ∙ u.2 in
+          let same : ◌≡◌ {A = Result (State × ℕ) ObjectError} (Ok (u.0, r.0.1)) (Ok (t, end)) = sym (chosen u.0.ended _ _ over) ∙ u.2 in
           let last : ◌≡◌ {A = State × ℕ} (u.0, r.0.1) (t, end) = cc in
           (r.0.0 ∷ [], last_one bytes limit at end s t u.0 r.0 one read u.1 over (ap (λ p. p.0) last) (ap (λ p. p.1) last))
       | inr not_yet ↦

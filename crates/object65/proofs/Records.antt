@@ -1,19 +1,21 @@
 -- Records that are read in order, also from a buffer.
 use Rattle.std.proofs.lemmas.Grind.{common_steps}
-use Rattle.std.proofs.Common.{◌≡◌, ◌∙◌, ◌<◌, ◌≤◌, ℕ, zero, suc, ◌+◌, ◌-◌, List, [], length, take, Bool, true, false, if◌then◌else◌, Option, Some, None, Result, Ok, Err, refl, sym, ap, arith, ◌∷◌, ◌++◌, drop, nat_le, nat_lt}
+use Rattle.std.proofs.Common.{◌≡◌, ◌∙◌, ◌<◌, ◌≤◌, ℕ, zero, suc, ◌+◌, ◌-◌, List, [], length, take, Bool, true, false, if◌then◌else◌, Option, Some, None, Result, Ok, Err, refl, sym, ap, subst, arith, ◌∷◌, ◌++◌, drop, nat_le, nat_lt}
 use Rattle.std.specs.Prelude.{IfSome, min}
 use Rattle.std.proofs.lemmas.List.{take-append-drop, take-append-le, drop-append-le, take_all, length-take, length-drop, drop-drop, take_rest, take_min, take-take}
 use Rattle.std.specs.FinMap as map
-use Rattle.base65.specs.Store.{Files, PropagatesIoError}
-use Rattle.object65.specs.declared.fault.ObjectFault.{ObjectFault}
-use Rattle.object65.specs.declared.fault.ObjectFault.TheVariants.{CutShort, FileError, FileNotFound}
-use Rattle.object65.specs.Record.{◌>>=◌, RefinesErr, is_memory, is_system_error, Refines, RawRecord}
-use Rattle.object65.specs.Reading.{head_at, head_of, record_at, end_at, in_file, record_header, body_or_cut_short, record_with_end, bytes_between, IsLimitedRead, records_at, object_at, IsAhead, RecordReaderView, bytes_from, has_record, record_in, record_len}
+use Rattle.base65.specs.declared.failure.OrFailure.{OrFailure}
+use Rattle.base65.specs.declared.failure.OrMemory.{OrMemory}
+use Rattle.base65.specs.Failure.{RefinesErrOrFailure, RefinesErrOrMemory, of_or_memory}
+use Rattle.base65.specs.Store.{Files}
+use Rattle.base65.proofs.Failures.{passed_on, without_store}
+use Rattle.object65.specs.declared.fault.ObjectError.{ObjectError}
+use Rattle.object65.specs.declared.fault.ObjectError.TheVariants.{CutShort}
+use Rattle.object65.specs.Record.{◌>>=◌, RawRecord}
+use Rattle.object65.specs.Reading.{head_at, head_of, record_at, end_at, in_file, record_header, body_or_cut_short, record_with_end, bytes_between, records_at, object_at, IsAhead, RecordReaderView, bytes_from, has_record, record_in, record_len}
 use Rattle.object65.specs.Scanning.{State, start, state_after_record, object_of_state}
 use Rattle.object65.specs.declared.object.Object.{Object}
-use Rattle.base65.specs.Outcome.{Unless}
 use Rattle.object65.proofs.RecordSequences.{version_kept, passes, room_on}
-use Rattle.object65.proofs.ItemLimits.{after_free}
 use Rattle.std.proofs.lemmas.Bool.Decides.{nat_tests}
 use Rattle.std.specs.FinMap.{get}
 use borrow.Author.Tests.{ltb-false}
@@ -25,7 +27,7 @@ unfolding record_at
 cut v at limit bytes past = grind (arith, common_steps)
 
 -- the record as the borrower of the reader sees it
-pub seen : (known : Option Files) (read : Files → Result (RawRecord × ℕ) ObjectFault) (shown of_reader : RawRecord) (next : ℕ) → shown ≡ of_reader → IfSome known (λ m. read m ≡ Ok (of_reader, next)) → IfSome known (λ m. read m ≡ Ok (shown, next))
+pub seen : (known : Option Files) (read : Files → Result (RawRecord × ℕ) ObjectError) (shown of_reader : RawRecord) (next : ℕ) → shown ≡ of_reader → IfSome known (λ m. read m ≡ Ok (of_reader, next)) → IfSome known (λ m. read m ≡ Ok (shown, next))
 seen known read shown of_reader next same h = rw same h
 
 -- reading from `next` on has the same result as reading from the beginning
@@ -38,7 +40,7 @@ pub record Goes (v : ℕ) (bytes : List ℕ) (limit at next : ℕ) (s : State) :
 pub begins : (v : ℕ) (bytes : List ℕ) (limit at : ℕ) → Goes v bytes limit at at (start v)
 begins v bytes limit at = record { version = refl; left = length bytes; enough = omega arith; same = refl }
 
-unread : (left : ℕ) (s : State) (next limit : ℕ) (bytes : List ℕ) (f : ObjectFault) → length bytes ≤ next + left → record_at s.version next limit bytes ≡ Err f → records_at left s next limit bytes ≡ Err f
+unread : (left : ℕ) (s : State) (next limit : ℕ) (bytes : List ℕ) (f : ObjectError) → length bytes ≤ next + left → record_at s.version next limit bytes ≡ Err f → records_at left s next limit bytes ≡ Err f
 unread zero s next limit bytes f enough e = let is : CutShort ≡ f = cc (cut s.version next limit bytes (omega arith)) in ap Err is
 unread (suc left) s next limit bytes f enough e = rw e refl
 
@@ -47,14 +49,14 @@ one zero s next limit bytes r enough e = cc (cut s.version next limit bytes (ome
 one (suc left) s next limit bytes r enough e = (left, refl, rw e refl)
 
 -- the state has the version
-by_state : (v : ℕ) (s : State) (next limit : ℕ) (bytes : List ℕ) (r : Result (RawRecord × ℕ) ObjectFault) → s.version ≡ v → record_at v next limit bytes ≡ r → record_at s.version next limit bytes ≡ r
+by_state : (v : ℕ) (s : State) (next limit : ℕ) (bytes : List ℕ) (r : Result (RawRecord × ℕ) ObjectError) → s.version ≡ v → record_at v next limit bytes ≡ r → record_at s.version next limit bytes ≡ r
 by_state v s next limit bytes r same e = ap (λ k. record_at k next limit bytes) same ∙ e
 
 -- the four cases: a read error, a rejected record, an END record, any other record
-pub stops_reading : (v : ℕ) (bytes : List ℕ) (limit at next : ℕ) (s : State) (f : ObjectFault) → Goes v bytes limit at next s → record_at v next limit bytes ≡ Err f → records_at (length bytes) (start v) at limit bytes ≡ Err f
+pub stops_reading : (v : ℕ) (bytes : List ℕ) (limit at next : ℕ) (s : State) (f : ObjectError) → Goes v bytes limit at next s → record_at v next limit bytes ≡ Err f → records_at (length bytes) (start v) at limit bytes ≡ Err f
 stops_reading v bytes limit at next s f goes e = sym goes.same ∙ unread goes.left s next limit bytes f goes.enough (by_state v s next limit bytes _ goes.version e)
 
-pub stops_taking : (v : ℕ) (bytes : List ℕ) (limit at next : ℕ) (s : State) (r : RawRecord × ℕ) (f : ObjectFault) → Goes v bytes limit at next s → record_at v next limit bytes ≡ Ok r → state_after_record s r.0 ≡ Err f → records_at (length bytes) (start v) at limit bytes ≡ Err f
+pub stops_taking : (v : ℕ) (bytes : List ℕ) (limit at next : ℕ) (s : State) (r : RawRecord × ℕ) (f : ObjectError) → Goes v bytes limit at next s → record_at v next limit bytes ≡ Ok r → state_after_record s r.0 ≡ Err f → records_at (length bytes) (start v) at limit bytes ≡ Err f
 stops_taking v bytes limit at next s r f goes e h =
     let k = one goes.left s next limit bytes r goes.enough (by_state v s next limit bytes _ goes.version e) in
     sym goes.same ∙ k.2 ∙ rw h refl
@@ -72,46 +74,26 @@ abbrev pub GoesIn : ℕ → Option Files → List ℕ → ℕ → ℕ → ℕ �
 GoesIn v known name limit at next s = IfSome known (λ m. IfSome (map.get m name) (λ bytes. Goes v bytes limit at next s))
 
 -- the result of reading the records of a file
-abbrev pub all_in : ℕ → Option (List ℕ) → ℕ → ℕ → Result (State × ℕ) ObjectFault
+abbrev pub all_in : ℕ → Option (List ℕ) → ℕ → ℕ → Result (State × ℕ) ObjectError
 all_in v file at limit = in_file file (λ bytes. records_at (length bytes) (start v) at limit bytes)
-
-unless : (b : Bool) {P Q : Type 0} → (P → Q) → Unless b P → Unless b Q
-unless true h p = tt
-unless false h p = h p
-
--- `RefinesErr` with the exception of *out of memory* implies `RefinesErr` with the exception of all system errors
-pub memory_outside : {A : Type 0} (e : ObjectFault) (r : Result A ObjectFault) → RefinesErr is_memory e r → RefinesErr is_system_error e r
-memory_outside x r h = grind (arith, common_steps)
-
--- a successful call doesn't change the failure counter
-pub kept_count : {T : Type 0} (old now : ℕ) (x : T) → PropagatesIoError {E = ObjectFault} FileError old now (Ok x) → now ≡ old
-kept_count old now x passes = grind (arith, common_steps)
-
--- any other error reports no store failure
-pub none_passed : {T : Type 0} (old now : ℕ) (e : ObjectFault) → now ≡ old → (e ≡ FileError → ⊥) → PropagatesIoError {T = T} FileError old now (Err e)
-none_passed old now e same other = grind (arith, common_steps)
-
--- adding a record has no store error
-pub not_stored : (s : State) (x : RawRecord) (e : ObjectFault) → RefinesErr is_memory e (state_after_record s x) → e ≡ FileError → ⊥
-not_stored s x e refused is = after_free s x (rw is at refused)
 
 module _ (v limit at next : ℕ) where
   pub begins_in : (known : Option Files) (name : List ℕ) → GoesIn v known name limit at at (start v)
   begins_in x name = grind (arith, common_steps, begins)
 
-  pub reading_stops : (known now : Option Files) (name : List ℕ) (s : State) (e : ObjectFault) → now ≡ known → GoesIn v known name limit at next s → IfSome now (λ m. RefinesErr is_system_error e (in_file (map.get m name) (record_at v next limit))) → IfSome known (λ m. RefinesErr is_system_error e (all_in v (map.get m name) at limit))
+  pub reading_stops : (known now : Option Files) (name : List ℕ) (s : State) (e : OrFailure ObjectError) → now ≡ known → GoesIn v known name limit at next s → IfSome now (λ m. RefinesErrOrFailure e (in_file (map.get m name) (record_at v next limit))) → IfSome known (λ m. RefinesErrOrFailure e (all_in v (map.get m name) at limit))
   reading_stops None now name s e same goes refused = tt
   reading_stops (Some m) now name s e same goes refused = file (map.get m name) goes (rw same at refused) where
-    file : (f : Option (List ℕ)) → IfSome f (λ bytes. Goes v bytes limit at next s) → RefinesErr is_system_error e (in_file f (record_at v next limit)) → RefinesErr is_system_error e (all_in v f at limit)
-    file None goes refused = unless (is_system_error e) (λ h. let is : FileNotFound ≡ e = cc in ap Err is) refused
-    file (Some bytes) goes refused = unless (is_system_error e) (stops_reading v bytes limit at next s e goes) refused
+    file : (f : Option (List ℕ)) → IfSome f (λ bytes. Goes v bytes limit at next s) → RefinesErrOrFailure e (in_file f (record_at v next limit)) → RefinesErrOrFailure e (all_in v f at limit)
+    file None goes refused = refused
+    file (Some bytes) goes refused = passed_on e _ _ (λ f. stops_reading v bytes limit at next s f goes) refused
 
-  pub taking_stops : (known now : Option Files) (name : List ℕ) (s : State) (r : RawRecord × ℕ) (e : ObjectFault) → now ≡ known → GoesIn v known name limit at next s → IfSome now (λ m. in_file (map.get m name) (record_at v next limit) ≡ Ok r) → RefinesErr is_system_error e (state_after_record s r.0) → IfSome known (λ m. RefinesErr is_system_error e (all_in v (map.get m name) at limit))
+  pub taking_stops : (known now : Option Files) (name : List ℕ) (s : State) (r : RawRecord × ℕ) (e : OrMemory ObjectError) → now ≡ known → GoesIn v known name limit at next s → IfSome now (λ m. in_file (map.get m name) (record_at v next limit) ≡ Ok r) → RefinesErrOrMemory e (state_after_record s r.0) → IfSome known (λ m. RefinesErrOrFailure (of_or_memory e) (all_in v (map.get m name) at limit))
   taking_stops None now name s r e same goes read refused = tt
   taking_stops (Some m) now name s r e same goes read refused = file (map.get m name) goes (rw same at read) where
-    file : (f : Option (List ℕ)) → IfSome f (λ bytes. Goes v bytes limit at next s) → in_file f (record_at v next limit) ≡ Ok r → RefinesErr is_system_error e (all_in v f at limit)
+    file : (f : Option (List ℕ)) → IfSome f (λ bytes. Goes v bytes limit at next s) → in_file f (record_at v next limit) ≡ Ok r → RefinesErrOrFailure (of_or_memory e) (all_in v f at limit)
     file None goes read = cc
-    file (Some bytes) goes read = unless (is_system_error e) (stops_taking v bytes limit at next s r e goes read) refused
+    file (Some bytes) goes read = passed_on (of_or_memory e) (state_after_record s r.0) _ (λ f. stops_taking v bytes limit at next s r f goes read) (without_store e _ refused)
 
   pub ends_in : (known now : Option Files) (name : List ℕ) (s t : State) (r : RawRecord × ℕ) → now ≡ known → GoesIn v known name limit at next s → IfSome now (λ m. in_file (map.get m name) (record_at v next limit) ≡ Ok r) → state_after_record s r.0 ≡ Ok t → t.ended ≡ true → IfSome known (λ m. all_in v (map.get m name) at limit ≡ Ok (t, r.1))
   ends_in x now name s t r same goes read taken ended = grind (arith, common_steps, ends)
@@ -120,70 +102,63 @@ module _ (v limit at next : ℕ) where
   goes_on_in x now name s t r same goes read later taken ended = grind (arith, common_steps, goes_on)
 
 -- an error after the END record is an error of reading the object
-after_refused : (bytes : List ℕ) (at limit : ℕ) (first : ℕ × ℕ) (s : State) (end : ℕ) (e : ObjectFault) → head_at at limit bytes ≡ Ok first → records_at (length bytes) (start first.0) first.1 limit bytes ≡ Ok (s, end) → RefinesErr is_system_error e (end_at end limit bytes) → RefinesErr is_system_error e (object_at at limit bytes)
+after_refused : (bytes : List ℕ) (at limit : ℕ) (first : ℕ × ℕ) (s : State) (end : ℕ) (e : OrFailure ObjectError) → head_at at limit bytes ≡ Ok first → records_at (length bytes) (start first.0) first.1 limit bytes ≡ Ok (s, end) → RefinesErrOrFailure e (end_at end limit bytes) → RefinesErrOrFailure e (object_at at limit bytes)
 unfolding object_at
 after_refused bytes at limit first s end e head records refused = grind (arith, common_steps)
 
-pub end_refused : (known a b : Option Files) (name : List ℕ) (at limit : ℕ) (first : ℕ × ℕ) (s : State) (end : ℕ) (e : ObjectFault) → a ≡ known → b ≡ known → IfSome known (λ m. in_file (map.get m name) (head_at at limit) ≡ Ok first) → IfSome a (λ m. all_in first.0 (map.get m name) first.1 limit ≡ Ok (s, end)) → IfSome b (λ m. RefinesErr is_system_error e (in_file (map.get m name) (end_at end limit))) → IfSome known (λ m. RefinesErr is_system_error e (in_file (map.get m name) (object_at at limit)))
+pub end_refused : (known a b : Option Files) (name : List ℕ) (at limit : ℕ) (first : ℕ × ℕ) (s : State) (end : ℕ) (e : OrFailure ObjectError) → a ≡ known → b ≡ known → IfSome known (λ m. in_file (map.get m name) (head_at at limit) ≡ Ok first) → IfSome a (λ m. all_in first.0 (map.get m name) first.1 limit ≡ Ok (s, end)) → IfSome b (λ m. RefinesErrOrFailure e (in_file (map.get m name) (end_at end limit))) → IfSome known (λ m. RefinesErrOrFailure e (in_file (map.get m name) (object_at at limit)))
 end_refused None a b name at limit first s end e same_a same_b head records refused = tt
 end_refused (Some m) a b name at limit first s end e same_a same_b head records refused = file (map.get m name) head (rw same_a at records) (rw same_b at refused) where
-  file : (f : Option (List ℕ)) → in_file f (head_at at limit) ≡ Ok first → all_in first.0 f first.1 limit ≡ Ok (s, end) → RefinesErr is_system_error e (in_file f (end_at end limit)) → RefinesErr is_system_error e (in_file f (object_at at limit))
+  file : (f : Option (List ℕ)) → in_file f (head_at at limit) ≡ Ok first → all_in first.0 f first.1 limit ≡ Ok (s, end) → RefinesErrOrFailure e (in_file f (end_at end limit)) → RefinesErrOrFailure e (in_file f (object_at at limit))
   file None head records refused = cc
   file (Some bytes) head records refused = after_refused bytes at limit first s end e head records refused
 
 -- so is an error of the head, or of a record up to the END record
-head_stops : (f : Option (List ℕ)) (at limit : ℕ) (e : ObjectFault) → RefinesErr is_system_error e (in_file f (head_at at limit)) → RefinesErr is_system_error e (in_file f (object_at at limit))
+head_stops : (f : Option (List ℕ)) (at limit : ℕ) (e : OrFailure ObjectError) → RefinesErrOrFailure e (in_file f (head_at at limit)) → RefinesErrOrFailure e (in_file f (object_at at limit))
 unfolding object_at
-head_stops None at limit e refused = unless (is_system_error e) (λ h. let is : FileNotFound ≡ e = cc in ap Err is) refused
-head_stops (Some bytes) at limit e refused = unless (is_system_error e) (λ h. ap (λ r. r >>= (λ first. records_at (length bytes) (start first.0) first.1 limit bytes >>= (λ end. end_at end.1 limit bytes >>= (λ u. object_of_state end.0)))) h) refused
+head_stops None at limit e refused = refused
+head_stops (Some bytes) at limit e refused = passed_on e (head_at at limit bytes) _ (λ f h. ap (λ r. r >>= (λ first. records_at (length bytes) (start first.0) first.1 limit bytes >>= (λ end. end_at end.1 limit bytes >>= (λ u. object_of_state end.0)))) h) refused
 
-pub head_refused : (known : Option Files) (name : List ℕ) (at limit : ℕ) (e : ObjectFault) → IfSome known (λ m. RefinesErr is_system_error e (in_file (map.get m name) (head_at at limit))) → IfSome known (λ m. RefinesErr is_system_error e (in_file (map.get m name) (object_at at limit)))
+pub head_refused : (known : Option Files) (name : List ℕ) (at limit : ℕ) (e : OrFailure ObjectError) → IfSome known (λ m. RefinesErrOrFailure e (in_file (map.get m name) (head_at at limit))) → IfSome known (λ m. RefinesErrOrFailure e (in_file (map.get m name) (object_at at limit)))
 head_refused None name at limit e refused = tt
 head_refused (Some m) name at limit e refused = head_stops (map.get m name) at limit e refused
 
-records_stop : (f : Option (List ℕ)) (at limit : ℕ) (first : ℕ × ℕ) (e : ObjectFault) → in_file f (head_at at limit) ≡ Ok first → RefinesErr is_system_error e (all_in first.0 f first.1 limit) → RefinesErr is_system_error e (in_file f (object_at at limit))
+records_stop : (f : Option (List ℕ)) (at limit : ℕ) (first : ℕ × ℕ) (e : OrFailure ObjectError) → in_file f (head_at at limit) ≡ Ok first → RefinesErrOrFailure e (all_in first.0 f first.1 limit) → RefinesErrOrFailure e (in_file f (object_at at limit))
 unfolding object_at
 records_stop None at limit first e head refused = cc
-records_stop (Some bytes) at limit first e head refused = unless (is_system_error e) (λ h. ap (λ r. r >>= (λ first. records_at (length bytes) (start first.0) first.1 limit bytes >>= (λ end. end_at end.1 limit bytes >>= (λ u. object_of_state end.0)))) head ∙ ap (λ r. r >>= (λ end. end_at end.1 limit bytes >>= (λ u. object_of_state end.0))) h) refused
+records_stop (Some bytes) at limit first e head refused = passed_on e (records_at (length bytes) (start first.0) first.1 limit bytes) _ (λ f h. ap (λ r. r >>= (λ first. records_at (length bytes) (start first.0) first.1 limit bytes >>= (λ end. end_at end.1 limit bytes >>= (λ u. object_of_state end.0)))) head ∙ ap (λ r. r >>= (λ end. end_at end.1 limit bytes >>= (λ u. object_of_state end.0))) h) refused
 
-pub records_refused : (known now : Option Files) (name : List ℕ) (at limit : ℕ) (first : ℕ × ℕ) (e : ObjectFault) → now ≡ known → IfSome known (λ m. in_file (map.get m name) (head_at at limit) ≡ Ok first) → IfSome now (λ m. RefinesErr is_system_error e (all_in first.0 (map.get m name) first.1 limit)) → IfSome known (λ m. RefinesErr is_system_error e (in_file (map.get m name) (object_at at limit)))
+pub records_refused : (known now : Option Files) (name : List ℕ) (at limit : ℕ) (first : ℕ × ℕ) (e : OrFailure ObjectError) → now ≡ known → IfSome known (λ m. in_file (map.get m name) (head_at at limit) ≡ Ok first) → IfSome now (λ m. RefinesErrOrFailure e (all_in first.0 (map.get m name) first.1 limit)) → IfSome known (λ m. RefinesErrOrFailure e (in_file (map.get m name) (object_at at limit)))
 records_refused None now name at limit first e same head refused = tt
 records_refused (Some m) now name at limit first e same head refused = records_stop (map.get m name) at limit first e head (rw same at refused)
 
--- finishing after the END record has the result of reading the object
-finish_gives : (f : Option (List ℕ)) (at limit : ℕ) (first : ℕ × ℕ) (s : State) (end : ℕ) (r : Result Object ObjectFault) → in_file f (head_at at limit) ≡ Ok first → all_in first.0 f first.1 limit ≡ Ok (s, end) → in_file f (end_at end limit) ≡ Ok tt → Refines is_memory (λ o. o) r (object_of_state s) → Refines is_system_error (λ o. o) r (in_file f (object_at at limit))
+-- a property of finishing after the END record is one of reading the object
+finish_gives : (f : Option (List ℕ)) (at limit : ℕ) (first : ℕ × ℕ) (s : State) (end : ℕ) (P : Result Object ObjectError → Type 0) → in_file f (head_at at limit) ≡ Ok first → all_in first.0 f first.1 limit ≡ Ok (s, end) → in_file f (end_at end limit) ≡ Ok tt → P (object_of_state s) → P (in_file f (object_at at limit))
 unfolding object_at
-finish_gives None at limit first s end r head records ended given = cc
-finish_gives (Some bytes) at limit first s end r head records ended given = rw body_or_cut_short (outside r given) where
-  body_or_cut_short : object_at at limit bytes ≡ object_of_state s
-  body_or_cut_short = ap (λ r. r >>= (λ first. records_at (length bytes) (start first.0) first.1 limit bytes >>= (λ end. end_at end.1 limit bytes >>= (λ u. object_of_state end.0)))) head ∙ ap (λ r. r >>= (λ end. end_at end.1 limit bytes >>= (λ u. object_of_state end.0))) records ∙ ap (λ r. r >>= (λ u. object_of_state s)) ended
+finish_gives None at limit first s end P head records ended finished = cc
+finish_gives (Some bytes) at limit first s end P head records ended finished = subst P (sym same) finished where
+  same : object_at at limit bytes ≡ object_of_state s
+  same = ap (λ r. r >>= (λ first. records_at (length bytes) (start first.0) first.1 limit bytes >>= (λ end. end_at end.1 limit bytes >>= (λ u. object_of_state end.0)))) head ∙ ap (λ r. r >>= (λ end. end_at end.1 limit bytes >>= (λ u. object_of_state end.0))) records ∙ ap (λ r. r >>= (λ u. object_of_state s)) ended
 
-  outside : (r : Result Object ObjectFault) → Refines is_memory (λ o. o) r (object_of_state s) → Refines is_system_error (λ o. o) r (object_of_state s)
-  outside (Ok o) h = h
-  outside (Err e) h = memory_outside e _ h
-
-pub object_read : (known a b : Option Files) (name : List ℕ) (at limit : ℕ) (first : ℕ × ℕ) (s : State) (end : ℕ) (r : Result Object ObjectFault) → a ≡ known → b ≡ known → IfSome known (λ m. in_file (map.get m name) (head_at at limit) ≡ Ok first) → IfSome a (λ m. all_in first.0 (map.get m name) first.1 limit ≡ Ok (s, end)) → IfSome b (λ m. in_file (map.get m name) (end_at end limit) ≡ Ok tt) → Refines is_memory (λ o. o) r (object_of_state s) → IfSome known (λ m. Refines is_system_error (λ o. o) r (in_file (map.get m name) (object_at at limit)))
-object_read None a b name at limit first s end r same_a same_b head records ended given = tt
-object_read (Some m) a b name at limit first s end r same_a same_b head records ended given = finish_gives (map.get m name) at limit first s end r head (rw same_a at records) (rw same_b at ended) given
+pub object_read : (known a b : Option Files) (name : List ℕ) (at limit : ℕ) (first : ℕ × ℕ) (s : State) (end : ℕ) (P : Result Object ObjectError → Type 0) → a ≡ known → b ≡ known → IfSome known (λ m. in_file (map.get m name) (head_at at limit) ≡ Ok first) → IfSome a (λ m. all_in first.0 (map.get m name) first.1 limit ≡ Ok (s, end)) → IfSome b (λ m. in_file (map.get m name) (end_at end limit) ≡ Ok tt) → P (object_of_state s) → IfSome known (λ m. P (in_file (map.get m name) (object_at at limit)))
+object_read None a b name at limit first s end P same_a same_b head records ended finished = tt
+object_read (Some m) a b name at limit first s end P same_a same_b head records ended finished = finish_gives (map.get m name) at limit first s end P head (rw same_a at records) (rw same_b at ended) finished
 
 -- ---- The head.
 
-always : (b : Bool) {P : Type 0} → P → Unless b P
-always true p = tt
-always false p = p
-
--- a result that equals the result of reading, even if it is an error
-as_read : {A : Type 0} (r read : Result A ObjectFault) → r ≡ read → Refines is_system_error (λ x. x) r read
-as_read (Ok x) read is = sym is
-as_read (Err e) read is = always (is_system_error e) (sym is)
+-- the bytes of a file between the offset and the limit, as many as fit into a buffer
+abbrev pub front_in : Option (List ℕ) → ℕ → ℕ → List ℕ → Result (List ℕ) ObjectError
+front_in file at limit buf = in_file file (λ bytes. Ok (take (length buf) (bytes_between bytes at limit)))
 
 -- the head is decoded from the first bytes between the offset and the limit
-pub head_read : (known : Option Files) (name : List ℕ) (at limit : ℕ) (buf : List ℕ) (n : ℕ) (r : Result (ℕ × ℕ) ObjectFault) → length buf ≡ 5 → IfSome known (λ m. IsLimitedRead (map.get m name) at limit buf (Ok n)) → r ≡ head_of at (take 5 (take n buf)) → IfSome known (λ m. Refines is_system_error (λ x. x) r (in_file (map.get m name) (head_at at limit)))
+pub head_read : (known : Option Files) (name : List ℕ) (at limit : ℕ) (buf : List ℕ) (n : ℕ) (r : Result (ℕ × ℕ) ObjectError) → length buf ≡ 5 → IfSome known (λ m. front_in (map.get m name) at limit buf ≡ Ok (take n buf)) → r ≡ head_of at (take 5 (take n buf)) → IfSome known (λ m. in_file (map.get m name) (head_at at limit) ≡ r)
 head_read None name at limit buf n r five read is = tt
 head_read (Some m) name at limit buf n r five read is = file (map.get m name) read where
-  file : (f : Option (List ℕ)) → IsLimitedRead f at limit buf (Ok n) → Refines is_system_error (λ x. x) r (in_file f (head_at at limit))
-  file None read = absurd read
-  file (Some bytes) read = as_read r _ (is ∙ ap (λ xs. head_of at xs) (ap (λ xs. take 5 xs) read.0 ∙ take-take 5 (length buf) (bytes_between bytes at limit) (omega (arith, five))))
+  file : (f : Option (List ℕ)) → front_in f at limit buf ≡ Ok (take n buf) → in_file f (head_at at limit) ≡ r
+  file None read = cc
+  file (Some bytes) read =
+      let front : take (length buf) (bytes_between bytes at limit) ≡ take n buf = cc in
+      sym (is ∙ ap (λ xs. head_of at xs) (ap (λ xs. take 5 xs) (sym front) ∙ take-take 5 (length buf) (bytes_between bytes at limit) (omega (arith, five))))
 
 -- ---- Records in the buffer.
 
@@ -202,7 +177,7 @@ unfolding record_in
 following v at xs rest three enough =
     rw (take_rest (xs ++ rest) 3, take_rest xs 3, take-append-le 3 xs rest three, drop-append-le 3 xs rest three) (by (record_header v (take 3 xs)) enough)
   where
-    by : (r : Result (ℕ × ℕ) ObjectFault) → ((f : ℕ × ℕ) → r ≡ Ok f → 3 + f.1 ≤ length xs) → (r >>= (λ front. body_or_cut_short front.1 (take front.1 (drop 3 xs ++ rest)) >>= (λ body. record_with_end at front.0 front.1 body))) ≡ (r >>= (λ front. body_or_cut_short front.1 (take front.1 (drop 3 xs)) >>= (λ body. record_with_end at front.0 front.1 body)))
+    by : (r : Result (ℕ × ℕ) ObjectError) → ((f : ℕ × ℕ) → r ≡ Ok f → 3 + f.1 ≤ length xs) → (r >>= (λ front. body_or_cut_short front.1 (take front.1 (drop 3 xs ++ rest)) >>= (λ body. record_with_end at front.0 front.1 body))) ≡ (r >>= (λ front. body_or_cut_short front.1 (take front.1 (drop 3 xs)) >>= (λ body. record_with_end at front.0 front.1 body)))
     by (Err e) enough = refl
     by (Ok f) enough =
         let left : f.1 ≤ length (drop 3 xs) = omega (arith, length-drop 3 xs, enough f refl) in
@@ -269,18 +244,15 @@ kept_in v at limit r bytes same h = by (nat_lt at r.begin) refl h
 
 -- ---- The result of reading.
 
-as_outside : (x : Result ℕ ObjectFault) (e : RawRecord) (r : Result (RawRecord × ℕ) ObjectFault) → Refines is_memory (λ n. (e, n)) x r → Refines is_system_error (λ n. (e, n)) x r
-as_outside x e r h = grind (arith, common_steps)
-
 -- the buffered bytes, by the calls that compute them
 pub kept_so : (w t f : List ℕ) (n at limit : ℕ) (r : RecordReaderView) → w ≡ take n t → n ≡ limit - at → t ≡ bytes_from f r.begin at → f ≡ r.ahead → w ≡ kept r at limit
 kept_so w t f n at limit r a b c d = a ∙ ap (λ k. take k t) b ∙ ap (take (limit - at)) (c ∙ ap (λ xs. bytes_from xs r.begin at) d)
 
-pub read_kept : (known : Option Files) (name : List ℕ) (r : RecordReaderView) (v at limit : ℕ) (w : List ℕ) (x : Result ℕ ObjectFault) (e : RawRecord) → w ≡ kept r at limit → has_record w ≡ true → Refines is_memory (λ n. (e, n)) x (record_in v at w) → IfSome known (λ m. IsAhead (get m name) r → Refines is_system_error (λ n. (e, n)) x (in_file (get m name) (record_at v at limit)))
-read_kept y name r v at limit w x e is has gives = grind (arith, common_steps, kept_none, kept_in, as_outside)
+pub read_kept : (known : Option Files) (name : List ℕ) (r : RecordReaderView) (v at limit : ℕ) (w : List ℕ) (x : Result (RawRecord × ℕ) ObjectError) → w ≡ kept r at limit → has_record w ≡ true → record_in v at w ≡ x → IfSome known (λ m. IsAhead (get m name) r → in_file (get m name) (record_at v at limit) ≡ x)
+read_kept y name r v at limit w x is has read = grind (arith, common_steps, kept_none, kept_in)
 
-pub read_anew : (known : Option Files) (name : List ℕ) (r : RecordReaderView) (v at limit : ℕ) (w shown : List ℕ) (x : Result ℕ ObjectFault) (e : RawRecord) → shown ≡ w → IfSome known (λ m. in_file (get m name) (λ bytes. Ok (take 8192 (bytes_between bytes at limit))) ≡ Ok w) → Refines is_memory (λ n. (e, n)) x (record_in v at shown) → IfSome known (λ m. IsAhead (get m name) r → Refines is_system_error (λ n. (e, n)) x (in_file (get m name) (record_at v at limit)))
-read_anew y name r v at limit w shown x e same read gives = grind (arith, common_steps, at_is_in, filled, as_outside)
+pub read_anew : (known : Option Files) (name : List ℕ) (r : RecordReaderView) (v at limit : ℕ) (w shown : List ℕ) (x : Result (RawRecord × ℕ) ObjectError) → shown ≡ w → IfSome known (λ m. in_file (get m name) (λ bytes. Ok (take 8192 (bytes_between bytes at limit))) ≡ Ok w) → record_in v at shown ≡ x → IfSome known (λ m. IsAhead (get m name) r → in_file (get m name) (record_at v at limit) ≡ x)
+read_anew y name r v at limit w shown x same read is = grind (arith, common_steps, at_is_in, filled)
 
 pub ahead_anew : (known : Option Files) (name : List ℕ) (r new : RecordReaderView) (at limit : ℕ) (w : List ℕ) → new.begin ≡ at → new.ahead ≡ w → IfSome known (λ m. in_file (get m name) (λ bytes. Ok (take 8192 (bytes_between bytes at limit))) ≡ Ok w) → IfSome known (λ m. IsAhead (get m name) r → IsAhead (get m name) new)
 ahead_anew None name r new at limit w begin same read = tt
@@ -296,13 +268,8 @@ ahead_anew (Some m) name r new at limit w begin same read = λ ahead. file (get 
         let taken : new.ahead ≡ take (min 8192 (limit - at)) (drop at bytes) = same ∙ sym is ∙ cut_front 8192 (limit - at) (drop at bytes) in
         rw begin (taken ∙ shorter (min 8192 (limit - at)) (drop at bytes) ∙ ap (λ xs. take (length xs) (drop at bytes)) (sym taken))
 
-pub refilled : (known : Option Files) (name : List ℕ) (at limit n : ℕ) (buf : List ℕ) → length buf ≡ 8192 → IfSome known (λ m. IsLimitedRead (get m name) at limit buf (Ok n)) → IfSome known (λ m. in_file (get m name) (λ bytes. Ok (take 8192 (bytes_between bytes at limit))) ≡ Ok (take n buf))
-refilled None name at limit n buf len read = tt
-refilled (Some m) name at limit n buf len read = file (get m name) read
-  where
-    file : (f : Option (List ℕ)) → IsLimitedRead f at limit buf (Ok n) → in_file f (λ bytes. Ok (take 8192 (bytes_between bytes at limit))) ≡ Ok (take n buf)
-    file None h = absurd h
-    file (Some bytes) h = ap Ok (ap (λ k. take k (bytes_between bytes at limit)) (sym len) ∙ sym (h.0))
+pub refilled : (known : Option Files) (name : List ℕ) (at limit n : ℕ) (buf : List ℕ) → length buf ≡ 8192 → IfSome known (λ m. front_in (get m name) at limit buf ≡ Ok (take n buf)) → IfSome known (λ m. in_file (get m name) (λ bytes. Ok (take 8192 (bytes_between bytes at limit))) ≡ Ok (take n buf))
+refilled known name at limit n buf len read = rw (sym len) read
 
 -- ---- Continued reading.
 

@@ -11,7 +11,7 @@ use Rattle.std.proofs.lemmas.List.Folds.{list_any-append, list_all-append}
 use Rattle.std.proofs.lemmas.List.Sums.{sum_by-append, sum_by-cons}
 use Rattle.byteorder.specs.Endian.{little_bytes}
 use Rattle.object65.specs.declared.builder.Draft.{Draft}
-use Rattle.object65.specs.declared.fault.ObjectFault.{ObjectFault}
+use Rattle.object65.specs.declared.fault.ObjectError.{ObjectError}
 use Rattle.object65.specs.declared.object.Assert.{Assert}
 use Rattle.object65.specs.declared.object.Export.{Export}
 use Rattle.object65.specs.declared.object.Fragment.{Fragment}
@@ -173,7 +173,7 @@ module _ (v : ℕ) (files : List (List ℕ)) where
   -- ---- A literal.
 
   -- adding a fragment to the first section that isn't full
-  part_again : (imports : List (List ℕ)) (begun : Bool) (full : List Draft) (d e : Draft) (more : List Draft) (grow : SectionFill → Result (SectionFill × Fragment) ObjectFault) (y : SectionFill × Fragment) → list_all is_full full ≡ true → is_full d ≡ false → grow (Scanning.section_fill d) ≡ Ok y → draft_with_fragment d y.1 ≡ e → (Scanning.scan_part (Scanning.outline_of (sectioned imports begun (full ++ d ∷ more))) grow >>= (λ x. Ok (with_item (sectioned imports begun (full ++ d ∷ more)) x.1))) ≡ Ok (sectioned imports true (full ++ e ∷ more))
+  part_again : (imports : List (List ℕ)) (begun : Bool) (full : List Draft) (d e : Draft) (more : List Draft) (grow : SectionFill → Result (SectionFill × Fragment) ObjectError) (y : SectionFill × Fragment) → list_all is_full full ≡ true → is_full d ≡ false → grow (Scanning.section_fill d) ≡ Ok y → draft_with_fragment d y.1 ≡ e → (Scanning.scan_part (Scanning.outline_of (sectioned imports begun (full ++ d ∷ more))) grow >>= (λ x. Ok (with_item (sectioned imports begun (full ++ d ∷ more)) x.1))) ≡ Ok (sectioned imports true (full ++ e ∷ more))
   unfolding Scanning.scan_part
   part_again imports begun full d e more grow y all free h is = grind (arith, common_steps, opens, piece_there)
 

@@ -3,7 +3,7 @@ use Rattle.std.proofs.lemmas.Grind.{common_steps}
 use Rattle.std.proofs.Common.{◌≡◌, ◌∙◌, ◌≤◌, ◌<◌, ◌+◌, ℕ, zero, suc, get_or, set, Bool, true, false, ◌&&◌, List, [], ◌∷◌, ◌++◌, length, refl, arith, nat_eq, cond, ◌==◌, Result, Ok}
 use Rattle.std.proofs.lemmas.Bool.Decides.{nat_tests}
 use Rattle.std.specs.List.{list_all, prefix_len}
-use Rattle.object65.specs.declared.fault.ObjectFault.{ObjectFault}
+use Rattle.object65.specs.declared.fault.ObjectError.{ObjectError}
 use Rattle.object65.specs.declared.record.Item.{Item}
 use Rattle.object65.specs.Record.{◌>>=◌, RawRecord}
 use Rattle.object65.specs.Items.{State, with_item, with_items}
@@ -68,7 +68,7 @@ front-ends p (x ∷ xs) (suc i) d stops h = step_ends (p x) i (prefix_len p xs) 
 
 -- ---- The items of records lead to the state of the records.
 
-one_step : (s : State) (es : List RawRecord) (last : Bool) (q : Result (Outline × Item) ObjectFault) → Leads s last q → ((t : State) → (items_of (outline_of t) es >>= (λ is. Ok (with_items t is))) ≡ state_after_records t es) → ((q >>= (λ x. items_of x.0 es >>= (λ is. Ok (x.1 ∷ is)))) >>= (λ is. Ok (with_items s is))) ≡ ((q >>= (λ x. Ok (with_item s x.1))) >>= (λ t. state_after_records t es))
+one_step : (s : State) (es : List RawRecord) (last : Bool) (q : Result (Outline × Item) ObjectError) → Leads s last q → ((t : State) → (items_of (outline_of t) es >>= (λ is. Ok (with_items t is))) ≡ state_after_records t es) → ((q >>= (λ x. items_of x.0 es >>= (λ is. Ok (x.1 ∷ is)))) >>= (λ is. Ok (with_items s is))) ≡ ((q >>= (λ x. Ok (with_item s x.1))) >>= (λ t. state_after_records t es))
 one_step s es last x a rest = grind (arith, common_steps)
 
 pub items_make : ItemsBuildObject

@@ -7,8 +7,7 @@ use Rattle.std.proofs.Math.Nat.{mod-add-mod}
 use Rattle.std.proofs.lemmas.Bool.Decides.{nat_tests}
 use Rattle.std.proofs.lemmas.List.{map-append, map-set}
 use Rattle.object65.specs.declared.builder.Draft.{Draft}
-use Rattle.object65.specs.declared.fault.ObjectFault.{ObjectFault}
-use Rattle.object65.specs.declared.fault.ObjectFault.TheVariants.{FailedBefore, FileError, OutOfOrder}
+use Rattle.object65.specs.declared.fault.ObjectError.{ObjectError}
 use Rattle.object65.specs.declared.record.Item.{Item}
 use Rattle.object65.specs.declared.record.Item.TheVariants as item
 use Rattle.object65.specs.declared.object.Fragment.{Fragment}
@@ -26,7 +25,6 @@ use Rattle.object65.specs.Objects.{width_len}
 use Rattle.object65.specs.Scanning
 use Rattle.object65.specs.Spelling.{body_limit}
 use Rattle.object65.proofs.Drafts.{nil, longer, closing_is, fill_last, last_push, last_joins, Split, draft_there, grown_name, is_full, none_open, opens, room_there, seek}
-use Rattle.object65.proofs.NoStoreErrors.{IsFree, astray, assert_free, canonical_free, export_free, failed, fill_free, parts_free, literal_free, name_free, open_free, room_free, value_free, wants_astray, wants_canonical}
 
 -- the offset of a fragment is the number of bytes in its section so far
 abbrev pub IsPlaced : List Draft → Item → Type 0
@@ -43,18 +41,16 @@ is_end item.End = true
 is_end _ = false
 
 -- The outline after a record is the outline of the state after its item; the item's offset is right, and the item is an END
--- item if and only if `last` is true. An error is no store error.
-abbrev pub Leads : State → Bool → Result (Scanning.Outline × Item) ObjectFault → Type 0
+-- item if and only if `last` is true.
+abbrev pub Leads : State → Bool → Result (Scanning.Outline × Item) ObjectError → Type 0
 Leads s last (Ok x) = (x.0 ≡ Scanning.outline_of (with_item s x.1)) × IsPlaced s.drafts x.1 × (is_end x.1 ≡ last)
-Leads s last (Err e) = e ≡ FileError → ⊥
+Leads s last (Err e) = Unit {0}
 
-refused : {A : Type 0} (e : ObjectFault) → IsFree {A = A} (Err e) → e ≡ FileError → ⊥
-refused e free is = free (λ i. Err (is i))
+read : {A : Type 0} (s : State) (last : Bool) (r : Result A ObjectError) (g : A → Result (Scanning.Outline × Item) ObjectError) → ((a : A) → Leads s last (g a)) → Leads s last (r >>= g)
+read s last (Ok a) g h = h a
+read s last (Err e) g h = tt
 
-read : {A : Type 0} (s : State) (last : Bool) (r : Result A ObjectFault) (g : A → Result (Scanning.Outline × Item) ObjectFault) → IsFree r → ((a : A) → Leads s last (g a)) → Leads s last (r >>= g)
-read s last x g free h = grind (arith, common_steps)
-
-either : (s : State) (last b : Bool) (q v : Result (Scanning.Outline × Item) ObjectFault) → (b ≡ true → Leads s last q) → (b ≡ false → Leads s last v) → Leads s last (if b then q else v)
+either : (s : State) (last b : Bool) (q v : Result (Scanning.Outline × Item) ObjectError) → (b ≡ true → Leads s last q) → (b ≡ false → Leads s last v) → Leads s last (if b then q else v)
 either s last true q v h k = h refl
 either s last false q v h k = k refl
 
@@ -77,16 +73,12 @@ section_leads s body = grind (arith, common_steps)
 
 export_leads : (s : State) (body : List ℕ) → Leads s false (Scanning.scan_export (Scanning.outline_of s) body)
 unfolding Scanning.scan_export
-export_leads s body = grind (arith, common_steps, read, wants_astray, export_free, parts_free, name_free, canonical_free, map-append)
+export_leads s body = grind (arith, common_steps, read, map-append)
 
 assert_leads : (s : State) (body : List ℕ) → Leads s false (Scanning.scan_assert (Scanning.outline_of s) body)
 unfolding Scanning.scan_assert
 assert_leads s body =
-    let o = Scanning.outline_of s in
-    read s false _ _ (wants_astray (list_all Scanning.is_filled o.fills)) (λ u.
-    read s false _ _ (assert_free s.version body) (λ a.
-    read s false _ _ (parts_free (length o.files) (length o.fills) (length o.imports) a.origin a.form) (λ v.
-    read s false _ _ (open_free a.form) (λ w.
+    read s false _ _ (λ u. read s false _ _ (λ a. read s false _ _ (λ v. read s false _ _ (λ w.
     (rw (some_push s.asserts a) refl, tt, refl)))))
 
 end_leads : (s : State) (body : List ℕ) → Leads s true (Scanning.scan_last (Scanning.outline_of s) body)
@@ -96,14 +88,15 @@ end_leads s body = grind (arith, common_steps)
 -- ---- Fragments.
 
 -- the fill state after a record is that of the section with the fragment
-abbrev LeadsIn : Draft → Result (SectionFill × Fragment) ObjectFault → Type 0
+abbrev LeadsIn : Draft → Result (SectionFill × Fragment) ObjectError → Type 0
 LeadsIn d (Ok x) = x.0 ≡ Scanning.section_fill (draft_with_fragment d x.1)
-LeadsIn d (Err e) = e ≡ FileError → ⊥
+LeadsIn d (Err e) = Unit {0}
 
-in_read : {A : Type 0} (d : Draft) (r : Result A ObjectFault) (g : A → Result (SectionFill × Fragment) ObjectFault) → IsFree r → ((a : A) → r ≡ Ok a → LeadsIn d (g a)) → LeadsIn d (r >>= g)
-in_read d x g free h = grind (arith, common_steps)
+in_read : {A : Type 0} (d : Draft) (r : Result A ObjectError) (g : A → Result (SectionFill × Fragment) ObjectError) → ((a : A) → r ≡ Ok a → LeadsIn d (g a)) → LeadsIn d (r >>= g)
+in_read d (Ok a) g h = h a refl
+in_read d (Err e) g h = tt
 
-pub wanted : (b : Bool) (f : ObjectFault) (u : Unit {0}) → Scanning.ok_if b f ≡ Ok u → b ≡ true
+pub wanted : (b : Bool) (f : ObjectError) (u : Unit {0}) → Scanning.ok_if b f ≡ Ok u → b ≡ true
 wanted true f u e = refl
 wanted false f u e = cc
 
@@ -143,19 +136,16 @@ literal_some body bytes h = grind (arith, common_steps)
 
 literal_leads : (body : List ℕ) (d : Draft) → LeadsIn d (Scanning.with_literal body (Scanning.section_fill d))
 unfolding Scanning.with_literal
-literal_leads body d = grind (arith, common_steps, in_read, literal_free, room_free, wants_canonical, after_literal, literal_some, short_is, wanted)
+literal_leads body d = grind (arith, common_steps, in_read, after_literal, literal_some, short_is, wanted)
 
 fill_leads : (body : List ℕ) (d : Draft) → LeadsIn d (Scanning.with_fill body (Scanning.section_fill d))
 unfolding Scanning.with_fill
-fill_leads body d = grind (arith, common_steps, in_read, fill_free, room_free, wants_canonical, after_fill)
+fill_leads body d = grind (arith, common_steps, in_read, after_fill)
 
 value_leads : (v m n i : ℕ) (body : List ℕ) (d : Draft) → LeadsIn d (Scanning.with_value v m n i body (Scanning.section_fill d))
 unfolding Scanning.with_value
 value_leads v m n i body d =
-    in_read d _ _ (value_free v body) (λ x is.
-    in_read d _ _ (room_free (Scanning.section_fill d) (width_len x.0)) (λ u capacity.
-    in_read d _ _ (parts_free m n i x.1 x.2) (λ y there.
-    in_read d _ _ (open_free x.2) (λ w fine.
+    in_read d _ _ (λ x is. in_read d _ _ (λ u capacity. in_read d _ _ (λ y there. in_read d _ _ (λ w fine.
     ap (λ (l : LastFragment). Scanning.fill_after (Scanning.section_fill d) (width_len x.0) l) (after_value d x.0 x.1 x.2)))))
 
 names_stay : (ds : List Draft) (k : ℕ) (d e : Draft) → slice_get ds k ≡ Some d → e.name ≡ d.name → map (λ x. x.name) (slice_set ds k e) ≡ map (λ x. x.name) ds
@@ -163,14 +153,14 @@ names_stay [] k d e there same = refl
 names_stay (x ∷ ds) zero d e there same = let is : x ≡ d = cc in ap (λ n. n ∷ map (λ y. y.name) ds) (same ∙ sym (ap (λ (y : Draft). y.name) is))
 names_stay (x ∷ ds) (suc k) d e there same = ap (λ ns. x.name ∷ ns) (names_stay ds k d e there same)
 
-grown_leads : (s : State) (k : ℕ) (d : Draft) → slice_get s.drafts k ≡ Some d → slice_get (map Scanning.section_fill s.drafts) k ≡ Some (Scanning.section_fill d) → (q : Result (SectionFill × Fragment) ObjectFault) → LeadsIn d q → Leads s false (q >>= (λ x. Ok (record (Scanning.outline_of s) { fills = slice_set (map Scanning.section_fill s.drafts) k x.0; has_fragment = true }, item.Part k d.filled x.1)))
+grown_leads : (s : State) (k : ℕ) (d : Draft) → slice_get s.drafts k ≡ Some d → slice_get (map Scanning.section_fill s.drafts) k ≡ Some (Scanning.section_fill d) → (q : Result (SectionFill × Fragment) ObjectError) → LeadsIn d q → Leads s false (q >>= (λ x. Ok (record (Scanning.outline_of s) { fills = slice_set (map Scanning.section_fill s.drafts) k x.0; has_fragment = true }, item.Part k d.filled x.1)))
 grown_leads s k d there fill x h = grind (arith, common_steps, names_stay, grown_name, map-set)
 
-part_leads : (s : State) (grow : SectionFill → Result (SectionFill × Fragment) ObjectFault) → ((d : Draft) → LeadsIn d (grow (Scanning.section_fill d))) → Leads s false (Scanning.scan_part (Scanning.outline_of s) grow)
+part_leads : (s : State) (grow : SectionFill → Result (SectionFill × Fragment) ObjectError) → ((d : Draft) → LeadsIn d (grow (Scanning.section_fill d))) → Leads s false (Scanning.scan_part (Scanning.outline_of s) grow)
 unfolding Scanning.scan_part
 part_leads s grow h = go (seek s.drafts) where
   go : (list_all is_full s.drafts ≡ true) ⊎ Split s.drafts → Leads s false (Scanning.scan_part (Scanning.outline_of s) grow)
-  go (inl full) = rw (none_open s.drafts full) (refused {A = Item} OutOfOrder astray)
+  go (inl full) = rw (none_open s.drafts full) tt
   go (inr p) =
       let k = length p.front in
       let there : slice_get s.drafts k ≡ Some p.draft = ap (λ ds. slice_get ds k) p.all ∙ draft_there p.front p.draft p.following in
@@ -187,7 +177,7 @@ entry_leads : (s : State) (e : RawRecord) → Leads s (e.kind == 8) (Scanning.sc
 unfolding Scanning.scan_record
 entry_leads s e =
     let fills = map Scanning.section_fill s.drafts in
-    either s _ (not (is_record_kind s.version e.kind)) _ _ (λ h. refused {A = Item} OutOfOrder astray) (λ a.
+    either s _ (not (is_record_kind s.version e.kind)) _ _ (λ h. tt) (λ a.
     either s _ (e.kind == 1) _ _ (goes_on 1 _ refl (import_leads s e.body)) (λ b.
     either s _ (e.kind == 2) _ _ (goes_on 2 _ refl (section_leads s e.body)) (λ c.
     either s _ (e.kind == 3) _ _ (goes_on 3 _ refl (part_leads s (Scanning.with_literal e.body) (literal_leads e.body))) (λ d.
@@ -199,11 +189,11 @@ entry_leads s e =
     subst (λ last. Leads s last (Scanning.scan_last (Scanning.outline_of s) e.body)) (last_of_all s.version e.kind a b c d f g h i j) (end_leads s e.body))))))))))
   where
     -- a record of any other kind is no END record
-    goes_on : (k : ℕ) (q : Result (Scanning.Outline × Item) ObjectFault) → (k == 8) ≡ false → Leads s false q → (e.kind == k) ≡ true → Leads s (e.kind == 8) q
+    goes_on : (k : ℕ) (q : Result (Scanning.Outline × Item) ObjectError) → (k == 8) ≡ false → Leads s false q → (e.kind == k) ≡ true → Leads s (e.kind == 8) q
     goes_on k q differs h is =
         let same : e.kind ≡ k = grind (arith, nat_tests) in
         subst (λ last. Leads s last q) (sym (ap (λ n. n == 8) same ∙ differs)) h
 
 pub leads : (s : State) (e : RawRecord) → Leads s (e.kind == 8) (Scanning.scan_step (Scanning.outline_of s) e)
 unfolding Scanning.scan_step
-leads s e = either s _ s.failed _ _ (λ h. refused {A = Item} FailedBefore failed) (λ h. either s _ s.ended _ _ (λ k. refused {A = Item} OutOfOrder astray) (λ k. entry_leads s e))
+leads s e = either s _ s.failed _ _ (λ h. tt) (λ h. either s _ s.ended _ _ (λ k. tt) (λ k. entry_leads s e))

@@ -7,8 +7,8 @@ use Rattle.std.proofs.lemmas.List.Folds.{list_all-append}
 use Rattle.std.specs.List.{flat_map, list_all, AllByRecursion}
 use Rattle.std.specs.Str.{is_utf8}
 use Rattle.object65.specs.declared.builder.Draft.{Draft}
-use Rattle.object65.specs.declared.fault.ObjectFault.{ObjectFault}
-use Rattle.object65.specs.declared.fault.ObjectFault.TheVariants.{FailedBefore, OutOfOrder, NotCanonical, IndexOutOfRange, BadSize}
+use Rattle.object65.specs.declared.fault.ObjectError.{ObjectError}
+use Rattle.object65.specs.declared.fault.ObjectError.TheVariants.{FailedBefore, OutOfOrder, NotCanonical, IndexOutOfRange, BadSize}
 use Rattle.object65.specs.declared.object.Export.{Export}
 use Rattle.object65.specs.declared.object.Assert.{Assert}
 use Rattle.object65.specs.declared.record.Item.{Item}
@@ -74,7 +74,7 @@ following files rows now es e was more = ap (λ xs. xs ++ e ∷ []) was ∙ appe
 -- ---- A FILE record.
 
 -- the item of the result
-item_is : (o : Scanning.Outline) (i : Item) (x : Scanning.Outline × Item) → ◌≡◌ {A = Result (Scanning.Outline × Item) ObjectFault} (Ok (o, i)) (Ok x) → i ≡ x.1
+item_is : (o : Scanning.Outline) (i : Item) (x : Scanning.Outline × Item) → ◌≡◌ {A = Result (Scanning.Outline × Item) ObjectError} (Ok (o, i)) (Ok x) → i ≡ x.1
 item_is o i x h = cc
 
 clash : {A : Type 0} (b : Bool) → b ≡ true → b ≡ false → A
@@ -275,7 +275,7 @@ section_step s e x kind r running h =
 
 -- ---- A fragment's record.
 
-part_step : (s : State) (e : RawRecord) (x : Scanning.Outline × Item) (grow : SectionFill → Result (SectionFill × Fragment) ObjectFault) → ((d : Draft) (y : SectionFill × Fragment) → GoodDraft (length s.drafts) (length s.imports) d → grow (Scanning.section_fill d) ≡ Ok y → Grows (length s.drafts) (length s.imports) e d (draft_with_fragment d y.1)) → ((d : Draft) (y : SectionFill × Fragment) → grow (Scanning.section_fill d) ≡ Ok y → has_well_formed_origin s.version (length s.files) y.1 ≡ true) → GoodState s → s.ended ≡ false → Scanning.scan_part (Scanning.outline_of s) grow ≡ Ok x → Step s (with_item s x.1) e
+part_step : (s : State) (e : RawRecord) (x : Scanning.Outline × Item) (grow : SectionFill → Result (SectionFill × Fragment) ObjectError) → ((d : Draft) (y : SectionFill × Fragment) → GoodDraft (length s.drafts) (length s.imports) d → grow (Scanning.section_fill d) ≡ Ok y → Grows (length s.drafts) (length s.imports) e d (draft_with_fragment d y.1)) → ((d : Draft) (y : SectionFill × Fragment) → grow (Scanning.section_fill d) ≡ Ok y → has_well_formed_origin s.version (length s.files) y.1 ≡ true) → GoodState s → s.ended ≡ false → Scanning.scan_part (Scanning.outline_of s) grow ≡ Ok x → Step s (with_item s x.1) e
 unfolding Scanning.scan_part
 part_step s e x grow grows placed r running h =
     let n = length s.drafts in

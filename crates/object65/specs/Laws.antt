@@ -1,19 +1,18 @@
 -- Laws of objects and their bytes, and of forms.
 use Rattle.std.specs.Prelude.{◌≡◌, ℕ, ◌+◌, ◌≤◌, ℤ, List, [], ◌++◌, length, true, false, Result, Ok}
 use Rattle.byteorder.specs.Endian.{little_number}
-use Rattle.base65.specs.SystemErrors.{IsNoSystemError}
 use Rattle.base65.specs.declared.values.Op1.{Op1}
 use Rattle.base65.specs.declared.values.Op2.{Op2}
 use Rattle.object65.specs.declared.object.Object.{Object}
-use Rattle.object65.specs.Record.{IsBytes, ◌>>=◌, RawRecord, is_system_error}
-use Rattle.object65.specs.Folding.{is_form_memory_fault, fold1, fold2, folds1, folds2, is_normal, node_limit}
+use Rattle.object65.specs.Record.{IsBytes, ◌>>=◌, RawRecord}
+use Rattle.object65.specs.Folding.{fold1, fold2, folds1, folds2, is_normal, node_limit}
 use Rattle.object65.specs.Form.{Form, prefix, binary, nodes}
 use Rattle.object65.specs.FormValue.{value_in, value_of_one, value_of_two}
 use Rattle.object65.specs.Objects.{ObjectFits, is_well_formed_object}
-use Rattle.object65.specs.Reading.{bytes_between, file_limit, head_at, record_at, end_at, object_at}
+use Rattle.object65.specs.Reading.{bytes_between, file_limit, object_at}
 use Rattle.object65.specs.Spelling.{IsObject}
 use Rattle.object65.specs.Items.{with_items}
-use Rattle.object65.specs.Scanning.{Outline, items_of, outline_of, State, state_after_record, state_after_records, object_of_state as finished_of, scan_end as scan_end_of, scan_step as scanned_of}
+use Rattle.object65.specs.Scanning.{items_of, outline_of, State, state_after_records}
 use Rattle.object65.specs.Versions.{version_one_object}
 
 -- bytes that are read as an object are its encoding
@@ -23,26 +22,6 @@ ReadBytesAreEncoding = (bytes : List ℕ) (at limit : ℕ) (o : Object) → IsBy
 -- the encoding of an object is read as that object, within the largest file
 abbrev pub EncodingIsRead : Type 0
 EncodingIsRead = (bytes : List ℕ) (at limit : ℕ) (o : Object) → at + length (bytes_between bytes at limit) ≤ file_limit → IsObject (bytes_between bytes at limit) o → object_at at limit bytes ≡ Ok o
-
--- reading at any offset of any bytes results in an object, or in an error that isn't a system error
-abbrev pub ObjectExists : Type 0
-ObjectExists = (bytes : List ℕ) (at limit : ℕ) → IsNoSystemError is_system_error (object_at at limit bytes)
-
--- likewise reading its parts, passing any record to any scan or builder, and finishing either
-pub record PartExists : Type 0 where
-  pub head : (bytes : List ℕ) (at limit : ℕ) → IsNoSystemError is_system_error (head_at at limit bytes)
-  pub part : (bytes : List ℕ) (v at limit : ℕ) → IsNoSystemError is_system_error (record_at v at limit bytes)
-  pub end : (bytes : List ℕ) (at limit : ℕ) → IsNoSystemError is_system_error (end_at at limit bytes)
-  pub scanned : (o : Outline) (e : RawRecord) → IsNoSystemError is_system_error (scanned_of o e)
-  pub scan_end : (o : Outline) → IsNoSystemError is_system_error (scan_end_of o)
-  pub taken : (s : State) (e : RawRecord) → IsNoSystemError is_system_error (state_after_record s e)
-  pub finished : (s : State) → IsNoSystemError is_system_error (finished_of s)
-
--- any operation on forms has a form, or an error that isn't *out of memory*
-abbrev pub FoldExists : Type 0
-FoldExists =
-    ((op : Op1) (f : Form) → IsNoSystemError is_form_memory_fault (fold1 op f))
-    × ((op : Op2) (f g : Form) → IsNoSystemError is_form_memory_fault (fold2 op f g))
 
 -- no encoding is a proper prefix of another, and no two objects have the same encoding
 abbrev pub EncodingsArePrefixFree : Type 0

@@ -1,16 +1,13 @@
 -- How an object is read from a file.
-use Rattle.std.specs.Prelude.{◌≡◌, IsErrOf, ℕ, ◌+◌, ◌-◌, List, length, take, drop, get_or, Option, Some, None, Result, Ok, Err, nat_lt, ◌||◌, not, if◌then◌else◌, ⊤, [], Bool, nat_le, ◌&&◌, zero, suc}
+use Rattle.std.specs.Prelude.{◌≡◌, ℕ, ◌+◌, ◌-◌, List, length, take, drop, get_or, Option, Some, None, Result, Ok, Err, nat_lt, ◌||◌, not, if◌then◌else◌, [], Bool, nat_le, ◌&&◌, zero, suc}
 use Rattle.std.specs.Str.{bytes_eq}
 use Rattle.byteorder.specs.Endian.{little_number}
-use Rattle.object65.specs.declared.fault.ObjectFault.{ObjectFault}
-use Rattle.object65.specs.declared.fault.ObjectFault.TheVariants.{NotAnObject, UnknownVersion, CutShort, UnknownRecord, BadSize, FileNotFound, BytesAfterEnd}
+use Rattle.object65.specs.declared.fault.ObjectError.{ObjectError}
+use Rattle.object65.specs.declared.fault.ObjectError.TheVariants.{NotAnObject, UnknownVersion, CutShort, UnknownRecord, BadSize, FileNotFound, BytesAfterEnd}
 use Rattle.object65.specs.Record.{◌>>=◌, RawRecord, is_record_kind, is_version}
 use Rattle.object65.specs.Spelling.{magic, body_limit}
-use Rattle.base65.specs.declared.store.StoreFault.{StoreFault}
-use Rattle.base65.specs.declared.store.StoreFault.TheVariants as store
 use Rattle.object65.specs.declared.object.Object.{Object}
 use Rattle.object65.specs.Scanning.{State, start, state_after_record, object_of_state}
-use Rattle.base65.specs.Store.{Files, FailedOn, PropagatesIoError, LastFailure}
 
 -- ---- Reading an object from left to right, up to the first error.
 
@@ -18,24 +15,17 @@ use Rattle.base65.specs.Store.{Files, FailedOn, PropagatesIoError, LastFailure}
 abbrev pub bytes_between : List ℕ → ℕ → ℕ → List ℕ
 bytes_between bytes at limit = take (limit - at) (drop at bytes)
 
--- The effect of a call that reads a file on the store: the files are unchanged; a failure is passed on as
--- this error, and counted; and the failed call requested this name.
-pub record StoreFrame {X T E : Type 0} (files_of : X → Option Files) (failures_of : X → ℕ) (last_failure_of : X → LastFailure) (error : E) (name : List ℕ) (old new : X) (result : Result T E) : Type 0 where
-  pub files : files_of new ≡ files_of old
-  pub count : PropagatesIoError error (failures_of old) (failures_of new) result
-  pub last_failure : IsErrOf result error → FailedOn (last_failure_of new) name
-
 -- the result of reading a file's bytes, or an error if there is no such file
-abbrev pub in_file : {A : Type 0} → Option (List ℕ) → (List ℕ → Result A ObjectFault) → Result A ObjectFault
+abbrev pub in_file : {A : Type 0} → Option (List ℕ) → (List ℕ → Result A ObjectError) → Result A ObjectError
 in_file None read = Err FileNotFound
 in_file (Some bytes) read = read bytes
 
 -- the version and the offset of the first record, from the first five bytes
-abbrev pub head_of : ℕ → List ℕ → Result (ℕ × ℕ) ObjectFault
+abbrev pub head_of : ℕ → List ℕ → Result (ℕ × ℕ) ObjectError
 head_of at head =
     if nat_lt (length head) 5 || not (bytes_eq (take 4 head) magic) then Err NotAnObject else if is_version (get_or head 4 0) then Ok (get_or head 4 0, at + 5) else Err UnknownVersion
 
-abbrev pub head_at : ℕ → ℕ → List ℕ → Result (ℕ × ℕ) ObjectFault
+abbrev pub head_at : ℕ → ℕ → List ℕ → Result (ℕ × ℕ) ObjectError
 head_at at limit bytes = head_of at (take 5 (bytes_between bytes at limit))
 
 -- the largest size of an object or library file, in bytes
@@ -43,36 +33,28 @@ abbrev pub file_limit : ℕ
 file_limit = 1073741824
 
 -- the kind and the length of the body, from the first three bytes
-abbrev pub record_header : ℕ → List ℕ → Result (ℕ × ℕ) ObjectFault
+abbrev pub record_header : ℕ → List ℕ → Result (ℕ × ℕ) ObjectError
 record_header version front =
     if nat_lt (length front) 3 then Err CutShort else if not (is_record_kind version (get_or front 0 0)) then Err UnknownRecord else if nat_lt body_limit (little_number 2 (drop 1 front)) then Err BadSize else Ok (get_or front 0 0, little_number 2 (drop 1 front))
 
 -- the body, if it isn't cut short
-abbrev pub body_or_cut_short : ℕ → List ℕ → Result (List ℕ) ObjectFault
+abbrev pub body_or_cut_short : ℕ → List ℕ → Result (List ℕ) ObjectError
 body_or_cut_short len body = if nat_lt (length body) len then Err CutShort else Ok body
 
 -- the record and the offset of the next one
-abbrev pub record_with_end : ℕ → ℕ → ℕ → List ℕ → Result (RawRecord × ℕ) ObjectFault
+abbrev pub record_with_end : ℕ → ℕ → ℕ → List ℕ → Result (RawRecord × ℕ) ObjectError
 record_with_end at kind len body = if nat_lt file_limit (at + 3 + len) then Err BadSize else Ok (record { kind = kind; body = body }, at + 3 + len)
 
 -- a record of an object of this version, and the offset of the next one
-unfoldable pub record_at : ℕ → ℕ → ℕ → List ℕ → Result (RawRecord × ℕ) ObjectFault
+unfoldable pub record_at : ℕ → ℕ → ℕ → List ℕ → Result (RawRecord × ℕ) ObjectError
 record_at version at limit bytes = do
   front ← record_header version (take 3 (bytes_between bytes at limit))
   body ← body_or_cut_short front.1 (take front.1 (bytes_between bytes (at + 3) limit))
   record_with_end at front.0 front.1 body
 
 -- no bytes are left
-abbrev pub end_at : ℕ → ℕ → List ℕ → Result (Unit {0}) ObjectFault
+abbrev pub end_at : ℕ → ℕ → List ℕ → Result (Unit {0}) ObjectError
 end_at at limit bytes = if nat_lt 0 (length (take 1 (bytes_between bytes at limit))) then Err BytesAfterEnd else Ok tt
-
--- the call read into the buffer the bytes from the offset up to the limit, as many as fit
-abbrev pub IsLimitedRead : Option (List ℕ) → ℕ → ℕ → List ℕ → Result ℕ StoreFault → Type 0
-IsLimitedRead None at limit buf (Ok n) = ⊥
-IsLimitedRead (Some bytes) at limit buf (Ok n) = (take n buf ≡ take (length buf) (bytes_between bytes at limit)) × (n ≡ length (take (length buf) (bytes_between bytes at limit)))
-IsLimitedRead file at limit buf (Err store.FileNotFound) = file ≡ None
-IsLimitedRead file at limit buf (Err store.FileError) = ⊤
-IsLimitedRead file at limit buf (Err store.OutOfMemory) = ⊤
 
 -- ---- Bytes that a reader of records has read ahead.
 
@@ -100,7 +82,7 @@ abbrev pub has_record : List ℕ → Bool
 has_record bytes = nat_le 3 (length bytes) && nat_le (record_len bytes) (length bytes)
 
 -- the record at the front of bytes from an offset, and the offset of the next one
-unfoldable pub record_in : ℕ → ℕ → List ℕ → Result (RawRecord × ℕ) ObjectFault
+unfoldable pub record_in : ℕ → ℕ → List ℕ → Result (RawRecord × ℕ) ObjectError
 record_in version at bytes = do
   front ← record_header version (take 3 bytes)
   body ← body_or_cut_short front.1 (take front.1 (bytes_between bytes 3 (length bytes)))
@@ -110,12 +92,12 @@ record_in version at bytes = do
 
 -- The result of reading at most this many records up to the END, each scanned before the next is read: the
 -- state, and the offset after the END.
-abbrev pub records_at : ℕ → State → ℕ → ℕ → List ℕ → Result (State × ℕ) ObjectFault
+abbrev pub records_at : ℕ → State → ℕ → ℕ → List ℕ → Result (State × ℕ) ObjectError
 records_at zero s at limit bytes = Err CutShort
 records_at (suc n) s at limit bytes = record_at s.version at limit bytes >>= (λ r. state_after_record s r.0 >>= (λ t. if t.ended then Ok (t, r.1) else records_at n t r.1 limit bytes))
 
 -- the object from an offset up to a limit, or the first error
-unfoldable pub object_at : ℕ → ℕ → List ℕ → Result Object ObjectFault
+unfoldable pub object_at : ℕ → ℕ → List ℕ → Result Object ObjectError
 object_at at limit bytes = do
   first ← head_at at limit bytes
   end ← records_at (length bytes) (start first.0) first.1 limit bytes

@@ -1,45 +1,26 @@
 -- Records, and the errors of reading an object.
-use Rattle.std.specs.Prelude.{ℕ, ◌<◌, List, get_or, Bool, true, false, codes, nat_le, not, ◌==◌, ◌&&◌, ◌||◌}
-use Rattle.base65.specs.declared.store.StoreFault.{StoreFault}
-use Rattle.base65.specs.declared.store.StoreFault.TheVariants as store
-use Rattle.object65.specs.declared.fault.ObjectFault.{ObjectFault}
-use Rattle.object65.specs.declared.fault.ObjectFault.TheVariants.{FailedBefore, OutOfMemory, NotAnObject, UnknownVersion, CutShort, UnknownRecord, OutOfOrder, IndexOutOfRange, BadSize, NotCanonical, BytesAfterEnd, FileError, FileNotFound}
+use Rattle.std.specs.Prelude.{ℕ, List, Bool, codes, nat_le, not, ◌==◌, ◌&&◌, ◌||◌}
+use Rattle.object65.specs.declared.fault.ObjectError.{ObjectError}
+use Rattle.object65.specs.declared.fault.ObjectError.TheVariants.{FailedBefore, NotAnObject, UnknownVersion, CutShort, UnknownRecord, OutOfOrder, IndexOutOfRange, BadSize, NotCanonical, BytesAfterEnd, FileNotFound}
 use Rattle.object65.specs.declared.record.Record.{Record}
-pub use Rattle.base65.specs.Outcome.{◌>>=◌, Refines, RefinesErr}
+pub use Rattle.base65.specs.Failure.{Refines, RefinesOrMemory, RefinesOrFailure}
+pub use Rattle.base65.specs.Outcome.{◌>>=◌}
 pub use Rattle.base65.specs.Store.{IsBytes}
 
--- ---- Errors: their messages, and which of them are system errors.
+-- ---- Errors.
 
-abbrev pub of_store : StoreFault → ObjectFault
-of_store store.OutOfMemory = OutOfMemory
-of_store store.FileNotFound = FileNotFound
-of_store store.FileError = FileError
-
--- memory ran out
-abbrev pub is_memory : ObjectFault → Bool
-is_memory OutOfMemory = true
-is_memory _ = false
-
--- memory ran out or the store failed
-abbrev pub is_system_error : ObjectFault → Bool
-is_system_error OutOfMemory = true
-is_system_error FileError = true
-is_system_error _ = false
-
-abbrev pub fault_text : ObjectFault → List ℕ
-fault_text FailedBefore = codes "failed before"
-fault_text OutOfMemory = codes "out of memory"
-fault_text NotAnObject = codes "not an object"
-fault_text UnknownVersion = codes "unknown version"
-fault_text CutShort = codes "object cut short"
-fault_text UnknownRecord = codes "unknown record"
-fault_text OutOfOrder = codes "record out of order"
-fault_text IndexOutOfRange = codes "index out of range"
-fault_text BadSize = codes "bad size"
-fault_text NotCanonical = codes "not canonical"
-fault_text BytesAfterEnd = codes "bytes after the end"
-fault_text FileError = codes "file error"
-fault_text FileNotFound = codes "file not found"
+abbrev pub error_text : ObjectError → List ℕ
+error_text FailedBefore = codes "failed before"
+error_text NotAnObject = codes "not an object"
+error_text UnknownVersion = codes "unknown version"
+error_text CutShort = codes "object cut short"
+error_text UnknownRecord = codes "unknown record"
+error_text OutOfOrder = codes "record out of order"
+error_text IndexOutOfRange = codes "index out of range"
+error_text BadSize = codes "bad size"
+error_text NotCanonical = codes "not canonical"
+error_text BytesAfterEnd = codes "bytes after the end"
+error_text FileNotFound = codes "file not found"
 
 -- ---- Records and their kinds.
 

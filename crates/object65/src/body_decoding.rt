@@ -3,19 +3,19 @@
 ghost use Rattle.std.specs.Prelude.{◌≡◌, ◌≤◌, ◌+◌, length, Ok, IfOk, IfSome, take, drop};
 ghost use Rattle.std.specs.Int.{w64, cast_signed};
 ghost use Rattle.object65.specs.Bodies.{number_at, text_at, counted_text_at, op1_at, op2_at, operation_at, form_of_code, form_at, form_of_all, signed_at, line_at, file_line_at, origin_at};
-ghost use Rattle.object65.specs.Record.{Refines, is_memory};
+ghost use Rattle.object65.specs.Record.{Refines, RefinesOrMemory};
 
-use crate::{Node, Norm, ObjectFault, Operands, Origin};
-use base65::{Op1, Op2};
+use crate::{Node, Norm, ObjectError, Operands, Origin};
+use base65::{Op1, Op2, OrMemory};
 use byteorder::{ByteOrder, LittleEndian};
 use std::alloc::Global;
 
 /// Decodes the byte at the front. Returns it and the rest.
-pub fn byte_at(bytes: &[u8]) -> Result<(u8, &[u8]), ObjectFault>
-    ensures { Refines is_memory (λ x. (x.0, x.1.now)) result (number_at 1 bytes.now) }
+pub fn byte_at(bytes: &[u8]) -> Result<(u8, &[u8]), ObjectError>
+    ensures { Refines (λ x. (x.0, x.1.now)) result (number_at 1 bytes.now) }
 {
     if bytes.is_empty() {
-        return Err(ObjectFault::BadSize);
+        return Err(ObjectError::BadSize);
     }
     let (first, rest) = bytes.split_at(1);
     Ok((first[0], rest))
@@ -23,27 +23,27 @@ pub fn byte_at(bytes: &[u8]) -> Result<(u8, &[u8]), ObjectFault>
 
 /// Decodes the number in the first four bytes, the low one first. Returns it and the
 /// rest.
-pub fn u32_at(bytes: &[u8]) -> Result<(u32, &[u8]), ObjectFault>
-    ensures { Refines is_memory (λ x. (x.0, x.1.now)) result (number_at 4 bytes.now) }
+pub fn u32_at(bytes: &[u8]) -> Result<(u32, &[u8]), ObjectError>
+    ensures { Refines (λ x. (x.0, x.1.now)) result (number_at 4 bytes.now) }
 {
     if bytes.len() < 4 {
-        return Err(ObjectFault::BadSize);
+        return Err(ObjectError::BadSize);
     }
     let (first, rest) = bytes.split_at(4);
     Ok((LittleEndian::read_u32(first), rest))
 }
 
 #[tactic(auto, unfolding(crate::specs::Bodies::line_at))]
-fn line_at(bytes: &[u8]) -> Result<(Origin, &[u8]), ObjectFault>
-    ensures { Refines is_memory (λ x. (x.0, x.1.now)) result (line_at bytes.now) }
+fn line_at(bytes: &[u8]) -> Result<(Origin, &[u8]), ObjectError>
+    ensures { Refines (λ x. (x.0, x.1.now)) result (line_at bytes.now) }
 {
     let (line, rest) = u32_at(bytes)?;
     Ok((Origin { file: None, line }, rest))
 }
 
 #[tactic(auto, unfolding(crate::specs::Bodies::file_line_at))]
-fn file_line_at(bytes: &[u8]) -> Result<(Origin, &[u8]), ObjectFault>
-    ensures { Refines is_memory (λ x. (x.0, x.1.now)) result (file_line_at bytes.now) }
+fn file_line_at(bytes: &[u8]) -> Result<(Origin, &[u8]), ObjectError>
+    ensures { Refines (λ x. (x.0, x.1.now)) result (file_line_at bytes.now) }
 {
     let (file, rest) = u32_at(bytes)?;
     let (line, rest) = u32_at(rest)?;
@@ -56,8 +56,8 @@ fn file_line_at(bytes: &[u8]) -> Result<(Origin, &[u8]), ObjectFault>
 
 /// Decodes the origin at the front, in an object of this version. Returns it and the
 /// rest.
-pub fn origin_at(version: u8, bytes: &[u8]) -> Result<(Origin, &[u8]), ObjectFault>
-    ensures { Refines is_memory (λ x. (x.0, x.1.now)) result (origin_at version bytes.now) }
+pub fn origin_at(version: u8, bytes: &[u8]) -> Result<(Origin, &[u8]), ObjectError>
+    ensures { Refines (λ x. (x.0, x.1.now)) result (origin_at version bytes.now) }
 {
     if version == 1 {
         line_at(bytes)
@@ -68,11 +68,11 @@ pub fn origin_at(version: u8, bytes: &[u8]) -> Result<(Origin, &[u8]), ObjectFau
 
 /// Decodes the number in the first eight bytes, in two's complement and the low one
 /// first. Returns it and the rest.
-fn i64_at(bytes: &[u8]) -> Result<(i64, &[u8]), ObjectFault>
-    ensures { Refines is_memory (λ x. (x.0, x.1.now)) result (signed_at bytes.now) }
+fn i64_at(bytes: &[u8]) -> Result<(i64, &[u8]), ObjectError>
+    ensures { Refines (λ x. (x.0, x.1.now)) result (signed_at bytes.now) }
 {
     if bytes.len() < 8 {
-        return Err(ObjectFault::BadSize);
+        return Err(ObjectError::BadSize);
     }
     let (first, rest) = bytes.split_at(8);
     Ok((LittleEndian::read_u64(first).cast_signed(), rest))
@@ -81,13 +81,13 @@ fn i64_at(bytes: &[u8]) -> Result<(i64, &[u8]), ObjectFault>
 /// Decodes the text at the front, after a byte with its length. Returns it and the
 /// rest.
 #[tactic(auto, unfolding(crate::specs::Bodies::counted_text_at))]
-pub fn counted_text(bytes: &[u8]) -> Result<(&[u8], &[u8]), ObjectFault>
-    ensures text { Refines is_memory (λ x. (x.0.now, x.1.now)) result (counted_text_at bytes.now) }
+pub fn counted_text(bytes: &[u8]) -> Result<(&[u8], &[u8]), ObjectError>
+    ensures text { Refines (λ x. (x.0.now, x.1.now)) result (counted_text_at bytes.now) }
     ensures short { IfOk result (λ x. length x.0.now ≤ 255) }
 {
     let (len, rest) = byte_at(bytes)?;
     if rest.len() < len as usize {
-        return Err(ObjectFault::BadSize);
+        return Err(ObjectError::BadSize);
     }
     Ok(rest.split_at(len as usize))
 }
@@ -144,8 +144,8 @@ fn read_operation(
     code: u8,
     bytes: &[u8],
     depth: usize,
-) -> Result<(Norm, &[u8]), ObjectFault>
-    ensures { Refines is_memory (λ x. (x.0, x.1.now)) result
+) -> Result<(Norm, &[u8]), OrMemory<ObjectError>>
+    ensures { RefinesOrMemory (λ x. (x.0, x.1.now)) result
         (operation_at (λ xs. form_at depth xs) (op1_at code) (op2_at code) bytes.now) }
 {
     if let Some(op) = prefix_of(code) {
@@ -154,7 +154,7 @@ fn read_operation(
         return Ok((Norm::new(Node::Prefix(op, part)), rest));
     }
     let Some(op) = binary_of(code) else {
-        return Err(ObjectFault::BadSize);
+        return Err(OrMemory::Error(ObjectError::BadSize));
     };
     let (left, rest) = read_form(alloc, bytes, depth)?;
     let (right, rest) = read_form(alloc, rest, depth)?;
@@ -170,8 +170,8 @@ fn read_after(
     code: u8,
     bytes: &[u8],
     depth: usize,
-) -> Result<(Norm, &[u8]), ObjectFault>
-    ensures { Refines is_memory (λ x. (x.0, x.1.now)) result
+) -> Result<(Norm, &[u8]), OrMemory<ObjectError>>
+    ensures { RefinesOrMemory (λ x. (x.0, x.1.now)) result
         (form_of_code (λ xs. form_at depth xs) code bytes.now) }
 {
     match code {
@@ -194,11 +194,11 @@ fn read_after(
 
 /// Decodes the form at the front, nested at most `depth` deep. Returns it and the rest.
 #[cycle(form)]
-fn read_form(alloc: Global, bytes: &[u8], depth: usize) -> Result<(Norm, &[u8]), ObjectFault>
-    ensures { Refines is_memory (λ x. (x.0, x.1.now)) result (form_at depth bytes.now) }
+fn read_form(alloc: Global, bytes: &[u8], depth: usize) -> Result<(Norm, &[u8]), OrMemory<ObjectError>>
+    ensures { RefinesOrMemory (λ x. (x.0, x.1.now)) result (form_at depth bytes.now) }
 {
     if depth == 0 || bytes.is_empty() {
-        return Err(ObjectFault::BadSize);
+        return Err(OrMemory::Error(ObjectError::BadSize));
     }
     let (first, rest) = bytes.split_at(1);
     read_after(alloc, first[0], rest, depth - 1)
@@ -206,12 +206,12 @@ fn read_form(alloc: Global, bytes: &[u8], depth: usize) -> Result<(Norm, &[u8]),
 
 /// Decodes a form that consists of all the bytes.
 #[tactic(auto, unfolding(crate::specs::Bodies::form_of_all))]
-pub fn form_of(alloc: Global, bytes: &[u8]) -> Result<Norm, ObjectFault>
-    ensures { Refines is_memory (λ f. f) result (form_of_all bytes.now) }
+pub fn form_of(alloc: Global, bytes: &[u8]) -> Result<Norm, OrMemory<ObjectError>>
+    ensures { RefinesOrMemory (λ f. f) result (form_of_all bytes.now) }
 {
     let (form, rest) = read_form(alloc, bytes, bytes.len())?;
     if !rest.is_empty() {
-        return Err(ObjectFault::BadSize);
+        return Err(OrMemory::Error(ObjectError::BadSize));
     }
     Ok(form)
 }

@@ -1,7 +1,9 @@
 //! Builds an object from its records.
 
 ghost use Rattle.std.specs.Prelude.{◌≡◌, ◌≤◌, ◌<◌, ◌+◌, ◌++◌, ◌∷◌, [], Ok, OnOk, length, get_or, map, OnErr, IfOk, Err, true};
-ghost use Rattle.object65.specs.Record.{Refines, is_memory, raw_record, is_version};
+ghost use Rattle.base65.specs.declared.failure.OrMemory.TheVariants as memory;
+ghost use Rattle.object65.specs.declared.fault.ObjectError.TheVariants.{FailedBefore};
+ghost use Rattle.object65.specs.Record.{RefinesOrMemory, raw_record, is_version};
 ghost use Rattle.object65.specs.Items.{closed_fragments, draft_with_fragment, with_item, section_from, object_from};
 ghost use Rattle.object65.specs.Objects.{fragment_len, is_well_formed_object, section_len, section_limit};
 ghost use Rattle.object65.specs.Internal.Sound.{FitsDrafts, state_of, without_scan_flags};
@@ -9,9 +11,9 @@ ghost use Rattle.std.specs.List.{AllByRecursion};
 ghost use Rattle.object65.specs.Scanning.{start, state_after_record, object_of_state};
 
 use crate::writing::fragment_size;
-use crate::{Assert, Export, Fragment, Item, Object, ObjectFault, Record, Scan, Section};
-use base65::ListVec;
-use std::alloc::Global;
+use crate::{Assert, Export, Fragment, Item, Object, ObjectError, Record, Scan, Section};
+use base65::{ListVec, OrMemory};
+use std::alloc::{AllocError, Global};
 use std::marker::Model;
 use std::mem;
 
@@ -42,10 +44,9 @@ pub struct Parts {
 }
 
 /// Adds the unfinished literal to the fragments.
-fn close_literal(alloc: Global, draft: &mut Draft) -> Result<(), ObjectFault>
-    ensures closed { OnOk result (draft.new ≡
+fn close_literal(alloc: Global, draft: &mut Draft) -> Result<(), AllocError>
+    ensures { OnOk result (draft.new ≡
         record draft.old { fragments = closed_fragments draft.old; literal = [] }) }
-    ensures memory { Refines is_memory (λ u. u) result (Ok tt) }
 {
     if draft.literal.len() > 0 {
         let literal = mem::replace(&mut draft.literal, ListVec::new(alloc));
@@ -55,13 +56,11 @@ fn close_literal(alloc: Global, draft: &mut Draft) -> Result<(), ObjectFault>
 }
 
 /// Adds a fragment that is no literal.
-fn push_fragment(alloc: Global, draft: &mut Draft, fragment: Fragment) -> Result<(), ObjectFault>
-    ensures pushed { Refines is_memory (λ _. draft.new) result
-        (Ok (record draft.old {
-          fragments = closed_fragments draft.old ++ fragment ∷
-              [];
-          literal = [];
-        })) }
+fn push_fragment(alloc: Global, draft: &mut Draft, fragment: Fragment) -> Result<(), AllocError>
+    ensures { OnOk result (draft.new ≡ record draft.old {
+      fragments = closed_fragments draft.old ++ fragment ∷ [];
+      literal = [];
+    }) }
 {
     close_literal(alloc, draft)?;
     draft.fragments.push(fragment)?;
@@ -69,23 +68,22 @@ fn push_fragment(alloc: Global, draft: &mut Draft, fragment: Fragment) -> Result
 }
 
 /// Adds a fragment to a section.
-fn append_fragment(alloc: Global, draft: &mut Draft, fragment: Fragment) -> Result<(), ObjectFault>
+fn append_fragment(alloc: Global, draft: &mut Draft, fragment: Fragment) -> Result<(), AllocError>
     requires { draft.old.filled + fragment_len fragment ≤ draft.old.size }
-    ensures { Refines is_memory (λ _. draft.new) result
-        (Ok (draft_with_fragment draft.old fragment)) }
+    ensures { OnOk result (draft.new ≡ draft_with_fragment draft.old fragment) }
 {
     draft.filled += fragment_size(&fragment) as u32;
     if let Fragment::Literal(bytes) = &fragment {
-        return Ok(draft.literal.extend_from_slice(bytes.as_slice())?);
+        return draft.literal.extend_from_slice(bytes.as_slice());
     }
     push_fragment(alloc, draft, fragment)
 }
 
 /// Adds an item to the parts.
-pub fn add_item(parts: &mut Parts, item: Item) -> Result<(), ObjectFault>
+pub fn add_item(parts: &mut Parts, item: Item) -> Result<(), AllocError>
     requires { FitsDrafts parts.old.drafts.items item }
-    ensures { Refines is_memory (λ _. state_of parts.new) result
-        (Ok (without_scan_flags (with_item (state_of parts.old) item))) }
+    ensures { OnOk result (state_of parts.new ≡
+        without_scan_flags (with_item (state_of parts.old) item)) }
 {
     match item {
         Item::File(name) => parts.files.push(name)?,
@@ -121,8 +119,8 @@ pub fn add_item(parts: &mut Parts, item: Item) -> Result<(), ObjectFault>
 }
 
 /// Finishes a section: its last literal becomes a fragment.
-fn finish_section(alloc: Global, draft: Draft) -> Result<Section, ObjectFault>
-    ensures { Refines is_memory (λ s. s) result (Ok (section_from draft)) }
+fn finish_section(alloc: Global, draft: Draft) -> Result<Section, AllocError>
+    ensures { IfOk result (λ s. s ≡ section_from draft) }
 {
     let mut draft = draft;
     close_literal(alloc, &mut draft)?;
@@ -133,8 +131,8 @@ fn finish_section(alloc: Global, draft: Draft) -> Result<Section, ObjectFault>
     })
 }
 
-fn finish_sections(alloc: Global, drafts: Vec<Draft>) -> Result<Vec<Section>, ObjectFault>
-    ensures { Refines is_memory (λ v. v.items) result (Ok (map section_from drafts.items)) }
+fn finish_sections(alloc: Global, drafts: Vec<Draft>) -> Result<Vec<Section>, AllocError>
+    ensures { IfOk result (λ v. v.items ≡ map section_from drafts.items) }
 {
     let mut sections = Vec::new(alloc);
     for draft in drafts {
@@ -144,8 +142,8 @@ fn finish_sections(alloc: Global, drafts: Vec<Draft>) -> Result<Vec<Section>, Ob
 }
 
 /// Builds the object from its parts.
-pub fn finish_object(parts: Parts) -> Result<Object, ObjectFault>
-    ensures { Refines is_memory (λ o. o) result (Ok (object_from (state_of parts))) }
+pub fn finish_object(parts: Parts) -> Result<Object, AllocError>
+    ensures { IfOk result (λ o. o ≡ object_from (state_of parts)) }
 {
     let sections = finish_sections(parts.alloc, parts.drafts)?;
     Ok(Object {
@@ -217,14 +215,14 @@ impl Builder {
 
     /// Adds the next record. After an error each call returns `FailedBefore`.
     #[tactic(auto, unfolding(crate::specs::Scanning::state_after_record, crate::specs::Scanning::scan_step))]
-    pub fn take(&mut self, next: &Record) -> Result<(), ObjectFault>
-        ensures effect { Refines is_memory (λ _. self.new) result
+    pub fn take(&mut self, next: &Record) -> Result<(), OrMemory<ObjectError>>
+        ensures effect { RefinesOrMemory (λ _. self.new) result
             (state_after_record self.old (raw_record next.now)) }
         ensures failed { OnErr result (self.new.failed ≡ true) }
-        ensures failed_before { self.old.failed ≡ true → result ≡ Err ObjectFault.FailedBefore }
+        ensures failed_before { self.old.failed ≡ true → result ≡ Err (memory.Error FailedBefore) }
     {
         if self.failed {
-            return Err(ObjectFault::FailedBefore);
+            return Err(OrMemory::Error(ObjectError::FailedBefore));
         }
         // It stays set if a call below fails.
         self.failed = true;
@@ -242,25 +240,25 @@ impl Builder {
     }
 
     /// Returns the object. Without an END it is rejected as cut short.
-    pub fn finish(self) -> Result<Object, ObjectFault>
-        ensures finished { Refines is_memory (λ o. o) result (object_of_state self) }
-        ensures failed_before { self.failed ≡ true → result ≡ Err ObjectFault.FailedBefore }
+    pub fn finish(self) -> Result<Object, OrMemory<ObjectError>>
+        ensures finished { RefinesOrMemory (λ o. o) result (object_of_state self) }
+        ensures failed_before { self.failed ≡ true → result ≡ Err (memory.Error FailedBefore) }
         // The object can be written, so its sections are within their limit.
         ensures good { IfOk result (λ o. is_well_formed_object o ≡ true) }
         ensures sized { IfOk result (λ o.
             AllByRecursion (λ s. section_len s ≤ section_limit) o.sections) }
     {
         if self.failed {
-            return Err(ObjectFault::FailedBefore);
+            return Err(OrMemory::Error(ObjectError::FailedBefore));
         }
         if !self.scan.is_ended() {
-            return Err(ObjectFault::CutShort);
+            return Err(OrMemory::Error(ObjectError::CutShort));
         }
         let Builder {
             scan: _,
             parts,
             failed: _,
         } = self;
-        finish_object(parts)
+        Ok(finish_object(parts)?)
     }
 }

@@ -1,17 +1,14 @@
 //! The errors of reading an object.
 
 ghost use Rattle.std.specs.Prelude.{◌≡◌};
-ghost use Rattle.object65.specs.declared.fault.ObjectFault.TheVariants.{OutOfMemory};
 
-use base65::StoreFault;
-use std::alloc::{AllocError, AllocFailed};
+use base65::{OrFailure, OrMemory};
 use std::fmt;
 
-/// An error of reading an object.
+/// An error of the input of a call on objects.
 #[derive(Clone, Copy, Debug, PartialEq, Eq)]
-pub enum ObjectFault {
+pub enum ObjectError {
     FailedBefore = 0,
-    OutOfMemory = 1,
     NotAnObject = 2,
     UnknownVersion = 3,
     CutShort = 4,
@@ -21,62 +18,61 @@ pub enum ObjectFault {
     BadSize = 8,
     NotCanonical = 9,
     BytesAfterEnd = 10,
-    FileError = 11,
     FileNotFound = 12,
 }
 
-impl From<AllocError> for ObjectFault {
-    ghost from_gives = { λ _ e. e ≡ OutOfMemory };
+/// An error of reading an object from a store.
+pub type ObjectFault = OrFailure<ObjectError>;
 
-    fn from(_e: AllocError) -> ObjectFault {
-        ObjectFault::OutOfMemory
+impl From<ObjectError> for OrMemory<ObjectError> {
+    ghost use Rattle.base65.specs.declared.failure.OrMemory.TheVariants as memory;
+
+    ghost from_gives = { λ e r. r ≡ memory.Error e };
+
+    fn from(e: ObjectError) -> OrMemory<ObjectError> {
+        OrMemory::Error(e)
     }
 }
 
-impl<T: Drop> From<AllocFailed<T>> for ObjectFault {
-    ghost from_gives = { λ _ e. e ≡ OutOfMemory };
+impl From<ObjectError> for OrFailure<ObjectError> {
+    ghost use Rattle.base65.specs.declared.failure.OrFailure.TheVariants as failure;
 
-    fn from(_e: AllocFailed<T>) -> ObjectFault {
-        ObjectFault::OutOfMemory
+    ghost from_gives = { λ e r. r ≡ failure.Error e };
+
+    fn from(e: ObjectError) -> OrFailure<ObjectError> {
+        OrFailure::Error(e)
     }
 }
 
-impl From<StoreFault> for ObjectFault {
-    ghost use Rattle.std.specs.Prelude.{◌≡◌};
-    ghost use Rattle.object65.specs.Record.{of_store};
+impl From<base65::FileNotFound> for ObjectError {
+    ghost use Rattle.object65.specs.declared.fault.ObjectError.TheVariants.{FileNotFound};
 
-    ghost from_gives = { λ s e. e ≡ of_store s };
+    ghost from_gives = { λ _ e. e ≡ FileNotFound };
 
-    fn from(e: StoreFault) -> ObjectFault {
-        match e {
-            StoreFault::OutOfMemory => ObjectFault::OutOfMemory,
-            StoreFault::FileNotFound => ObjectFault::FileNotFound,
-            StoreFault::FileError => ObjectFault::FileError,
-        }
+    fn from(_e: base65::FileNotFound) -> ObjectError {
+        ObjectError::FileNotFound
     }
 }
 
-impl fmt::Display for ObjectFault {
+impl fmt::Display for ObjectError {
     ghost use Rattle.std.specs.Prelude.{Some};
-    ghost use Rattle.object65.specs.Record.{fault_text};
+    ghost use Rattle.object65.specs.Record.{error_text};
 
-    ghost output = { λ e. Some (fault_text e) };
+    ghost output = { λ e. Some (error_text e) };
 
     fn fmt<W: fmt::Write>(&self, f: &mut fmt::Formatter<W>) -> fmt::Result {
         f.write_str(match self {
-            ObjectFault::FailedBefore => "failed before",
-            ObjectFault::OutOfMemory => "out of memory",
-            ObjectFault::NotAnObject => "not an object",
-            ObjectFault::UnknownVersion => "unknown version",
-            ObjectFault::CutShort => "object cut short",
-            ObjectFault::UnknownRecord => "unknown record",
-            ObjectFault::OutOfOrder => "record out of order",
-            ObjectFault::IndexOutOfRange => "index out of range",
-            ObjectFault::BadSize => "bad size",
-            ObjectFault::NotCanonical => "not canonical",
-            ObjectFault::BytesAfterEnd => "bytes after the end",
-            ObjectFault::FileError => "file error",
-            ObjectFault::FileNotFound => "file not found",
+            ObjectError::FailedBefore => "failed before",
+            ObjectError::NotAnObject => "not an object",
+            ObjectError::UnknownVersion => "unknown version",
+            ObjectError::CutShort => "object cut short",
+            ObjectError::UnknownRecord => "unknown record",
+            ObjectError::OutOfOrder => "record out of order",
+            ObjectError::IndexOutOfRange => "index out of range",
+            ObjectError::BadSize => "bad size",
+            ObjectError::NotCanonical => "not canonical",
+            ObjectError::BytesAfterEnd => "bytes after the end",
+            ObjectError::FileNotFound => "file not found",
         })
     }
 }

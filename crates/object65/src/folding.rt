@@ -1,46 +1,31 @@
 //! Folds operations on normal forms, and checks the forms of an object.
 
 ghost use Rattle.std.specs.Prelude.{◌≡◌, ◌&&◌, not, nat_le};
-ghost use Rattle.object65.specs.declared.folding.FormFault.TheVariants.{OutOfMemory};
-ghost use Rattle.object65.specs.Record.{Refines};
-ghost use Rattle.object65.specs.Folding.{is_form_memory_fault, fold1, fold_numbers, fold_sum, fold_difference, fold2, has_valid_indices, is_normal, is_literal, folds1, folds2, node_limit};
+ghost use Rattle.object65.specs.Record.{RefinesOrMemory};
+ghost use Rattle.object65.specs.Folding.{fold1, fold_numbers, fold_sum, fold_difference, fold2, has_valid_indices, is_normal, is_literal, folds1, folds2, node_limit};
 ghost use Rattle.object65.specs.Form.{nodes};
 
 use crate::form::{NODE_LIMIT, node_count};
 use crate::{Node, Norm, Operands};
-use base65::{Op1, Op2, apply1, apply2};
-use std::alloc::{AllocError, AllocFailed, Global};
+use base65::{Op1, Op2, OrMemory, apply1, apply2};
+use std::alloc::Global;
 
 /// The reason why an expression has no form.
 #[derive(Clone, Copy, Debug)]
-pub enum FormFault {
-    OutOfMemory,
+pub enum FormError {
     /// An operation on numbers has no value.
     NoValue,
     /// The form would have more than 255 nodes.
     TooLarge,
 }
 
-impl From<AllocError> for FormFault {
-    ghost from_gives = { λ _ e. e ≡ OutOfMemory };
-
-    fn from(_e: AllocError) -> FormFault {
-        FormFault::OutOfMemory
-    }
-}
-
-impl<T: Drop> From<AllocFailed<T>> for FormFault {
-    ghost from_gives = { λ _ e. e ≡ OutOfMemory };
-
-    fn from(_e: AllocFailed<T>) -> FormFault {
-        FormFault::OutOfMemory
-    }
-}
+/// The reason why a form wasn't made.
+pub type FormFault = OrMemory<FormError>;
 
 impl Norm {
     /// Folds a prefix operation on a form.
     pub fn prefix(alloc: Global, op: Op1, part: Norm) -> Result<Norm, FormFault>
-        ensures { Refines is_form_memory_fault (λ f. f) result (fold1 op part) }
+        ensures { RefinesOrMemory (λ f. f) result (fold1 op part) }
     {
         if let Op1::Plus = op {
             return Ok(part);
@@ -49,14 +34,14 @@ impl Norm {
             return Ok(Norm::new(Node::NumberNode(apply1(op, *value))));
         }
         if node_count(&part) >= NODE_LIMIT {
-            return Err(FormFault::TooLarge);
+            return Err(OrMemory::Error(FormError::TooLarge));
         }
         Ok(Norm::new(Node::Prefix(op, Box::new(alloc, part)?)))
     }
 
     /// Folds an operation on two forms.
     pub fn binary(alloc: Global, op: Op2, left: Norm, right: Norm) -> Result<Norm, FormFault>
-        ensures { Refines is_form_memory_fault (λ f. f) result (fold2 op left right) }
+        ensures { RefinesOrMemory (λ f. f) result (fold2 op left right) }
     {
         match op {
             Op2::Add => fold_sum(alloc, left, right),
@@ -68,16 +53,16 @@ impl Norm {
 
 /// Folds an operation that is computed only for two numbers.
 fn fold_numbers(alloc: Global, op: Op2, left: Norm, right: Norm) -> Result<Norm, FormFault>
-    ensures { Refines is_form_memory_fault (λ f. f) result (fold_numbers op left right) }
+    ensures { RefinesOrMemory (λ f. f) result (fold_numbers op left right) }
 {
     if let (Node::NumberNode(a), Node::NumberNode(b)) = (left.node(), right.node()) {
         return match apply2(op, *a, *b) {
             Some(value) => Ok(Norm::new(Node::NumberNode(value))),
-            None => Err(FormFault::NoValue),
+            None => Err(OrMemory::Error(FormError::NoValue)),
         };
     }
     if node_count(&left).saturating_add(node_count(&right)) >= NODE_LIMIT {
-        return Err(FormFault::TooLarge);
+        return Err(OrMemory::Error(FormError::TooLarge));
     }
     let operands = Box::new(alloc, Operands { left, right })?;
     Ok(Norm::new(Node::Binary(op, operands)))
@@ -85,7 +70,7 @@ fn fold_numbers(alloc: Global, op: Op2, left: Norm, right: Norm) -> Result<Norm,
 
 /// Folds a sum. An offset in a section and a number are added, too.
 fn fold_sum(alloc: Global, left: Norm, right: Norm) -> Result<Norm, FormFault>
-    ensures { Refines is_form_memory_fault (λ f. f) result (fold_sum left right) }
+    ensures { RefinesOrMemory (λ f. f) result (fold_sum left right) }
 {
     match (left.node(), right.node()) {
         (Node::SectionOffset(section, offset), Node::NumberNode(number))
@@ -99,7 +84,7 @@ fn fold_sum(alloc: Global, left: Norm, right: Norm) -> Result<Norm, FormFault>
 /// Folds a difference. Two offsets in one section are subtracted, too, and a
 /// number from an offset in a section.
 fn fold_difference(alloc: Global, left: Norm, right: Norm) -> Result<Norm, FormFault>
-    ensures { Refines is_form_memory_fault (λ f. f) result (fold_difference left right) }
+    ensures { RefinesOrMemory (λ f. f) result (fold_difference left right) }
 {
     match (left.node(), right.node()) {
         (Node::SectionOffset(k, a), Node::SectionOffset(m, b)) if *k == *m => {

@@ -2,7 +2,7 @@
 
 ghost use Rattle.std.specs.Prelude.{◌≡◌, ◌≤◌, ◌+◌, ◌%◌, length, Ok};
 ghost use Rattle.object65.specs.Bodies.{fill_of, value_of, width_of};
-ghost use Rattle.object65.specs.Record.{Refines, is_memory};
+ghost use Rattle.object65.specs.Record.{Refines, RefinesOrMemory};
 ghost use Rattle.object65.specs.Objects.{has_file, width_len};
 ghost use Rattle.object65.specs.Scanning.{check_canonical, check_canonical_open, check_file_index, check_indices, check_capacity, fill_after, with_literal, with_fill, with_value};
 
@@ -11,18 +11,18 @@ use crate::folding::{has_valid_indices, is_folded, is_limited, is_number};
 use crate::format::LARGEST_BODY;
 use crate::scan::{LastFragment, ScanState, SectionFill};
 use crate::scan_steps::check;
-use crate::{Fragment, Norm, ObjectFault, Origin, Width};
-use base65::ListVec;
+use crate::{Fragment, Norm, ObjectError, Origin, Width};
+use base65::{ListVec, OrMemory};
 use byteorder::{ByteOrder, LittleEndian};
 use std::alloc::Global;
 
 /// Rejects `len` more bytes if they exceed the section's size.
-fn check_capacity(fill: SectionFill, len: u32) -> Result<(), ObjectFault>
+fn check_capacity(fill: SectionFill, len: u32) -> Result<(), ObjectError>
     ensures { result ≡ check_capacity fill len }
 {
     check(
         len <= fill.size.saturating_sub(fill.filled),
-        ObjectFault::BadSize,
+        ObjectError::BadSize,
     )
 }
 
@@ -39,56 +39,56 @@ fn fill_after(fill: SectionFill, len: u32, last: LastFragment) -> SectionFill
 }
 
 /// Rejects an origin whose file index isn't below `files`.
-fn check_file(origin: Origin, files: usize) -> Result<(), ObjectFault>
+fn check_file(origin: Origin, files: usize) -> Result<(), ObjectError>
     ensures { result ≡ check_file_index files origin }
 {
     let is_valid = match origin.file {
         None => true,
         Some(file) => (file as usize) < files,
     };
-    check(is_valid, ObjectFault::IndexOutOfRange)
+    check(is_valid, ObjectError::IndexOutOfRange)
 }
 
 /// Rejects indices of files, sections and imports that the object doesn't have.
 #[tactic(auto, unfolding(crate::specs::Scanning::check_indices))]
-pub fn check_indices(scan_state: &ScanState, origin: Origin, form: &Norm) -> Result<(), ObjectFault>
+pub fn check_indices(scan_state: &ScanState, origin: Origin, form: &Norm) -> Result<(), ObjectError>
     ensures { result ≡ check_indices (length scan_state.now.files.keys)
         (length scan_state.now.fills.items)
         (length scan_state.now.imports.keys) origin form.now }
 {
     check_file(origin, scan_state.files.len())?;
     let is_valid = has_valid_indices(form, scan_state.fills.len(), scan_state.imports.len());
-    check(is_valid, ObjectFault::IndexOutOfRange)
+    check(is_valid, ObjectError::IndexOutOfRange)
 }
 
 /// Rejects a form that can be folded or is too large.
-pub fn check_form(form: &Norm) -> Result<(), ObjectFault>
+pub fn check_form(form: &Norm) -> Result<(), ObjectError>
     ensures { result ≡ check_canonical form.now }
 {
     check(
         is_folded(form) && is_limited(form),
-        ObjectFault::NotCanonical,
+        ObjectError::NotCanonical,
     )
 }
 
 /// Rejects a form that can be folded, is too large, or is a number.
-pub fn check_open_form(form: &Norm) -> Result<(), ObjectFault>
+pub fn check_open_form(form: &Norm) -> Result<(), ObjectError>
     ensures { result ≡ check_canonical_open form.now }
 {
     check_form(form)?;
-    check(!is_number(form), ObjectFault::NotCanonical)
+    check(!is_number(form), ObjectError::NotCanonical)
 }
 
 /// Decodes the body of a FILL: the number of bytes to fill, which isn't 0.
-fn read_fill(body: &[u8]) -> Result<u32, ObjectFault>
-    ensures { Refines is_memory (λ n. n) result (fill_of body.now) }
+fn read_fill(body: &[u8]) -> Result<u32, ObjectError>
+    ensures { Refines (λ n. n) result (fill_of body.now) }
 {
     if body.len() != 4 {
-        return Err(ObjectFault::BadSize);
+        return Err(ObjectError::BadSize);
     }
     let count = LittleEndian::read_u32(body);
     if count == 0 {
-        return Err(ObjectFault::BadSize);
+        return Err(ObjectError::BadSize);
     }
     Ok(count)
 }
@@ -99,13 +99,13 @@ pub fn add_literal(
     alloc: Global,
     fill: SectionFill,
     body: &[u8],
-) -> Result<(SectionFill, Fragment), ObjectFault>
-    ensures { Refines is_memory (λ x. x) result (with_literal body.now fill) }
+) -> Result<(SectionFill, Fragment), OrMemory<ObjectError>>
+    ensures { RefinesOrMemory (λ x. x) result (with_literal body.now fill) }
 {
-    check(!body.is_empty(), ObjectFault::BadSize)?;
+    check(!body.is_empty(), ObjectError::BadSize)?;
     let remaining = fill.size.saturating_sub(fill.filled);
-    check(body.len() <= remaining as usize, ObjectFault::BadSize)?;
-    check(fill.last != LastFragment::Short, ObjectFault::NotCanonical)?;
+    check(body.len() <= remaining as usize, ObjectError::BadSize)?;
+    check(fill.last != LastFragment::Short, ObjectError::NotCanonical)?;
     let last = if body.len() % LARGEST_BODY == 0 {
         LastFragment::Other
     } else {
@@ -117,12 +117,12 @@ pub fn add_literal(
 
 /// Adds a FILL to a section.
 #[tactic(auto, unfolding(crate::specs::Scanning::with_fill))]
-pub fn add_fill(fill: SectionFill, body: &[u8]) -> Result<(SectionFill, Fragment), ObjectFault>
-    ensures { Refines is_memory (λ x. x) result (with_fill body.now fill) }
+pub fn add_fill(fill: SectionFill, body: &[u8]) -> Result<(SectionFill, Fragment), ObjectError>
+    ensures { Refines (λ x. x) result (with_fill body.now fill) }
 {
     let count = read_fill(body)?;
     check_capacity(fill, count)?;
-    check(fill.last != LastFragment::Fill, ObjectFault::NotCanonical)?;
+    check(fill.last != LastFragment::Fill, ObjectError::NotCanonical)?;
     Ok((
         fill_after(fill, count, LastFragment::Fill),
         Fragment::Fill(count),
@@ -130,7 +130,7 @@ pub fn add_fill(fill: SectionFill, body: &[u8]) -> Result<(SectionFill, Fragment
 }
 
 /// Decodes the code of a width.
-fn width_at(code: u8) -> Result<Width, ObjectFault>
+fn width_at(code: u8) -> Result<Width, ObjectError>
     ensures { result ≡ width_of code }
 {
     match code {
@@ -139,7 +139,7 @@ fn width_at(code: u8) -> Result<Width, ObjectFault>
         2 => Ok(Width::BigEndianWord),
         3 => Ok(Width::Dword),
         4 => Ok(Width::Branch),
-        _ => Err(ObjectFault::BadSize),
+        _ => Err(ObjectError::BadSize),
     }
 }
 
@@ -156,8 +156,8 @@ pub fn width_size(width: Width) -> u32
 
 /// Decodes the body of a VALUE: its width, its origin and its form.
 #[tactic(auto, unfolding(crate::specs::Bodies::value_of))]
-fn read_value(alloc: Global, version: u8, body: &[u8]) -> Result<(Width, Origin, Norm), ObjectFault>
-    ensures { Refines is_memory (λ x. x) result (value_of version body.now) }
+fn read_value(alloc: Global, version: u8, body: &[u8]) -> Result<(Width, Origin, Norm), OrMemory<ObjectError>>
+    ensures { RefinesOrMemory (λ x. x) result (value_of version body.now) }
 {
     let (code, rest) = byte_at(body)?;
     let width = width_at(code)?;
@@ -172,8 +172,8 @@ pub fn add_value(
     scan_state: &ScanState,
     fill: SectionFill,
     body: &[u8],
-) -> Result<(SectionFill, Fragment), ObjectFault>
-    ensures { Refines is_memory (λ x. x) result
+) -> Result<(SectionFill, Fragment), OrMemory<ObjectError>>
+    ensures { RefinesOrMemory (λ x. x) result
         (with_value scan_state.now.version (length scan_state.now.files.keys)
         (length scan_state.now.fills.items)
         (length scan_state.now.imports.keys) body.now fill) }

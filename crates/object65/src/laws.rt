@@ -1,7 +1,7 @@
 //! Laws of objects and their bytes, whatever wrote them, and of forms. Each function's contract is
 //! a law.
 
-ghost use Rattle.object65.specs.Laws.{ReadBytesAreEncoding, FoldExists, ObjectExists, PartExists, EncodingIsRead, EncodingsArePrefixFree, EncodingIsUnique, NumberIsUnique, ItemsBuildObject, VersionOneIsWellFormed, PrefixFoldPreservesValue, BinaryFoldPreservesValue, FoldedIsNormal, FoldableIffFoldChanges};
+ghost use Rattle.object65.specs.Laws.{ReadBytesAreEncoding, EncodingIsRead, EncodingsArePrefixFree, EncodingIsUnique, NumberIsUnique, ItemsBuildObject, VersionOneIsWellFormed, PrefixFoldPreservesValue, BinaryFoldPreservesValue, FoldedIsNormal, FoldableIffFoldChanges};
 
 /// Bytes that are read as an object are its encoding.
 pub fn read_bytes_are_encoding()
@@ -11,17 +11,6 @@ pub fn read_bytes_are_encoding()
 /// The encoding of an object is read as that object.
 pub fn encoding_is_read()
     ensures { EncodingIsRead }
-{}
-
-/// Reading any bytes results in an object, or in an error that isn't a system error.
-pub fn object_exists()
-    ensures { ObjectExists }
-{}
-
-/// Reading a head, a record or an end, passing any record to a scan or a builder, and finishing either: each has
-/// a result, or an error that isn't a system error.
-pub fn part_exists()
-    ensures { PartExists }
 {}
 
 /// No encoding of an object is a proper prefix of another, and no two objects have the same encoding.
@@ -60,11 +49,6 @@ pub fn prefix_fold_preserves_value<E>()
 /// Folding an operation on two forms changes neither its value nor its error, so no import is dropped.
 pub fn binary_fold_preserves_value<E>()
     ensures { BinaryFoldPreservesValue E }
-{}
-
-/// Any operation on forms has a form, or an error that isn't *out of memory*.
-pub fn fold_exists()
-    ensures { FoldExists }
 {}
 
 /// Folding an operation on folded forms results in a folded form, which can't be folded further and has at most

@@ -1,11 +1,11 @@
 //! Reads the records of a file one after another.
 
-ghost use Rattle.std.specs.Prelude.{◌≡◌, ◌≤◌, ◌<◌, ◌+◌, ◌-◌, ◌^◌, [], Ok, length, false, IfOk, IfErr, IfSome, IsErrOf, OnOk, OnErr, take};
+ghost use Rattle.std.specs.Prelude.{◌≡◌, ◌≤◌, ◌+◌, ◌-◌, ⊤, [], Ok, length, IfOk, IfSome, OnOk, OnErr, take};
 ghost use Rattle.std.specs.FinMap as map;
-ghost use Rattle.base65.specs.Store.{FailsAtLastCount, FailedWithin};
-ghost use Rattle.object65.specs.Record.{Refines, is_memory, is_system_error, raw_record};
-ghost use Rattle.object65.specs.Reading.{StoreFrame, IsAhead, bytes_from, has_record, record_in, in_file, record_at, bytes_between, file_limit};
-ghost use Rattle.object65.specs.declared.fault.ObjectFault.TheVariants.{FileError};
+ghost use Rattle.base65.specs.Failure.{IfStoreFailed, ReadFrame, RefinesOrFailure};
+ghost use Rattle.base65.specs.Store.{FailedWithin};
+ghost use Rattle.object65.specs.Record.{raw_record};
+ghost use Rattle.object65.specs.Reading.{IsAhead, bytes_from, has_record, record_in, in_file, record_at, bytes_between, file_limit};
 
 use crate::decoding::decode;
 use crate::format::LARGEST_BODY;
@@ -113,15 +113,13 @@ impl RecordReader {
         limit: u64,
     ) -> Result<(), ObjectFault>
         ensures read { IfSome (S.files store.old)
-            (λ m. Refines is_system_error (λ _. self.new.ahead) result
+            (λ m. RefinesOrFailure (λ _. self.new.ahead) result
             (in_file (map.get m name.now) (λ bytes.
             Ok (take 8192 (bytes_between bytes at limit))))) }
-        ensures frame { StoreFrame S.files S.failures S.last_failure FileError name.now
-            store.old store.new
-            result }
-        ensures within { IsErrOf result ObjectFault.FileError → at ≤ limit →
-            FailedWithin (S.last_failure store.new) name.now at limit }
-        ensures at_last_count { FailsAtLastCount is_system_error (S.failures store.old) result }
+        ensures frame { ReadFrame S.files S.failures S.last_failure ⊤ name.now
+            store.old store.new result }
+        ensures within { IfStoreFailed result
+            (at ≤ limit → FailedWithin (S.last_failure store.new) name.now at limit) }
         ensures begin { OnOk result (self.new.begin ≡ at) }
         ensures none { OnErr result (self.new.ahead ≡ []) }
         ensures remaining { OnOk result (length self.new.ahead ≤ limit - at) }
@@ -144,32 +142,25 @@ impl RecordReader {
         limit: u64,
     ) -> Result<u64, ObjectFault>
         ensures read { IfSome (S.files store.old) (λ m. IsAhead (map.get m name.now) self.old →
-            Refines is_system_error (λ n. (self.new.entry, n)) result
+            RefinesOrFailure (λ n. (self.new.entry, n)) result
             (in_file (map.get m name.now) (record_at version at limit))) }
         ensures ahead { IfSome (S.files store.old) (λ m. IsAhead (map.get m name.now) self.old →
             IsAhead (map.get m name.now) self.new) }
-        ensures frame { StoreFrame S.files S.failures S.last_failure FileError name.now
-            store.old store.new
-            result }
-        ensures within { IsErrOf result ObjectFault.FileError → at ≤ limit →
-            FailedWithin (S.last_failure store.new) name.now at limit }
-        ensures at_last_count { self.old.ahead ≡ [] →
-            FailsAtLastCount is_system_error (S.failures store.old) result }
+        ensures frame { ReadFrame S.files S.failures S.last_failure (self.old.ahead ≡ []) name.now
+            store.old store.new result }
+        ensures within { IfStoreFailed result
+            (at ≤ limit → FailedWithin (S.last_failure store.new) name.now at limit) }
         ensures bound { IfOk result (λ n. (n ≡ at + 3 + length self.new.entry.body) × (n ≤ limit) ×
             (n ≤ file_limit)) }
     {
         let available = bytes_from(first_bytes(&self.buffer, self.buffered), self.begin, at);
         let available = first_bytes(available, limit.saturating_sub(at) as usize);
         if has_record(available) {
-            return decode(&mut self.record, version, available, at);
+            return Ok(decode(&mut self.record, version, available, at)?);
         }
         self.refill(store, name, at, limit)?;
-        decode(
-            &mut self.record,
-            version,
-            first_bytes(&self.buffer, self.buffered),
-            at,
-        )
+        let bytes = first_bytes(&self.buffer, self.buffered);
+        Ok(decode(&mut self.record, version, bytes, at)?)
     }
 }
 
@@ -183,12 +174,10 @@ pub fn read_record<S: Store>(
     limit: u64,
 ) -> Result<(Record, u64), ObjectFault>
     ensures read { IfSome (S.files store.old)
-        (λ m. Refines is_system_error (λ x. (raw_record x.0, x.1)) result
+        (λ m. RefinesOrFailure (λ x. (raw_record x.0, x.1)) result
         (in_file (map.get m name.now) (record_at version at limit))) }
-    ensures frame { StoreFrame S.files S.failures S.last_failure FileError name.now
-        store.old store.new
+    ensures frame { ReadFrame S.files S.failures S.last_failure ⊤ name.now store.old store.new
         result }
-    ensures at_last_count { FailsAtLastCount is_system_error (S.failures store.old) result }
     ensures bound { IfOk result (λ x. (x.1 ≡ at + 3 + length x.0.body.items) × (x.1 ≤ limit) ×
         (x.1 ≤ file_limit)) }
 {

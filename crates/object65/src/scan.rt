@@ -3,7 +3,9 @@
 ghost use Rattle.std.specs.Prelude.{◌≡◌, ◌≤◌, ◌++◌, ◌∷◌, [], ◌&&◌, length, map, not, Ok, IfOk, OnOk, true, false, OnErr, Err};
 ghost use Rattle.std.specs.List.{list_all};
 ghost use Rattle.object65.specs.Bodies.{export_of, assert_of, action_of};
-ghost use Rattle.object65.specs.Record.{Refines, is_memory, raw_record, is_version};
+ghost use Rattle.base65.specs.declared.failure.OrMemory.TheVariants as memory;
+ghost use Rattle.object65.specs.declared.fault.ObjectError.TheVariants.{FailedBefore};
+ghost use Rattle.object65.specs.Record.{RefinesOrMemory, raw_record, is_version};
 ghost use Rattle.object65.specs.Items.{has_small_text, with_item};
 ghost use Rattle.object65.specs.Objects.{file_name_limit};
 ghost use Rattle.object65.specs.Small.{is_small_text};
@@ -15,8 +17,8 @@ use crate::fragment_decoding::{check_form, check_indices, check_open_form};
 use crate::scan_steps::{
     Names, accept_record, add_name, all_full, check, check_file_name, check_name,
 };
-use crate::{Action, Assert, Export, Item, ObjectFault, Record};
-use base65::{ListVec, Seed};
+use crate::{Action, Assert, Export, Item, ObjectError, Record};
+use base65::{ListVec, OrMemory, Seed};
 use indexmap::IndexSet;
 use std::alloc::Global;
 use std::marker::Model;
@@ -67,7 +69,7 @@ pub struct ScanState {
 
 /// Scans a FILE.
 #[tactic(auto, unfolding(crate::specs::Scanning::scan_file))]
-pub fn accept_file(scan_state: &mut ScanState, body: &[u8]) -> Result<Item, ObjectFault>
+pub fn accept_file(scan_state: &mut ScanState, body: &[u8]) -> Result<Item, OrMemory<ObjectError>>
     requires sound { IsWellFormedOutline scan_state.old }
     requires short { length body.now ≤ file_name_limit }
     ensures { RefinesScan scan_state.old scan_state.new result
@@ -78,7 +80,7 @@ pub fn accept_file(scan_state: &mut ScanState, body: &[u8]) -> Result<Item, Obje
             && scan_state.fills.len() == 0
             && scan_state.exports.len() == 0
             && !scan_state.has_assert,
-        ObjectFault::OutOfOrder,
+        ObjectError::OutOfOrder,
     )?;
     check_file_name(&scan_state.files, body)?;
     add_name(scan_state.alloc, &mut scan_state.files, body)?;
@@ -88,14 +90,14 @@ pub fn accept_file(scan_state: &mut ScanState, body: &[u8]) -> Result<Item, Obje
 
 /// Scans an IMPORT.
 #[tactic(auto, unfolding(crate::specs::Scanning::scan_import))]
-pub fn accept_import(scan_state: &mut ScanState, body: &[u8]) -> Result<Item, ObjectFault>
+pub fn accept_import(scan_state: &mut ScanState, body: &[u8]) -> Result<Item, OrMemory<ObjectError>>
     requires { IsWellFormedOutline scan_state.old }
     ensures { RefinesScan scan_state.old scan_state.new result
         (scan_import (outline_in scan_state.old) body.now) }
 {
     check(
         scan_state.fills.len() == 0 && scan_state.exports.len() == 0 && !scan_state.has_assert,
-        ObjectFault::OutOfOrder,
+        ObjectError::OutOfOrder,
     )?;
     check_name(&scan_state.imports, body)?;
     add_name(scan_state.alloc, &mut scan_state.imports, body)?;
@@ -105,8 +107,8 @@ pub fn accept_import(scan_state: &mut ScanState, body: &[u8]) -> Result<Item, Ob
 
 /// Decodes the body of an EXPORT: its name, its origin and its form.
 #[tactic(auto, unfolding(crate::specs::Bodies::export_of))]
-fn read_export(alloc: Global, version: u8, body: &[u8]) -> Result<Export, ObjectFault>
-    ensures { Refines is_memory (λ e. e) result (export_of version body.now) }
+fn read_export(alloc: Global, version: u8, body: &[u8]) -> Result<Export, OrMemory<ObjectError>>
+    ensures { RefinesOrMemory (λ e. e) result (export_of version body.now) }
 {
     let (name, rest) = counted_text(body)?;
     let (origin, rest) = origin_at(version, rest)?;
@@ -117,13 +119,13 @@ fn read_export(alloc: Global, version: u8, body: &[u8]) -> Result<Export, Object
 
 /// Scans an EXPORT.
 #[tactic(auto, unfolding(crate::specs::Scanning::scan_export))]
-pub fn accept_export(scan_state: &mut ScanState, body: &[u8]) -> Result<Item, ObjectFault>
+pub fn accept_export(scan_state: &mut ScanState, body: &[u8]) -> Result<Item, OrMemory<ObjectError>>
     requires { IsWellFormedOutline scan_state.old }
     ensures { RefinesScan scan_state.old scan_state.new result
         (scan_export (outline_in scan_state.old) body.now) }
 {
     let full = all_full(scan_state);
-    check(full && !scan_state.has_assert, ObjectFault::OutOfOrder)?;
+    check(full && !scan_state.has_assert, ObjectError::OutOfOrder)?;
     let Export { name, origin, form } = read_export(scan_state.alloc, scan_state.version, body)?;
     check_indices(scan_state, origin, &form)?;
     check_name(&scan_state.exports, name.as_slice())?;
@@ -133,20 +135,20 @@ pub fn accept_export(scan_state: &mut ScanState, body: &[u8]) -> Result<Item, Ob
 }
 
 /// Decodes the code of an action.
-fn action_at(code: u8) -> Result<Action, ObjectFault>
+fn action_at(code: u8) -> Result<Action, ObjectError>
     ensures { result ≡ action_of code }
 {
     match code {
         0 => Ok(Action::Warning),
         1 => Ok(Action::Error),
-        _ => Err(ObjectFault::BadSize),
+        _ => Err(ObjectError::BadSize),
     }
 }
 
 /// Decodes the body of an ASSERT: its action, its origin, its text and its form.
 #[tactic(auto, unfolding(crate::specs::Bodies::assert_of))]
-fn read_assert(alloc: Global, version: u8, body: &[u8]) -> Result<Assert, ObjectFault>
-    ensures value { Refines is_memory (λ a. a) result (assert_of version body.now) }
+fn read_assert(alloc: Global, version: u8, body: &[u8]) -> Result<Assert, OrMemory<ObjectError>>
+    ensures value { RefinesOrMemory (λ a. a) result (assert_of version body.now) }
     ensures short { IfOk result (λ a. is_small_text a.text ≡ true) }
 {
     let (code, rest) = byte_at(body)?;
@@ -165,12 +167,12 @@ fn read_assert(alloc: Global, version: u8, body: &[u8]) -> Result<Assert, Object
 
 /// Scans an ASSERT.
 #[tactic(auto, unfolding(crate::specs::Scanning::scan_assert))]
-pub fn accept_assert(scan_state: &mut ScanState, body: &[u8]) -> Result<Item, ObjectFault>
+pub fn accept_assert(scan_state: &mut ScanState, body: &[u8]) -> Result<Item, OrMemory<ObjectError>>
     requires { IsWellFormedOutline scan_state.old }
     ensures { RefinesScan scan_state.old scan_state.new result
         (scan_assert (outline_in scan_state.old) body.now) }
 {
-    check(all_full(scan_state), ObjectFault::OutOfOrder)?;
+    check(all_full(scan_state), ObjectError::OutOfOrder)?;
     let Assert {
         action,
         origin,
@@ -253,38 +255,38 @@ impl Scan {
 
     /// Scans the next record and returns its item. It accepts the same records as a `Builder`. After an error
     /// each call returns `FailedBefore`.
-    pub fn take(&mut self, next: &Record) -> Result<Item, ObjectFault>
-        ensures scanned { Refines is_memory (λ item. (self.new, item)) result
+    pub fn take(&mut self, next: &Record) -> Result<Item, OrMemory<ObjectError>>
+        ensures scanned { RefinesOrMemory (λ item. (self.new, item)) result
             (scan_step self.old (raw_record next.now)) }
         // For each builder's state with this outline, the record has the effect of its item.
         ensures effect { (s : State) → self.old ≡ outline_of s →
-            Refines is_memory (λ item. with_item s item) result
+            RefinesOrMemory (λ item. with_item s item) result
             (state_after_record s (raw_record next.now)) }
         ensures kept { (s : State) → self.old ≡ outline_of s →
             IfOk result (λ item. self.new ≡ outline_of (with_item s item)) }
         ensures within { IfOk result (λ item. IsWithinLimits self.old item) }
         ensures failed { OnErr result (self.new.failed ≡ true) }
-        ensures failed_before { self.old.failed ≡ true → result ≡ Err ObjectFault.FailedBefore }
+        ensures failed_before { self.old.failed ≡ true → result ≡ Err (memory.Error FailedBefore) }
     {
         self.advance(next)
     }
 
     /// Scans the next record.
     #[tactic(auto, unfolding(crate::specs::Scanning::scan_step))]
-    fn advance(&mut self, next: &Record) -> Result<Item, ObjectFault>
-        ensures scanned { Refines is_memory (λ item. (self.new, item)) result
+    fn advance(&mut self, next: &Record) -> Result<Item, OrMemory<ObjectError>>
+        ensures scanned { RefinesOrMemory (λ item. (self.new, item)) result
             (scan_step self.old (raw_record next.now)) }
         ensures within { IfOk result (λ item. IsWithinLimits self.old item) }
         ensures failed { OnErr result (self.new.failed ≡ true) }
-        ensures failed_before { self.old.failed ≡ true → result ≡ Err ObjectFault.FailedBefore }
+        ensures failed_before { self.old.failed ≡ true → result ≡ Err (memory.Error FailedBefore) }
     {
         if self.failed {
-            return Err(ObjectFault::FailedBefore);
+            return Err(OrMemory::Error(ObjectError::FailedBefore));
         }
         // It stays set if the record is rejected.
         self.failed = true;
         if self.scan_state.ended {
-            return Err(ObjectFault::OutOfOrder);
+            return Err(OrMemory::Error(ObjectError::OutOfOrder));
         }
         let item = accept_record(&mut self.scan_state, next)?;
         self.failed = false;
@@ -299,14 +301,14 @@ impl Scan {
     }
 
     /// Rejects an object without an END as cut short.
-    pub fn finish(self) -> Result<(), ObjectFault>
+    pub fn finish(self) -> Result<(), ObjectError>
         ensures { result ≡ scan_end self }
     {
         if self.failed {
-            return Err(ObjectFault::FailedBefore);
+            return Err(ObjectError::FailedBefore);
         }
         if !self.scan_state.ended {
-            return Err(ObjectFault::CutShort);
+            return Err(ObjectError::CutShort);
         }
         Ok(())
     }

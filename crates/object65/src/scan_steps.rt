@@ -3,7 +3,7 @@
 ghost use Rattle.std.specs.Prelude.{◌≡◌, ◌≤◌, ◌<◌, ◌+◌, ◌++◌, ◌∷◌, [], ◌&&◌, ◌-◌, ◌%◌, not, length, nat_le, nat_lt, take, get_or, slice_get, slice_set, IfOk, IfErr, OnOk, Result, Ok, Err, true, false, map};
 ghost use Rattle.std.specs.List.{list_all, prefix_len};
 ghost use Rattle.object65.specs.Bodies.{section_of};
-ghost use Rattle.object65.specs.Record.{Refines, is_memory, raw_record};
+ghost use Rattle.object65.specs.Record.{RefinesOrMemory, raw_record};
 ghost use Rattle.object65.specs.Items.{has_small_text, is_none};
 ghost use Rattle.object65.specs.Objects.{is_name, is_printed, is_among};
 ghost use Rattle.object65.specs.Internal.Sound.{outline_in, IsWellFormedOutline, RefinesScan};
@@ -16,19 +16,19 @@ use crate::fragment_decoding::{add_fill, add_literal, add_value};
 use crate::scan::{
     LastFragment, ScanState, SectionFill, accept_assert, accept_export, accept_file, accept_import,
 };
-use crate::{Fragment, Item, ObjectFault, Record};
-use base65::{ListVec, Seed, is_utf8};
+use crate::{Fragment, Item, ObjectError, Record};
+use base65::{ListVec, OrMemory, Seed, is_utf8};
 use byteorder::{ByteOrder, LittleEndian};
 use indexmap::IndexSet;
-use std::alloc::Global;
+use std::alloc::{AllocError, Global};
 
 const LARGEST_ALIGNMENT: u8 = 15;
 
 /// Returns this error unless the condition holds.
-pub fn check(holds: bool, fault: ObjectFault) -> Result<(), ObjectFault>
-    ensures { result ≡ ok_if holds fault }
+pub fn check(holds: bool, error: ObjectError) -> Result<(), ObjectError>
+    ensures { result ≡ ok_if holds error }
 {
-    if holds { Ok(()) } else { Err(fault) }
+    if holds { Ok(()) } else { Err(error) }
 }
 
 /// Distinct names, in the order of their insertion.
@@ -55,30 +55,30 @@ fn has_name(names: &Names, name: &[u8]) -> bool
 }
 
 /// Rejects a name that is malformed or already present.
-pub fn check_name(names: &Names, name: &[u8]) -> Result<(), ObjectFault>
+pub fn check_name(names: &Names, name: &[u8]) -> Result<(), ObjectError>
     ensures { result ≡ check_new_name (map (λ n. n.items) names.now.keys) name.now }
 {
     check(
         is_name(name) && !has_name(names, name),
-        ObjectFault::NotCanonical,
+        ObjectError::NotCanonical,
     )
 }
 
 /// Rejects a file name that isn't UTF-8 or is already present.
-pub fn check_file_name(names: &Names, name: &[u8]) -> Result<(), ObjectFault>
+pub fn check_file_name(names: &Names, name: &[u8]) -> Result<(), ObjectError>
     ensures { result ≡ check_new_file (map (λ n. n.items) names.now.keys) name.now }
 {
     check(
         is_utf8(name) && !has_name(names, name),
-        ObjectFault::NotCanonical,
+        ObjectError::NotCanonical,
     )
 }
 
 /// Adds a new name.
-pub fn add_name(alloc: Global, names: &mut Names, name: &[u8]) -> Result<(), ObjectFault>
+pub fn add_name(alloc: Global, names: &mut Names, name: &[u8]) -> Result<(), AllocError>
     requires { is_among (map (λ n. n.items) names.old.keys) name.now ≡ false }
-    ensures { Refines is_memory (λ _. map (λ n. n.items) names.new.keys) result
-        (Ok (map (λ n. n.items) names.old.keys ++ name.now ∷ [])) }
+    ensures { OnOk result (map (λ n. n.items) names.new.keys ≡
+        map (λ n. n.items) names.old.keys ++ name.now ∷ []) }
 {
     let key = Vec::from_slice(alloc, name)?;
     names.insert(key)?;
@@ -120,7 +120,7 @@ fn first_unfilled(scan_state: &mut ScanState) -> usize
 }
 
 /// Returns the section that the next fragment is added to, and its index.
-fn next_fill(scan_state: &mut ScanState) -> Result<(usize, SectionFill), ObjectFault>
+fn next_fill(scan_state: &mut ScanState) -> Result<(usize, SectionFill), ObjectError>
     requires { IsWellFormedOutline scan_state.old }
     ensures fill { result ≡ next_fill scan_state.old.fills.items }
     ensures filling { IfOk result (λ x. (scan_state.new.search_start ≡ x.0) ×
@@ -130,7 +130,7 @@ fn next_fill(scan_state: &mut ScanState) -> Result<(usize, SectionFill), ObjectF
 {
     let at = first_unfilled(scan_state);
     if at == scan_state.fills.len() {
-        return Err(ObjectFault::OutOfOrder);
+        return Err(ObjectError::OutOfOrder);
     }
     Ok((at, scan_state.fills[at]))
 }
@@ -157,20 +157,20 @@ fn add_fragment(
     kind: u8,
     fill: SectionFill,
     body: &[u8],
-) -> Result<(SectionFill, Fragment), ObjectFault>
-    ensures { Refines is_memory (λ x. x) result
+) -> Result<(SectionFill, Fragment), OrMemory<ObjectError>>
+    ensures { RefinesOrMemory (λ x. x) result
         (with_record_fragment (outline_in scan_state.now) kind body.now fill) }
 {
     match kind {
         LITERAL => add_literal(scan_state.alloc, fill, body),
-        FILL => add_fill(fill, body),
+        FILL => Ok(add_fill(fill, body)?),
         _ => add_value(scan_state, fill, body),
     }
 }
 
 /// Scans a LITERAL, a FILL or a VALUE.
 #[tactic(auto, unfolding(crate::specs::Scanning::scan_part))]
-fn accept_part(scan_state: &mut ScanState, kind: u8, body: &[u8]) -> Result<Item, ObjectFault>
+fn accept_part(scan_state: &mut ScanState, kind: u8, body: &[u8]) -> Result<Item, OrMemory<ObjectError>>
     requires { IsWellFormedOutline scan_state.old }
     ensures { RefinesScan scan_state.old scan_state.new result
         (scan_part (outline_in scan_state.old)
@@ -197,15 +197,15 @@ pub fn all_full(scan_state: &mut ScanState) -> bool
 }
 
 /// Reads the body of a SECTION: the size, the alignment and the name.
-fn read_section(alloc: Global, body: &[u8]) -> Result<(u32, u8, ListVec<u8>), ObjectFault>
-    ensures { Refines is_memory (λ x. section_header x.0 x.1 x.2) result (section_of body.now) }
+fn read_section(alloc: Global, body: &[u8]) -> Result<(u32, u8, ListVec<u8>), OrMemory<ObjectError>>
+    ensures { RefinesOrMemory (λ x. section_header x.0 x.1 x.2) result (section_of body.now) }
 {
     if body.len() < 5 {
-        return Err(ObjectFault::BadSize);
+        return Err(OrMemory::Error(ObjectError::BadSize));
     }
     let size = LittleEndian::read_u32(body);
     if size > SECTION_LIMIT {
-        return Err(ObjectFault::BadSize);
+        return Err(OrMemory::Error(ObjectError::BadSize));
     }
     let align = body[4];
     let name = ListVec::copy_of(alloc, &body[5..])?;
@@ -213,15 +213,15 @@ fn read_section(alloc: Global, body: &[u8]) -> Result<(u32, u8, ListVec<u8>), Ob
 }
 
 /// Adds a section with a new name.
-fn add_section(scan_state: &mut ScanState, name: &[u8], size: u32) -> Result<(), ObjectFault>
+fn add_section(scan_state: &mut ScanState, name: &[u8], size: u32) -> Result<(), AllocError>
     requires sound { IsWellFormedOutline scan_state.old }
     requires name { is_among (map (λ n. n.items) scan_state.old.sections.keys) name.now ≡ false }
-    ensures added { Refines is_memory (λ _. outline_in scan_state.new) result
-        (Ok (record (outline_in scan_state.old) {
+    ensures added { OnOk result (outline_in scan_state.new ≡
+        record (outline_in scan_state.old) {
           sections = map (λ n. n.items) scan_state.old.sections.keys ++
               name.now ∷ [];
           fills = scan_state.old.fills.items ++ empty_fill size ∷ [];
-        })) }
+        }) }
     ensures sound { OnOk result (IsWellFormedOutline scan_state.new) }
 {
     add_name(scan_state.alloc, &mut scan_state.sections, name)?;
@@ -235,44 +235,44 @@ fn add_section(scan_state: &mut ScanState, name: &[u8], size: u32) -> Result<(),
 
 /// Scans a SECTION.
 #[tactic(auto, unfolding(crate::specs::Scanning::scan_section))]
-fn accept_section(scan_state: &mut ScanState, body: &[u8]) -> Result<Item, ObjectFault>
+fn accept_section(scan_state: &mut ScanState, body: &[u8]) -> Result<Item, OrMemory<ObjectError>>
     requires { IsWellFormedOutline scan_state.old }
     ensures { RefinesScan scan_state.old scan_state.new result
         (scan_section (outline_in scan_state.old) body.now) }
 {
     check(
         !scan_state.has_fragment && scan_state.exports.len() == 0 && !scan_state.has_assert,
-        ObjectFault::OutOfOrder,
+        ObjectError::OutOfOrder,
     )?;
     let (size, align, name) = read_section(scan_state.alloc, body)?;
     check_name(&scan_state.sections, name.as_slice())?;
-    check(align <= LARGEST_ALIGNMENT, ObjectFault::NotCanonical)?;
+    check(align <= LARGEST_ALIGNMENT, ObjectError::NotCanonical)?;
     add_section(scan_state, name.as_slice(), size)?;
     Ok(Item::Section { name, size, align })
 }
 
 /// Scans an END.
 #[tactic(auto, unfolding(crate::specs::Scanning::scan_last))]
-fn accept_end(scan_state: &mut ScanState, body: &[u8]) -> Result<Item, ObjectFault>
+fn accept_end(scan_state: &mut ScanState, body: &[u8]) -> Result<Item, OrMemory<ObjectError>>
     requires { IsWellFormedOutline scan_state.old }
     ensures { RefinesScan scan_state.old scan_state.new result
         (scan_last (outline_in scan_state.old) body.now) }
 {
-    check(all_full(scan_state), ObjectFault::OutOfOrder)?;
-    check(body.is_empty(), ObjectFault::BadSize)?;
+    check(all_full(scan_state), ObjectError::OutOfOrder)?;
+    check(body.is_empty(), ObjectError::BadSize)?;
     scan_state.ended = true;
     Ok(Item::End)
 }
 
 /// Scans a record and returns its item.
 #[tactic(auto, unfolding(crate::specs::Scanning::scan_record))]
-pub fn accept_record(scan_state: &mut ScanState, next: &Record) -> Result<Item, ObjectFault>
+pub fn accept_record(scan_state: &mut ScanState, next: &Record) -> Result<Item, OrMemory<ObjectError>>
     requires { IsWellFormedOutline scan_state.old }
     ensures { RefinesScan scan_state.old scan_state.new result
         (scan_record (outline_in scan_state.old) (raw_record next.now)) }
 {
     if !is_kind(scan_state.version, next.kind) {
-        return Err(ObjectFault::OutOfOrder);
+        return Err(OrMemory::Error(ObjectError::OutOfOrder));
     }
     let body = next.body.as_slice();
     match next.kind {

@@ -1,6 +1,6 @@
 //! Encodes an object, record by record.
 
-ghost use Rattle.std.specs.Prelude.{◌≡◌, ◌≤◌, ◌<◌, ◌+◌, ◌*◌, ◌++◌, ◌∷◌, [], ◌&&◌, length, map, OnOk, OnErr, IfErr, true, sum_by, option_to_list};
+ghost use Rattle.std.specs.Prelude.{◌≡◌, ◌≤◌, ◌<◌, ◌+◌, ◌*◌, ◌++◌, ◌∷◌, [], ◌&&◌, length, map, OnOk, OnErr, true, sum_by, option_to_list};
 ghost use Rattle.std.specs.List.{flat_map, list_all};
 ghost use Rattle.std.specs.Int.{w64, cast_unsigned};
 ghost use Rattle.byteorder.specs.Endian.{little_bytes};
@@ -15,7 +15,7 @@ use crate::format::{
 };
 use crate::fragment_decoding::width_size;
 use crate::{
-    Action, Assert, Export, Fragment, Node, Norm, Object, ObjectFault, Origin, Section, Width,
+    Action, Assert, Export, Fragment, Node, Norm, Object, Origin, Section, Width,
 };
 use base65::{ListVec, Op1, Op2};
 use byteorder::{ByteOrder, LittleEndian};
@@ -377,11 +377,10 @@ fn encode_object(body: &mut Vec<u8>, out: &mut Vec<u8>, object: &Object) -> Resu
 }
 
 /// Appends the encoding of an object. If memory runs out, `out` is unchanged.
-pub fn write_object(alloc: Global, object: &Object, out: &mut Vec<u8>) -> Result<(), ObjectFault>
+pub fn write_object(alloc: Global, object: &Object, out: &mut Vec<u8>) -> Result<(), AllocError>
     requires { is_well_formed_object object.now ≡ true }
     ensures written { OnOk result (out.new.items ≡ out.old.items ++ object_bytes object.now) }
     ensures unchanged { OnErr result (out.new.items ≡ out.old.items) }
-    ensures memory { IfErr result (λ e. e ≡ ObjectFault.OutOfMemory) }
 {
     let mut bytes = Vec::new(alloc);
     encode_object(&mut Vec::new(alloc), &mut bytes, object)?;

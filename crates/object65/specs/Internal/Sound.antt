@@ -1,16 +1,17 @@
 -- The models of the parts of a scan and of a builder, and their invariants.
 use Rattle.std.specs.Prelude.{◌≡◌, ◌≤◌, ◌+◌, ℕ, List, map, slice_get, Some, true, false, ⊤, Result, IfOk, OnOk}
 use Rattle.std.specs.List.{list_all, prefix_len}
+use Rattle.base65.specs.declared.failure.OrMemory.{OrMemory}
 use Rattle.object65.specs.declared.scan.ScanState.{ScanState}
 use Rattle.object65.specs.declared.builder.Parts.{Parts}
 use Rattle.object65.specs.declared.builder.Draft.{Draft}
 use Rattle.object65.specs.declared.record.Item.{Item}
 use Rattle.object65.specs.declared.record.Item.TheVariants.{File, Import, Section, Part, Export, Assert, End}
 use Rattle.object65.specs.declared.object.Fragment.{Fragment}
-use Rattle.object65.specs.declared.fault.ObjectFault.{ObjectFault}
+use Rattle.object65.specs.declared.fault.ObjectError.{ObjectError}
 use Rattle.object65.specs.Items.{has_small_text}
 use Rattle.object65.specs.Objects.{fragment_len}
-use Rattle.object65.specs.Record.{Refines, is_memory}
+use Rattle.object65.specs.Record.{RefinesOrMemory}
 use Rattle.object65.specs.Scanning.{Outline, is_filled, outline_of, State, IsReached}
 use Rattle.object65.specs.Small.{is_small_text}
 
@@ -36,8 +37,8 @@ pub record ScanInvariant (k : ScanState) : Type 0 where
 
 -- the result and the effect of a call that scans a record are those expected; the length of a text fits one
 -- byte
-pub record RefinesScan (old new : ScanState) (result : Result Item ObjectFault) (expected : Result (Outline × Item) ObjectFault) : Type 0 where
-  pub taken : Refines is_memory (λ i. (outline_in new, i)) result expected
+pub record RefinesScan (old new : ScanState) (result : Result Item (OrMemory ObjectError)) (expected : Result (Outline × Item) ObjectError) : Type 0 where
+  pub taken : RefinesOrMemory (λ i. (outline_in new, i)) result expected
   pub small : IfOk result (λ i. has_small_text i ≡ true)
   pub sound : OnOk result (IsWellFormedOutline new)
 

@@ -23,6 +23,9 @@ pub without_store : {E A : Type 0} (f : OrMemory E) (read : Result A E) → Refi
 without_store memory.OutOfMemory read is = tt
 without_store (memory.Error e) read is = is
 
+kept : (old new : ℕ) → old ≤ new → (old < new → ⊥) → new ≡ old
+kept old new up same = grind arith
+
 module _ {X E : Type 0} (files_of : X → Option Files) (failures_of : X → ℕ) (last_failure_of : X → LastFailure) (name : List ℕ) where
   -- a frame depends on the error alone, or on there being none
   pub frame_of_ok : {T U asks : Type 0} (old new : X) (x : T) (y : U) → ReadFrame {E = E} files_of failures_of last_failure_of asks name old new (Ok x) → ReadFrame {E = E} files_of failures_of last_failure_of asks name old new (Ok y)
@@ -48,9 +51,6 @@ module _ {X E : Type 0} (files_of : X → Option Files) (failures_of : X → ℕ
   pub frame_without_store : {T U asks : Type 0} (old new : X) (x : T) (f : OrMemory E) → ReadFrame {E = E} files_of failures_of last_failure_of asks name old new (Ok x) → ReadFrame {T = U} files_of failures_of last_failure_of asks name old new (Err (of_or_memory f))
   frame_without_store old new x memory.OutOfMemory frame = record { files = frame.files; count = frame.count; last_failure = tt; at_last_count = λ a last. tt }
   frame_without_store old new x (memory.Error e) frame = record { files = frame.files; count = frame.count; last_failure = tt; at_last_count = frame.at_last_count }
-
-  kept : (old new : ℕ) → old ≤ new → (old < new → ⊥) → new ≡ old
-  kept old new up same = grind arith
 
   -- the frame of a call that returns what a store call returned
   pub frame_of_store_ok : {T U asks : Type 0} (old new : X) (x : T) (y : U) → files_of new ≡ files_of old → PropagatesIoError {T = T} FileError (failures_of old) (failures_of new) (Ok x) → FailsAtLastCount {T = T} is_store_system_error (failures_of old) (Ok x) → ReadFrame {E = E} files_of failures_of last_failure_of asks name old new (Ok y)

@@ -10,7 +10,7 @@ use Rattle.base65.specs.Failure.{RefinesErrOrFailure, RefinesErrOrMemory, of_or_
 use Rattle.base65.specs.Store.{Files}
 use Rattle.base65.proofs.Failures.{passed_on, without_store}
 use Rattle.object65.specs.declared.fault.ObjectError.{ObjectError}
-use Rattle.object65.specs.declared.fault.ObjectError.TheVariants.{CutShort}
+use Rattle.object65.specs.declared.fault.ObjectError.TheVariants.{CutShort, FileNotFound}
 use Rattle.object65.specs.Record.{◌>>=◌, RawRecord}
 use Rattle.object65.specs.Reading.{head_at, head_of, record_at, end_at, in_file, record_header, body_or_cut_short, record_with_end, bytes_between, records_at, object_at, IsAhead, RecordReaderView, bytes_from, has_record, record_in, record_len}
 use Rattle.object65.specs.Scanning.{State, start, state_after_record, object_of_state}
@@ -85,7 +85,7 @@ module _ (v limit at next : ℕ) where
   reading_stops None now name s e same goes refused = tt
   reading_stops (Some m) now name s e same goes refused = file (map.get m name) goes (rw same at refused) where
     file : (f : Option (List ℕ)) → IfSome f (λ bytes. Goes v bytes limit at next s) → RefinesErrOrFailure e (in_file f (record_at v next limit)) → RefinesErrOrFailure e (all_in v f at limit)
-    file None goes refused = refused
+    file None goes refused = passed_on e (in_file None (record_at v next limit)) _ (λ f h. let is : FileNotFound ≡ f = cc in ap Err is) refused
     file (Some bytes) goes refused = passed_on e _ _ (λ f. stops_reading v bytes limit at next s f goes) refused
 
   pub taking_stops : (known now : Option Files) (name : List ℕ) (s : State) (r : RawRecord × ℕ) (e : OrMemory ObjectError) → now ≡ known → GoesIn v known name limit at next s → IfSome now (λ m. in_file (map.get m name) (record_at v next limit) ≡ Ok r) → RefinesErrOrMemory e (state_after_record s r.0) → IfSome known (λ m. RefinesErrOrFailure (of_or_memory e) (all_in v (map.get m name) at limit))
@@ -116,7 +116,7 @@ end_refused (Some m) a b name at limit first s end e same_a same_b head records 
 -- so is an error of the head, or of a record up to the END record
 head_stops : (f : Option (List ℕ)) (at limit : ℕ) (e : OrFailure ObjectError) → RefinesErrOrFailure e (in_file f (head_at at limit)) → RefinesErrOrFailure e (in_file f (object_at at limit))
 unfolding object_at
-head_stops None at limit e refused = refused
+head_stops None at limit e refused = passed_on e (in_file None (head_at at limit)) _ (λ f h. let is : FileNotFound ≡ f = cc in ap Err is) refused
 head_stops (Some bytes) at limit e refused = passed_on e (head_at at limit bytes) _ (λ f h. ap (λ r. r >>= (λ first. records_at (length bytes) (start first.0) first.1 limit bytes >>= (λ end. end_at end.1 limit bytes >>= (λ u. object_of_state end.0)))) h) refused
 
 pub head_refused : (known : Option Files) (name : List ℕ) (at limit : ℕ) (e : OrFailure ObjectError) → IfSome known (λ m. RefinesErrOrFailure e (in_file (map.get m name) (head_at at limit))) → IfSome known (λ m. RefinesErrOrFailure e (in_file (map.get m name) (object_at at limit)))

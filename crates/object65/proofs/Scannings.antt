@@ -8,6 +8,7 @@ use Rattle.std.proofs.lemmas.Bool.Decides.{nat_tests}
 use Rattle.std.proofs.lemmas.List.{map-append, map-set}
 use Rattle.object65.specs.declared.builder.Draft.{Draft}
 use Rattle.object65.specs.declared.fault.ObjectError.{ObjectError}
+use Rattle.object65.specs.declared.fault.ObjectError.TheVariants.{OutOfOrder}
 use Rattle.object65.specs.declared.record.Item.{Item}
 use Rattle.object65.specs.declared.record.Item.TheVariants as item
 use Rattle.object65.specs.declared.object.Fragment.{Fragment}
@@ -17,7 +18,7 @@ use Rattle.base65.specs.declared.width.Width.{Width}
 use Rattle.object65.specs.declared.scan.LastFragment.{LastFragment}
 use Rattle.object65.specs.declared.scan.LastFragment.TheVariants as last
 use Rattle.object65.specs.declared.scan.SectionFill.{SectionFill}
-use Rattle.object65.specs.Bodies.{literal_of}
+use Rattle.object65.specs.Bodies.{assert_of, literal_of, value_of}
 use Rattle.object65.specs.Record.{◌>>=◌, RawRecord, is_record_kind}
 use Rattle.object65.specs.Form.{Form}
 use Rattle.object65.specs.Items.{State, closed_fragments, nonempty_literal, draft_with_fragment, is_none, with_item}
@@ -78,7 +79,11 @@ export_leads s body = grind (arith, common_steps, read, map-append)
 assert_leads : (s : State) (body : List ℕ) → Leads s false (Scanning.scan_assert (Scanning.outline_of s) body)
 unfolding Scanning.scan_assert
 assert_leads s body =
-    read s false _ _ (λ u. read s false _ _ (λ a. read s false _ _ (λ v. read s false _ _ (λ w.
+    let o = Scanning.outline_of s in
+    read s false (Scanning.ok_if (list_all Scanning.is_filled o.fills) OutOfOrder) _ (λ u.
+    read s false (assert_of s.version body) _ (λ a.
+    read s false (Scanning.check_indices (length o.files) (length o.fills) (length o.imports) a.origin a.form) _ (λ v.
+    read s false (Scanning.check_canonical_open a.form) _ (λ w.
     (rw (some_push s.asserts a) refl, tt, refl)))))
 
 end_leads : (s : State) (body : List ℕ) → Leads s true (Scanning.scan_last (Scanning.outline_of s) body)
@@ -145,7 +150,10 @@ fill_leads body d = grind (arith, common_steps, in_read, after_fill)
 value_leads : (v m n i : ℕ) (body : List ℕ) (d : Draft) → LeadsIn d (Scanning.with_value v m n i body (Scanning.section_fill d))
 unfolding Scanning.with_value
 value_leads v m n i body d =
-    in_read d _ _ (λ x is. in_read d _ _ (λ u capacity. in_read d _ _ (λ y there. in_read d _ _ (λ w fine.
+    in_read d (value_of v body) _ (λ x is.
+    in_read d (Scanning.check_capacity (Scanning.section_fill d) (width_len x.0)) _ (λ u capacity.
+    in_read d (Scanning.check_indices m n i x.1 x.2) _ (λ y there.
+    in_read d (Scanning.check_canonical_open x.2) _ (λ w fine.
     ap (λ (l : LastFragment). Scanning.fill_after (Scanning.section_fill d) (width_len x.0) l) (after_value d x.0 x.1 x.2)))))
 
 names_stay : (ds : List Draft) (k : ℕ) (d e : Draft) → slice_get ds k ≡ Some d → e.name ≡ d.name → map (λ x. x.name) (slice_set ds k e) ≡ map (λ x. x.name) ds

@@ -25,7 +25,7 @@ use Rattle.object65.specs.Record.{IsBytes, ◌>>=◌}
 use Rattle.object65.specs.Folding.{is_normal, folds1, folds2}
 use Rattle.object65.specs.Form.{Form, lit, sec, imp, prefix, binary, nodes}
 use Rattle.object65.specs.Objects.{FitsBits, OriginFits, has_file_by}
-use Rattle.object65.specs.Operators.{op1_of, op2_of, number2}
+use Rattle.object65.specs.Operators.{op2_of, number2}
 use Rattle.object65.specs.Spelling.{code1, form_bytes, origin_bytes, width_code, action_code, value_record, export_record, assert_record, fill_record}
 use Rattle.object65.proofs.SmallParts.{left, right}
 use Rattle.object65.proofs.Numbers.{bytes_drop, front, back}

@@ -1,6 +1,6 @@
 -- Folding preserves values, and its results are normal.
 use Rattle.std.proofs.lemmas.Grind.{common_steps}
-use Rattle.std.proofs.Common.{◌≡◌, ◌∙◌, ℕ, ◌≤◌, ℤ, ◌+ℤ◌, ◌-ℤ◌, refl, sym, ap, arith, Result, Ok, Option, Bool, true, false, ◌&&◌, ◌||◌, not, nat_eq, nat_le, cond}
+use Rattle.std.proofs.Common.{◌≡◌, ◌∙◌, ℕ, ◌≤◌, ℤ, ◌+ℤ◌, ◌-ℤ◌, sym, ap, arith, Result, Ok, Bool, true, false, nat_eq, cond}
 use Rattle.std.proofs.lemmas.Bool.Decides.{nat_tests}
 use Rattle.std.proofs.lemmas.Int.{ints, int_wrap-add_left, int_wrap-add_right, int_wrap-sub_right}
 use Rattle.std.proofs.Math.IntN.{neg_ℤ}
@@ -9,11 +9,10 @@ use Rattle.base65.specs.declared.values.Op1.{Op1}
 use Rattle.base65.specs.declared.values.Op1.TheVariants.{Plus}
 use Rattle.base65.specs.declared.values.Op2.{Op2}
 use Rattle.base65.specs.declared.values.Op2.TheVariants.{Add, Subtract}
-use Rattle.base65.specs.Outcome.{◌>>=◌}
-use Rattle.base65.specs.Values.{value1, wrap_signed}
+use Rattle.base65.specs.Values.{wrap_signed}
 use Rattle.object65.specs.Folding
 use Rattle.object65.specs.Form.{Form, lit, sec, prefix, binary, nodes}
-use Rattle.object65.specs.FormValue.{or_none, value_in, value_of_one, value_of_two}
+use Rattle.object65.specs.FormValue.{value_in, value_of_one, value_of_two}
 use Rattle.object65.specs.Laws.{PrefixFoldPreservesValue, BinaryFoldPreservesValue, IsFolded, FoldedIsNormal, FoldableIffFoldChanges}
 
 -- ---- Sums that wrap.

@@ -1,6 +1,6 @@
 -- The invariant of a builder, and the limits of items.
 use Rattle.std.proofs.lemmas.Grind.{common_steps}
-use Rattle.std.proofs.Common.{◌≡◌, ◌∙◌, ◌≤◌, ℕ, List, [], ◌∷◌, ◌++◌, length, true, ◌&&◌, nat_le, Result, Ok, Err, refl, ap, subst, arith, ◌+◌, zero, suc, Option, Some, Bool, false, ◌==◌, if◌then◌else◌, sym}
+use Rattle.std.proofs.Common.{◌≡◌, ◌∙◌, ◌≤◌, ℕ, List, [], ◌∷◌, ◌++◌, length, true, ◌&&◌, nat_le, Result, Ok, Err, refl, ap, subst, arith, ◌+◌, zero, suc, Option, Some, false, ◌==◌, if◌then◌else◌, sym}
 use Rattle.std.proofs.lemmas.Bool.Decides.{nat_tests}
 use Rattle.std.specs.List.{list_all, AllByRecursion}
 use Rattle.object65.specs.declared.fault.ObjectError.{ObjectError}

@@ -15,7 +15,7 @@ use Rattle.object65.specs.Record.{◌>>=◌, RawRecord}
 use Rattle.object65.specs.Reading.{head_at, head_of, record_at, end_at, in_file, record_header, body_or_cut_short, record_with_end, bytes_between, records_at, object_at, IsAhead, RecordReaderView, bytes_from, has_record, record_in, record_len}
 use Rattle.object65.specs.Scanning.{State, start, state_after_record, object_of_state}
 use Rattle.object65.specs.declared.object.Object.{Object}
-use Rattle.object65.proofs.RecordSequences.{version_kept, passes, room_on}
+use Rattle.object65.proofs.RecordSequences.{version_kept, room_on}
 use Rattle.std.proofs.lemmas.Bool.Decides.{nat_tests}
 use Rattle.std.specs.FinMap.{get}
 use borrow.Author.Tests.{ltb-false}

@@ -1,4 +1,4 @@
-use Rattle.std.proofs.Common.{◌≡◌, ◌∙◌, true, ap, sym}
+use Rattle.std.proofs.Common.{◌∙◌, ap, sym}
 use Rattle.object65.specs.Objects.{is_well_formed_object}
 use Rattle.object65.specs.Internal.Sound.{state_in, state_of}
 use Rattle.object65.specs.Scanning.{object_from}

@@ -1,4 +1,5 @@
 pub mod Digit
+pub mod ErrorNumbers
 pub mod Failure
 pub mod FileBytes
 pub mod MemStore

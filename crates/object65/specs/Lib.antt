@@ -1,4 +1,5 @@
 pub mod Bodies
+pub mod ErrorNumbers
 pub mod Folding
 pub mod Form
 pub mod FormValue

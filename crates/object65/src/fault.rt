@@ -2,7 +2,7 @@
 
 ghost use Rattle.std.specs.Prelude.{◌≡◌};
 
-use base65::{OrFailure, OrMemory};
+use base65::{FileNotFound, Numbered, OrFailure, OrMemory};
 use std::fmt;
 
 /// An error of the input of a call on objects.
@@ -44,13 +44,27 @@ impl From<ObjectError> for OrFailure<ObjectError> {
     }
 }
 
-impl From<base65::FileNotFound> for ObjectError {
-    ghost use Rattle.object65.specs.declared.fault.ObjectError.TheVariants.{FileNotFound};
+impl From<FileNotFound> for ObjectError {
+    ghost use Rattle.object65.specs.declared.fault.ObjectError.TheVariants as error;
 
-    ghost from_gives = { λ _ e. e ≡ FileNotFound };
+    ghost from_gives = { λ _ e. e ≡ error.FileNotFound };
 
-    fn from(_e: base65::FileNotFound) -> ObjectError {
+    fn from(_e: FileNotFound) -> ObjectError {
         ObjectError::FileNotFound
+    }
+}
+
+impl Numbered for ObjectError {
+    ghost use Rattle.object65.specs.ErrorNumbers.{error_number};
+
+    ghost STORE_FAILED = { 11 };
+
+    ghost number = { error_number };
+
+    const STORE_FAILED: u8 = 11;
+
+    fn number(&self) -> u8 {
+        *self as u8
     }
 }
 

@@ -194,7 +194,11 @@ fn read_after(
 
 /// Decodes the form at the front, nested at most `depth` deep. Returns it and the rest.
 #[cycle(form)]
-fn read_form(alloc: Global, bytes: &[u8], depth: usize) -> Result<(Norm, &[u8]), OrMemory<ObjectError>>
+fn read_form(
+    alloc: Global,
+    bytes: &[u8],
+    depth: usize,
+) -> Result<(Norm, &[u8]), OrMemory<ObjectError>>
     ensures { RefinesOrMemory (λ x. (x.0, x.1.now)) result (form_at depth bytes.now) }
 {
     if depth == 0 || bytes.is_empty() {

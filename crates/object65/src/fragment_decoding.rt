@@ -156,7 +156,11 @@ pub fn width_size(width: Width) -> u32
 
 /// Decodes the body of a VALUE: its width, its origin and its form.
 #[tactic(auto, unfolding(crate::specs::Bodies::value_of))]
-fn read_value(alloc: Global, version: u8, body: &[u8]) -> Result<(Width, Origin, Norm), OrMemory<ObjectError>>
+fn read_value(
+    alloc: Global,
+    version: u8,
+    body: &[u8],
+) -> Result<(Width, Origin, Norm), OrMemory<ObjectError>>
     ensures { RefinesOrMemory (λ x. x) result (value_of version body.now) }
 {
     let (code, rest) = byte_at(body)?;

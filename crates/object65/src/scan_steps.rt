@@ -170,7 +170,11 @@ fn add_fragment(
 
 /// Scans a LITERAL, a FILL or a VALUE.
 #[tactic(auto, unfolding(crate::specs::Scanning::scan_part))]
-fn accept_part(scan_state: &mut ScanState, kind: u8, body: &[u8]) -> Result<Item, OrMemory<ObjectError>>
+fn accept_part(
+    scan_state: &mut ScanState,
+    kind: u8,
+    body: &[u8],
+) -> Result<Item, OrMemory<ObjectError>>
     requires { IsWellFormedOutline scan_state.old }
     ensures { RefinesScan scan_state.old scan_state.new result
         (scan_part (outline_in scan_state.old)
@@ -266,7 +270,10 @@ fn accept_end(scan_state: &mut ScanState, body: &[u8]) -> Result<Item, OrMemory<
 
 /// Scans a record and returns its item.
 #[tactic(auto, unfolding(crate::specs::Scanning::scan_record))]
-pub fn accept_record(scan_state: &mut ScanState, next: &Record) -> Result<Item, OrMemory<ObjectError>>
+pub fn accept_record(
+    scan_state: &mut ScanState,
+    next: &Record,
+) -> Result<Item, OrMemory<ObjectError>>
     requires { IsWellFormedOutline scan_state.old }
     ensures { RefinesScan scan_state.old scan_state.new result
         (scan_record (outline_in scan_state.old) (raw_record next.now)) }

@@ -14,9 +14,7 @@ use crate::format::{
     ASSERT, END, EXPORT, FILE, FILL, IMPORT, LARGEST_BODY, LITERAL, MAGIC, SECTION, VALUE,
 };
 use crate::fragment_decoding::width_size;
-use crate::{
-    Action, Assert, Export, Fragment, Node, Norm, Object, Origin, Section, Width,
-};
+use crate::{Action, Assert, Export, Fragment, Node, Norm, Object, Origin, Section, Width};
 use base65::{ListVec, Op1, Op2};
 use byteorder::{ByteOrder, LittleEndian};
 use std::alloc::{AllocError, Global};

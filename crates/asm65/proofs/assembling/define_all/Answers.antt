@@ -1,4 +1,5 @@
-use Rattle.std.proofs.Common.{rules, ◌∙◌, ◌+◌, ◌<◌, ap, subst, drop, get_or, length, map, List, [], Err}
+use Rattle.std.proofs.lemmas.Grind.{common_steps}
+use Rattle.std.proofs.Common.{arith, rules, ◌∙◌, ◌+◌, ◌<◌, ap, subst, drop, get_or, length, map, List, [], Err}
 use Rattle.std.proofs.lemmas.Result.{err_from_is_err_and}
 use Rattle.sources65.specs.Reading.{Define, no_line}
 use Rattle.asm65.specs.declared.assembling.Define as code
@@ -33,3 +34,6 @@ loop-one-preserved c =
     let lt : i < length xs = search rules in
     let left = subst (λ (ds : List Define). SoFar location (map define_of xs) ds c.loop-one.assembler) (left_dropped xs i none lt) c.loop-one.invariant in
     one_more location (map define_of xs) (map define_of (drop (i + 1) xs)) (define_of (get_or xs i none)) c.loop-one.assembler c.define_one.new.assembler c.in_ok-define_one.field-0 left c.in_ok-define_one.ensures.transitions
+
+pub returns-clause-defined : goal.returns-clause-defined
+returns-clause-defined c = grind (arith, common_steps)

@@ -1,4 +1,5 @@
-use Rattle.std.proofs.Common.{◌≡◌, ◌∙◌, true, false, ap, sym, subst}
+use Rattle.std.proofs.lemmas.Grind.{common_steps}
+use Rattle.std.proofs.Common.{arith, ◌≡◌, ◌∙◌, true, false, ap, sym, subst}
 use Rattle.syntax65.specs.declared.source_location.SourceLocation.{SourceLocation}
 use Rattle.expand65.specs.Representation.{location_of}
 use Rattle.semantics65.specs.Views.{location_in}
@@ -18,3 +19,6 @@ returns-then-not-is_failure-clause-silent c = memory_silent c.fail_at_location.r
 
 pub returns-clause-silent : goal.returns-clause-silent
 returns-clause-silent c = λ h. absurd (let both : true ≡ false = sym h ∙ failure_inside c.args.fault (sym c.is_failure.ensures ∙ c.if-not-is_failure.false) in cc)
+
+pub returns-clause-stopped : goal.returns-clause-stopped
+returns-clause-stopped c = grind (arith, common_steps)

@@ -1,4 +1,5 @@
-use Rattle.std.proofs.Common.{◌≡◌, ◌∙◌, ℕ, List, Option, ap, sym, subst, take, drop}
+use Rattle.std.proofs.lemmas.Grind.{common_steps}
+use Rattle.std.proofs.Common.{arith, ◌≡◌, ◌∙◌, ℕ, List, Option, ap, sym, subst, take, drop}
 use Rattle.std.specs.Prelude.{IfSome}
 use Rattle.std.proofs.lemmas.List.{drop-map, take-map}
 use Rattle.std.proofs.lemmas.Result.{err_from_is_err_and}
@@ -51,3 +52,6 @@ pub returns-clause-next : goal.returns-clause-next
 returns-clause-next g c =
     let R : Answer → Type 0 = λ q. AssemblesLine (g.S.Store.files c.args.store.now) (g.S.Store.last_failure c.assemble_parts-taken.new.store) c.args.run.now (record { expander = c.consume_peeked.new.self; assembler = c.assemble_parts-taken.new.assembler }) q in
     subst R c.in_ok-taken.was (assembled g (goal.at.returns-clause-next g c).After-consume_peeked)
+
+pub split_at-requires : goal.split_at-requires
+split_at-requires g c = grind (arith, common_steps)

@@ -1,4 +1,5 @@
-use Rattle.std.proofs.Common.{◌≡◌, subst}
+use Rattle.std.proofs.lemmas.Grind.{common_steps}
+use Rattle.std.proofs.Common.{arith, ◌≡◌, subst}
 use Rattle.std.proofs.lemmas.Result.{err_from_is_err_and}
 use Rattle.std.specs.Prelude.{IfSome}
 use Rattle.semantics65.specs.Views.{location_in}
@@ -13,3 +14,6 @@ returns-in_err-statement-clause-refused g c = λ count t h.
 pub returns-clause-bytes : goal.returns-clause-bytes
 returns-clause-bytes g c =
     subst (λ s. IfSome (g.S.Store.files c.args.store.now) (λ m. c.in_ok-statement.field-0 ≡ read_bytes m (location_in c.args.at.file.now c.args.at.line) s)) c.replace-named.ensures.value c.in_ok-statement.ensures.bytes
+
+pub returns-in_err-statement-clause-bytes : goal.returns-in_err-statement-clause-bytes
+returns-in_err-statement-clause-bytes g c = grind (arith, common_steps)

@@ -1,4 +1,5 @@
-use Rattle.std.proofs.Common.{◌≡◌, ◌∙◌, ℕ, sym, ap, subst}
+use Rattle.std.proofs.lemmas.Grind.{common_steps}
+use Rattle.std.proofs.Common.{arith, ◌≡◌, ◌∙◌, ℕ, sym, ap, subst}
 use Rattle.std.specs.Prelude.{Err, Result}
 use Rattle.ast65.specs.Faults.{is_system_error}
 use Rattle.ast65.specs.declared.fault.AsmFault.{AsmFault}
@@ -81,3 +82,6 @@ emit_statement-requires-clause-form c =
     let y : Symbols = table_of c.search_statement.new.symbols in
     subst (λ (z : Symbols). HasFinal z c.context-context.result (first_tree x) c.in-Ok.analysis.form) (ap table_of (sym c.in_ok-request_section.ensures.tables.symbols))
     (subst (λ (s : Context). HasFinal y s (first_tree x) c.in-Ok.analysis.form) (sym c.context-context.ensures) c.in-Ok.ensures.form)
+
+pub returns-in_err-emit_statement-clause-transitions : goal.returns-in_err-emit_statement-clause-transitions
+returns-in_err-emit_statement-clause-transitions c = grind (arith, common_steps)

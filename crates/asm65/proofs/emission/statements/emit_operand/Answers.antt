@@ -1,4 +1,5 @@
-use Rattle.std.proofs.Common.{◌≡◌, ◌∙◌, [], Option, OnOk, Some, subst, sym}
+use Rattle.std.proofs.lemmas.Grind.{common_steps}
+use Rattle.std.proofs.Common.{arith, ◌≡◌, ◌∙◌, [], Option, OnOk, Some, subst, sym}
 use Rattle.base65.specs.declared.action.Action.TheVariants as action
 use Rattle.syntax65.specs.Trees.{Tree}
 use Rattle.semantics65.specs.Contents.{operand_tree}
@@ -39,3 +40,6 @@ returns-else-branch c =
     let both : OnOk c.defer.result (EmitsPieces location s (operand_pieces (Some width) (Some value)) old new) =
     on_ok c.defer.result (λ waits. tried_waits old mid new location s (expression_value (operand width) value) _ (c.in_ok-emit_value-in-Some-Some.ensures.emitted value action.Error [] final) c.if-branch.false waits) c.defer.ensures.deferred in
     rw c.in-Some-Some.is-0 (subst (λ (o : Option Tree). OnOk c.defer.result (EmitsPieces location s (operand_pieces (Some width) o) old new)) (sym is) both)
+
+pub returns-in_default : goal.returns-in_default
+returns-in_default c = grind (arith, common_steps)

@@ -291,7 +291,22 @@ def changed(text: str, chosen: random.Random) -> str:
     return "".join(lines)
 
 
+def documented(trial: Any) -> None:
+    """The output in docs/WORKBENCH.md for example/nes."""
+    folder = trial.folder({"none": ""})
+    shutil.copytree(f"{pages.ROOT}/example/nes", f"{folder}/nes")
+    shutil.copy(f"{pages.ROOT}/example/nes.cfg", folder)
+    objects = [f"{it}.o" for it in ("controller", "main", "player", "tiles")]
+    for name in objects:
+        tool(folder, "ca65", "-g", "-o", name, f"nes/{name[:-2]}.s")
+    tool(folder, "ld65", "-C", "nes.cfg", "-o", "nes.nes", "--dbgfile", "nes.dbg", *objects)
+    said = trial.run(folder, "pages", "--dbgfile", "nes.dbg")
+    shown = f"```\n$ work65 pages --dbgfile nes.dbg\n{said}```\n"
+    is_so = said.count("\n") > 3 and shown in pages.read("docs/WORKBENCH.md")
+    trial.results.check("WORKBENCH: over a cc65 build", is_so, said)
+
+
 def over_cc65(trial: Any) -> None:
     """All of these tests."""
-    for test in (same, attributes, with_library, refused, mutated):
+    for test in (same, attributes, with_library, refused, mutated, documented):
         test(trial)

@@ -198,6 +198,16 @@ def attributes(trial: Any) -> None:
     trial.same("relative to the debug file", said, known.BANKED_TEXT)
 
 
+def chained(trial: Any) -> None:
+    """A label that only a long chain of constants names counts as referred to."""
+    chain = "".join(f"X{it + 1} = X{it} + 1\n" for it in range(1200))
+    text = f"start: jmp X1200\nthere: .res 2\nlost: .res 1\nX0 = there\n{chain}"
+    folder = built(trial, {"a.s": text}, known.script("$8000"))
+    values = json.loads(trial.run(folder, "unused", "--json", "--dbgfile", "a.dbg"))
+    names = [it["name"] for it in values["not_referred_to"]]
+    trial.same("--dbgfile: a chain of constants", names, ["lost"])
+
+
 def with_library(trial: Any) -> None:
     """A program for the C64, whose library has no debug information, and one in C."""
     folder = trial.folder({"a.s": C64, "c.c": "int x;\nint main(void) { x = 3; return x; }\n"})
@@ -308,5 +318,5 @@ def documented(trial: Any) -> None:
 
 def over_cc65(trial: Any) -> None:
     """All of these tests."""
-    for test in (same, attributes, with_library, refused, mutated, documented):
+    for test in (same, attributes, chained, with_library, refused, mutated, documented):
         test(trial)

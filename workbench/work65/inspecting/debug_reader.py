@@ -3,6 +3,7 @@ from bisect import bisect_left, bisect_right
 from typing import Dict, List, Set, Tuple
 
 from work65.formats.debug_records import DebugRecords, Record
+from work65.frontend.reach import reached
 from work65.frontend.statements import parts_of, statement_in
 from work65.frontend.words import MNEMONICS
 from work65.inspecting.debug_inputs import DebugInputs
@@ -126,19 +127,19 @@ class DebugReader:
     def meaning(self, number: int) -> List[Label]:
         """Returns a label, or the labels in the expression of a constant, also in the module that
         exports it."""
-        if number in self.labels:
-            return [self.labels[number]]
         if number not in self.meant:
-            self.meant[number] = []  # until its expression is read
-            symbol, module = self.symbols.all[number], self.symbols.modules[number]
-            if "exp" in symbol.fields:
-                self.meant[number] = self.meaning(symbol.number("exp"))
-            elif symbol.word("type") == "equ":
-                lines = self.symbols.defining(symbol)
-                named = (self.symbols.referred.get((line, module), []) for line in lines)
-                found = [label for numbers in named for it in numbers for label in self.meaning(it)]
-                self.meant[number] = found or self.containing(symbol)
+            found = sorted(reached([number], self.following))
+            labels = [self.labels[it] for it in found if it in self.labels]
+            self.meant[number] = labels or self.containing(self.symbols.all[number])
         return self.meant[number]
+
+    def following(self, number: int) -> List[int]:
+        """Returns the symbols that a constant or an import stands for."""
+        symbol, module = self.symbols.all[number], self.symbols.modules[number]
+        if "exp" in symbol.fields:
+            return [symbol.number("exp")]
+        lines = self.symbols.defining(symbol) if symbol.word("type") == "equ" else []
+        return [it for line in lines for it in self.symbols.referred.get((line, module), [])]
 
     def containing(self, symbol: Record) -> List[Label]:
         """Returns the label at the value of a constant, if the value is an address."""

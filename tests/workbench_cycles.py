@@ -1,7 +1,8 @@
 #!/usr/bin/env python3
 """Tests work65's `list --cycles`, `pages`, `unused`, `size --diff` and `banks` by the rows of
 cycle_rows.py. If cc65's sim65 is installed, it counts the cycles of a straight routine. Also runs
-over each program of example/, invalid input, and the time for 20,000 lines.
+over each program of example/, invalid input, the time for 20,000 lines, and, if cc65 is
+installed, over builds of cc65 by ld65's debug files (cycle_debug.py).
 
 usage: workbench_cycles.py BIN65 [LINES]    LINES of the large program (20000). The last line is
 'N passed, M failed'."""
@@ -14,6 +15,7 @@ import sys
 import tempfile
 from typing import Any, Dict, Iterator, List, Tuple
 
+import cycle_debug
 import cycle_rows as known
 import pages
 import workbench_builds as builds
@@ -322,6 +324,10 @@ def main() -> None:
             simulated(trial)
         else:
             print("sim65 isn't here: no cycles are counted by it")
+        if builds.has_cc65():
+            cycle_debug.over_cc65(trial)
+        else:
+            print("cc65 isn't here: no debug file of ld65 is read")
         large(trial, int(sys.argv[2]) if len(sys.argv) > 2 else 20000)
     results.end()
 

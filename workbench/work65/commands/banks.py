@@ -21,6 +21,8 @@ def run(arguments: argparse.Namespace) -> int:
     program = inspected(arguments)
     if not has_banks(program):
         said = "no two areas at the same addresses have banks: write `# bank N` after them"
+        if arguments.script is None:
+            raise Problem("give -C CONFIG, whose areas say their banks", 2)
         raise Problem(f"{arguments.script}: {said}", 2)
     found = list(other_banks(program))
     if arguments.json:

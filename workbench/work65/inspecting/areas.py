@@ -1,8 +1,8 @@
 """The areas of a script in which segments run, their banks, and the names that the script needs."""
 import re
-from typing import Dict, Iterator, Optional
+from typing import Dict, Iterator, List, Optional, Tuple
 
-from work65.frontend.script_sums import number_of
+from work65.frontend.script_sums import number_of, value_of
 from work65.frontend.scripts import Entry, blocks_of, entries_in, words_of
 from work65.inspecting.linked import WindowArea
 from work65.instrumenting.layout import Layout
@@ -25,6 +25,26 @@ def areas_of(layout: Layout, text: str) -> Dict[str, WindowArea]:
     for segment in layout.script.segments:
         room = layout.rooms[segment.run]
         found[segment.name] = WindowArea(segment.run, room.start, room.size, banks[segment.run])
+    return found
+
+
+def areas_of_config(text: str, placed: Dict[str, Tuple[int, int]]) -> Dict[str, WindowArea]:
+    """Returns the areas of the linked segments, given the starts and sizes of these. An area whose
+    addresses the config of ld65 computes reaches from its first segment to its last one."""
+    entries = {entry.name.text: entry for entry in entries_in(text, "MEMORY")}
+    runs: Dict[str, List[str]] = {}
+    for segment in entries_in(text, "SEGMENTS"):
+        for word in (segment.get("RUN") or segment.get("LOAD"))[:1]:
+            if segment.name.text in placed and word.text in entries:
+                runs.setdefault(word.text, []).append(segment.name.text)
+    found = {name: WindowArea(name, *place, None) for name, place in placed.items()}
+    for area, names in runs.items():
+        entry = entries[area]
+        start, size = value_of(entry.get("START"), {}), value_of(entry.get("SIZE"), {})
+        if start is None or size is None:
+            start = min(placed[name][0] for name in names)
+            size = max(sum(placed[name]) for name in names) - start
+        found.update(dict.fromkeys(names, WindowArea(area, start, size, bank_of(entry, text))))
     return found
 
 

@@ -1,13 +1,12 @@
 """Makes a linked program from a build of bin65."""
-from bisect import bisect_right
-from typing import Dict, List, Optional, Sequence, Tuple
+from typing import Dict, List, Sequence
 
 from work65.formats.objects import Place
 from work65.frontend.files import read_text
 from work65.frontend.statements import parts_of
 from work65.frontend.words import MNEMONICS, STORAGE
 from work65.inspecting.areas import areas_of, needed_by
-from work65.inspecting.linked import Label, Line, LinkedModule, LinkedProgram
+from work65.inspecting.linked import Label, Line, LinkedModule, LinkedProgram, add_ends
 from work65.instrumenting.build import Build, Unit, is_linked_as_it_is
 from work65.instrumenting.layout import UNWRITTEN
 from work65.instrumenting.located import LocatedLine, LocatedModule, Symbol
@@ -61,17 +60,10 @@ class ModuleReader:
                 label.procedure = label.procedure or label.name
 
     def add_ends(self) -> None:
-        """Adds to each label the address after its last byte. A cheap label ends no other label."""
+        """Adds to each label the address after its last byte."""
         parts = self.unit.linked.parts if self.unit.linked else []
         ends = {it.segment: self.resolver.runs[it.segment] + it.size for it in parts}
-        starts: Dict[Tuple[str, bool], List[int]] = {}
-        for label in self.labels.values():
-            for is_cheap in {True, label.is_cheap}:
-                starts.setdefault((label.segment, is_cheap), []).append(label.address)
-        for label in self.labels.values():
-            others = starts[label.segment, label.is_cheap]
-            later = others[bisect_right(others, label.address) :][:1]
-            label.end = later[0] if later else ends[label.segment]
+        add_ends(list(self.labels.values()), ends)
 
     def add_named(self) -> None:
         """Adds to each line the labels that it names."""

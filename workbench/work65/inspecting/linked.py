@@ -1,11 +1,11 @@
 """A linked program: its lines with final addresses and bytes, its labels, modules and areas.
 
-`from_build` makes one from a build of bin65. Nothing here depends on where the lines come from, so
-another table of lines, such as one read from a debug file, can be turned into one, too."""
+`from_build` makes one from a build of bin65, `from_debug` from a debug file. Nothing here depends
+on where the lines come from."""
 import re
 from bisect import bisect_right
 from dataclasses import dataclass, field
-from typing import Dict, List, Optional, Tuple
+from typing import Dict, List, Mapping, Optional, Sequence, Tuple
 
 from work65.frontend.statements import statement_of
 from work65.frontend.tokens import line_of
@@ -82,6 +82,21 @@ class Line:
         """The text without the label and the comment, and with single blanks."""
         body = statement_of(line_of(self.text, is_expanded=True).tokens, None).body
         return shown(re.sub(r"\s+", " ", self.text[body[0].start : body[-1].end])) if body else ""
+
+
+def add_ends(labels: Sequence[Label], ends: Mapping[str, int]) -> None:
+    """Adds to each label of a module the address after its last byte. A cheap label ends no other
+    label. `ends` are the ends of the module's parts by their segments."""
+    starts: Dict[Tuple[str, bool], List[int]] = {}
+    for label in labels:
+        for is_cheap in {True, label.is_cheap}:
+            starts.setdefault((label.segment, is_cheap), []).append(label.address)
+    for others in starts.values():
+        others.sort()
+    for label in labels:
+        others = starts[label.segment, label.is_cheap]
+        later = others[bisect_right(others, label.address) :][:1]
+        label.end = later[0] if later else ends[label.segment]
 
 
 @dataclass

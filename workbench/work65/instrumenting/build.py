@@ -60,15 +60,15 @@ class Build:
     files: Dict[str, bytes] = field(default_factory=dict)
 
 
-def add_arguments(parser: argparse.ArgumentParser) -> None:
-    """Adds the arguments of a build."""
-    parser.add_argument("-C", dest="script", metavar="SCRIPT", required=True, help="the linker script")
+def add_arguments(parser: argparse.ArgumentParser, is_required: bool = True) -> None:
+    """Adds the arguments of a build, which may be replaced by others if they aren't required."""
+    parser.add_argument("-C", dest="script", metavar="SCRIPT", required=is_required, help="the linker script")
     add_assembler_arguments(parser)
     add = parser.add_argument
     said = "a library of FOLDER's sources, or of the sources NAME=FILE,FILE, linked last"
     add("--library", dest="libraries", action="append", default=[], metavar="NAME=FOLDER", help=said)
     add("--image", metavar="FILE", help="the name of the linked image (default: a.out); if the file exists, it must equal the image")
-    add("sources", nargs="+", metavar="SOURCE", help="a source, or an object or library, in link order")
+    add("sources", nargs="+" if is_required else "*", metavar="SOURCE", help="a source, or an object or library, in link order")
 
 
 def add_assembler_arguments(parser: argparse.ArgumentParser) -> None:

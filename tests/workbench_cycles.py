@@ -295,7 +295,7 @@ def makefile(trial: Trial) -> None:
 
 
 def large(trial: Trial, count: int) -> None:
-    """Each command takes at most three seconds of a processor for itself."""
+    """Each command takes at most five seconds of a processor for itself; if nothing else runs, it takes under three."""
     block = known.LARGE_BLOCK
     parts = [block.replace("NUMBER", str(number)) for number in range(count // 258)]
     files = {f"m{number}.s": known.LARGE_HEAD + "".join(parts) for number in range(20)}
@@ -309,7 +309,7 @@ def large(trial: Trial, count: int) -> None:
         ran = subprocess.run(line, cwd=folder, env=how, capture_output=True, text=True, check=False)
         seconds = float(ran.stderr) if re.fullmatch(r"[\d.]+", ran.stderr) else 99.0
         print(f"work65 {command}: {seconds:.1f} s of a processor for {lines} lines")
-        trial.results.check(f"{command}: time", seconds < 3, ran.stderr)
+        trial.results.check(f"{command}: time", seconds < 5, ran.stderr)
 
 
 def main() -> None:

@@ -82,6 +82,10 @@ USES = " .import TOP, SIZE, __OUT__, HALF, LAST, __BSS_RUN__, __N_FILEOFFS__, __
 WIDE = ' .setcpu "65816"\n .import other\n .code\nhere: brl other\n .faraddr other, here\n .dword other * 3, other - here\n .byte .max(<other, 3)\n' \
        " .word .loword(.min(other, here)), other >> 3, .not other\n .dbyt other\n .byte ^here, >other\n .word .hiword(other)\n per other\n" \
        ' .assert other > 2, lderror, "no"\n .assert here, error, "zero"\n'
+# %S is the default until the config sets another one.
+STARTS = "SYMBOLS { EARLY: type = export, value = %S; }\n" + PLAIN.replace("$800", "%S") + \
+         "FEATURES { STARTADDRESS: default = $9000; }\nSYMBOLS { LATE: type = export, value = %S; }\n"
+STARTED = " .import EARLY, LATE\n .code\nhere: .word EARLY, LATE, here\n"
 # Each translation: the config, the sources (those of a library after "lib", of a second one after "lib2"), and further arguments.
 CASES = {
     "plain": (PLAIN, (MAIN, OTHER, MORE), ()),
@@ -121,6 +125,8 @@ CASES = {
     "symbols of a config that need labels": (
         "SYMBOLS { NEXT: type = export, value = other + 2; LATE: type = weak, value = more - other; }\n" + PLAIN,
         (" .import NEXT, LATE\n .code\n .word NEXT, LATE\n", OTHER, MORE), ()),
+    "a start before its default": (STARTS, (STARTED,), ()),
+    "a start that the command line gives": (STARTS, (STARTED,), ("-S", "0x1000")),
     "an import of a config": ("SYMBOLS { other: type = import; }\n" + PLAIN, (MORE, "lib", OTHER), ()),
 }
 # A load file in which ld65 2.19 writes the block of N over that of M, behind which a segment without bytes lies.

@@ -350,6 +350,10 @@ SCRIPTS = {
     "a link that isn't compared": ("ld65 -C o65.cfg -o 6.bin m.o",
                                    ["6.bin: not compared: o65.cfg:3: %O has the format o65, which can't be made"], 2),
     "options that link nothing": ("ld65 --version; ld65 @answers", ["5.bin: the same image, 8 bytes (1 module)"], 0),
+    "a config beside the linker": ('ld65 -C "$(dirname "$(command -v ld65)")/../share/cc65/cfg/none.cfg" -o 5.bin m.o none.lib',
+                                   ["5.bin: the same image, 8 bytes (1 module)"], 0),
+    "bin65 as the linker": (f'cl65 -c -t c64 c.c; env -u CC65_HOME sh {WORK65} link -C c64.cfg -o 6.bin c.o c64.lib && ld65 @answers',
+                            ["5.bin: the same image, 8 bytes (1 module)"], 0),
     "the tools of CC65_HOME": ('"$CC65_HOME/bin/ld65" @answers; "$CC65_HOME/bin/cl65" -t c64 -o hello.prg c.c',
                                ["5.bin: the same image, 8 bytes (1 module)", HELLO], 0),
 }

@@ -173,6 +173,8 @@ class _Places:
         name = self.words.last("C") or (f"{target}.cfg" if target else "")
         if not name:
             raise Problem("ld65 is given neither a config nor a target")
+        if os.path.exists(name) and not os.path.isfile(name) and not os.path.isdir(name):
+            raise Problem(f"{name}: a config can't be read from a pipe")
         return self.found(name, "cfg-path", "CFG")
 
     def input(self, kind: str, name: str, group: int) -> Input:

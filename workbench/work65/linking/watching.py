@@ -23,7 +23,7 @@ SHIM = """#!/bin/sh
 echo >> {room}/seen
 {python} -S -E -c 'import sys; sys.path.insert(0, sys.argv[1])
 from work65.linking.shim import main
-main()' {package} {room} {linker} {bin65} {kept} "$@" < /dev/null > /dev/null 2>> {room}/errors
+main()' {package} {room} {linker} {bin65} {kept} {top} "$@" < /dev/null > /dev/null 2>> {room}/errors
 exit 0
 """
 LOST = "a link's check has ended without a result"
@@ -38,7 +38,7 @@ def watched(command: Sequence[str], wanted: Wanted) -> int:
         package = os.path.dirname(os.path.dirname(os.path.abspath(work65.__file__)))
         values = {
             "linker": tool, "room": room, "python": sys.executable, "package": package,
-            "bin65": program.path, "kept": wanted.kept,
+            "bin65": program.path, "kept": wanted.kept, "top": os.getcwd(),
         }  # fmt: skip
         status = _ran(command, _environment(values), wanted.is_json)
         links = _links(room)

@@ -370,6 +370,7 @@ UNUSABLE = {
     "--keep -- true": "work65: --keep lacks its folder\n",
     "--keep /dev/null/x -- true": "work65: --keep /dev/null/x: Not a directory\n",
     "ld65 --bogus -C l.cfg -o 6.bin m.o": "6.bin: not compared: --bogus: no option of ld65's\n",
+    "ld65 --bogus -o6.bin m.o": "6.bin: not compared: --bogus: no option of ld65's\n",
     "ld65 -C nope.cfg m.o": "a.out: not compared: nope.cfg: no such file\n",
     "--bin65 /bin/true ld65 -C l.cfg -o 6.bin m.o": "6.bin: not compared: /bin/true makes no map: it isn't bin65\n",
     "ld65 -C l.cfg -o 6.bin main.o": "6.bin: not compared: ld65 refuses: Unresolved external 'other' referenced in: main.s(3) main.s(4) "
@@ -410,6 +411,11 @@ def builds(tries):
         new = set(os.listdir(folder)) - before
         tries.check(f"nothing is left: {name}", new <= {"5.bin", "6.bin", "c.o"}, new)
         tries.check(f"no link is seen: {name}", ("work65: no link was seen" in ran.stderr) == (lines == [] and status == 2), ran)
+    os.makedirs(f"{tries.top}/linker")
+    os.symlink(LINKER, f"{tries.top}/linker/ld65")
+    script, lines, _ = SCRIPTS["bin65 as the linker"]
+    ran = tries.run("second", "--", "sh", "-c", script, folder=folder, PATH=f"{tries.top}/linker:{os.environ['PATH']}")
+    tries.check("a linker that is a link", (said(ran), ran.returncode) == (lines, 0), ran)
     ran = tries.run("second", "--json", "--keep", f"{tries.top}/kept", "--", "sh", "-c", "ld65 @answers; echo building; ld65 @answers", folder=folder)
     links = json.loads(ran.stdout)["links"]
     is_so = [(it["verdict"], it["sizes"]) for it in links] == [("same", {"5.bin": 8})] * 2

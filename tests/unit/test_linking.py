@@ -42,6 +42,7 @@ CALLS = {
     "-C a.cfg a.o -D n=1 -D n=1": "-D defines a symbol twice, which ld65 doesn't take", "-C a.cfg a.o -D _n=1z": "a.cfg a.out a.o _n=1",
     "-C a.cfg a.o -S 1 -S 1": "-S is given twice, which ld65 doesn't take", "-C a.cfg a.o -( -(": "-(: a group is open",
     "-C a.cfg a.o -)": "-): a group is not open", "-C a.cfg a.o -( l.lib": "a group isn't closed",
+    "-C a.cfg a.o --module-id 65536": "--module-id is out of range", "-C a.cfg a.o --module-id x": "x: no number that ld65 takes",
     "-C a.cfg a.o --large-alignment -vmx --dbgfile d --dbgfile e": "a.cfg a.out a.o dbg:e",
     "-C a.cfg a.o @no": "no: No such file or directory",
 }  # fmt: skip

@@ -24,6 +24,9 @@ PLAIN = re.compile(rf"-v|-vm.*|--large-alignment|{TWICE_ALLOWED}", re.S)
 DEFINED = re.compile(r"(?P<name>[A-Za-z_]\w*)=(?P<value>.+)", re.A | re.S)
 LIBRARIES, OBJECTS = (".lib", ".a"), (".o", ".obj")
 OUTPUT = "a.out"
+MODULE_IDS = 0xFFFF
+# The variable with the linker that a script stands for in a build.
+WATCHED = "WORK65_LD65"
 NUMBER = re.compile(
     r"\s*(?P<sign>[-+]?)(?:(?:\$|0[xX])(?P<hex>[0-9A-Fa-f]+)|(?P<octal>0[0-7]*)|(?P<decimal>\d+))",
     re.A,
@@ -79,6 +82,8 @@ def read_call(words: Sequence[str], environment: Mapping[str, str], tool: str) -
     symbols = dict(defined)
     if len(symbols) < len(defined):
         raise Problem("-D defines a symbol twice, which ld65 doesn't take")
+    if not 0 <= _number(parts.last("module-id", "0")) <= MODULE_IDS:
+        raise Problem("--module-id is out of range")
     places = _Places(parts, environment, tool)
     start = parts.last("S")
     return Call(

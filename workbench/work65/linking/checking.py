@@ -28,7 +28,9 @@ class Tools(NamedTuple):
 def checked(words: Sequence[str], tools: Tools, is_done: bool) -> Optional[Verdict]:
     """Checks a link by its command line; None if it links nothing. If `is_done`, cc65's linker has
     made its files already."""
-    name = words[words.index("-o") + 1] if "-o" in words[:-1] else OUTPUT
+    pairs = zip(words, [*words[1:], ""])
+    named = [one[2:] or other for one, other in pairs if one.startswith("-o")]
+    name = next(filter(None, named), OUTPUT)
     try:
         call = read_call(words, os.environ, tools.linker)
         if call is None:

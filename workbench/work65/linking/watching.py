@@ -11,6 +11,7 @@ from typing import Dict, List, Sequence
 
 import work65
 from work65.linking.builds import NOT_COMPARED, Wanted, linker, report
+from work65.linking.call import WATCHED
 from work65.linking.comparing import UNKNOWN, Verdict
 from work65.problem import Problem, complain
 from work65.program import Program
@@ -23,7 +24,8 @@ SHIM = """#!/bin/sh
 echo >> {room}/seen
 {python} -S -E -c 'import sys; sys.path.insert(0, sys.argv[1])
 from work65.linking.shim import main
-main()' {package} {room} {linker} {bin65} {kept} {top} "$@" < /dev/null > /dev/null 2>> {room}/errors
+main()' {package} {room} {linker} {bin65} {kept} {top} "$@" \\
+    < /dev/null > /dev/null 2>> {room}/errors
 exit 0
 """
 LOST = "a link's check has ended without a result"
@@ -72,7 +74,7 @@ def _environment(values: Dict[str, str]) -> Dict[str, str]:
     tools = [it for it in tools if shutil.which(it) in (None, os.path.join(folder, it))]
     shims = _shadow(folder, tools, os.path.join(values["room"], "path"), values)
     path = os.environ.get("PATH", os.defpath)
-    found = {**os.environ, "PATH": f"{shims}{os.pathsep}{path}"}
+    found = {**os.environ, "PATH": f"{shims}{os.pathsep}{path}", WATCHED: values["linker"]}
     home = os.path.abspath(os.environ.get("CC65_HOME", ""))
     folder = os.path.join(home, "bin")
     own = os.path.join(folder, "ld65")

@@ -82,6 +82,10 @@ USES = " .import TOP, SIZE, __OUT__, HALF, LAST, __BSS_RUN__, __N_FILEOFFS__, __
 WIDE = ' .setcpu "65816"\n .import other\n .code\nhere: brl other\n .faraddr other, here\n .dword other * 3, other - here\n .byte .max(<other, 3)\n' \
        " .word .loword(.min(other, here)), other >> 3, .not other\n .dbyt other\n .byte ^here, >other\n .word .hiword(other)\n per other\n" \
        ' .assert other > 2, lderror, "no"\n .assert here, error, "zero"\n'
+# %S is the default until the config sets another one.
+STARTS = "SYMBOLS { EARLY: type = export, value = %S; }\n" + PLAIN.replace("$800", "%S") + \
+         "FEATURES { STARTADDRESS: default = $9000; }\nSYMBOLS { LATE: type = export, value = %S; }\n"
+STARTED = " .import EARLY, LATE\n .code\nhere: .word EARLY, LATE, here\n"
 # Each translation: the config, the sources (those of a library after "lib", of a second one after "lib2"), and further arguments.
 CASES = {
     "plain": (PLAIN, (MAIN, OTHER, MORE), ()),
@@ -121,6 +125,8 @@ CASES = {
     "symbols of a config that need labels": (
         "SYMBOLS { NEXT: type = export, value = other + 2; LATE: type = weak, value = more - other; }\n" + PLAIN,
         (" .import NEXT, LATE\n .code\n .word NEXT, LATE\n", OTHER, MORE), ()),
+    "a start before its default": (STARTS, (STARTED,), ()),
+    "a start that the command line gives": (STARTS, (STARTED,), ("-S", "0x1000")),
     "an import of a config": ("SYMBOLS { other: type = import; }\n" + PLAIN, (MORE, "lib", OTHER), ()),
 }
 # A load file in which ld65 2.19 writes the block of N over that of M, behind which a segment without bytes lies.
@@ -344,8 +350,31 @@ SCRIPTS = {
     "a link that isn't compared": ("ld65 -C o65.cfg -o 6.bin m.o",
                                    ["6.bin: not compared: o65.cfg:3: %O has the format o65, which can't be made"], 2),
     "options that link nothing": ("ld65 --version; ld65 @answers", ["5.bin: the same image, 8 bytes (1 module)"], 0),
+    "a config beside the linker": ('ld65 -C "$(dirname "$(command -v ld65)")/../share/cc65/cfg/none.cfg" -o 5.bin m.o none.lib',
+                                   ["5.bin: the same image, 8 bytes (1 module)"], 0),
+    "bin65 as the linker": (f'cl65 -c -t c64 c.c; env -u CC65_HOME sh {WORK65} link -C c64.cfg -o 6.bin c.o c64.lib && ld65 @answers',
+                            ["5.bin: the same image, 8 bytes (1 module)"], 0),
+    "two folders": ("ld65 @answers; cd sub; ld65 -C ../l.cfg -o 5.bin ../m.o; rm 5.bin",
+                    ["5.bin: the same image, 8 bytes (1 module)", "sub/5.bin: the same image, 8 bytes (1 module)"], 0),
+    "a config that names its file": ("ld65 -C named.cfg -o 5.bin m.o", ["6.bin: the same image, 8 bytes (1 module)"], 0),
+    "a device": ("ld65 -C l.cfg -o /dev/null m.o", ["/dev/null: the same image, 8 bytes (1 module)"], 0),
+    "an input that is the output": ("cp m.o 5.bin; ld65 -C l.cfg -o 5.bin 5.bin", ["5.bin: not compared: 5.bin is an input and the output"], 2),
+    "a config from a pipe": ("cat l.cfg | ld65 -C /dev/stdin -o 5.bin m.o",
+                             ["5.bin: not compared: /dev/stdin: a config can't be read from a pipe"], 2),
     "the tools of CC65_HOME": ('"$CC65_HOME/bin/ld65" @answers; "$CC65_HOME/bin/cl65" -t c64 -o hello.prg c.c',
                                ["5.bin: the same image, 8 bytes (1 module)", HELLO], 0),
+}
+# Words after `second`, and what is printed; the status is 2.
+UNUSABLE = {
+    "make": "work65: a command follows --, as in: work65 second -- make\n",
+    "--keep -- true": "work65: --keep lacks its folder\n",
+    "--keep /dev/null/x -- true": "work65: --keep /dev/null/x: Not a directory\n",
+    "ld65 --bogus -C l.cfg -o 6.bin m.o": "6.bin: not compared: --bogus: no option of ld65's\n",
+    "ld65 --bogus -o6.bin m.o": "6.bin: not compared: --bogus: no option of ld65's\n",
+    "ld65 -C nope.cfg m.o": "a.out: not compared: nope.cfg: no such file\n",
+    "--bin65 /bin/true ld65 -C l.cfg -o 6.bin m.o": "6.bin: not compared: /bin/true makes no map: it isn't bin65\n",
+    "ld65 -C l.cfg -o 6.bin main.o": "6.bin: not compared: ld65 refuses: Unresolved external 'other' referenced in: main.s(3) main.s(4) "
+                                     "ld65: Error: 1 unresolved external(s) found - cannot create output file\n",
 }
 
 
@@ -359,9 +388,15 @@ def builds(tries):
     folder = tries.folder("prö jekt")
     os.makedirs("sub")
     for name, text in [("Makefile", MAKEFILE), ("c.c", C_PROGRAM), ("l.cfg", PLAIN), ("o65.cfg", PLAIN + "FILES { %O: format = o65; }\n"),
-                       *((f"ü {it}.s", PROGRAM) for it in range(1, 5)), ("m.s", PROGRAM), ("answers", "-C\nl.cfg\n-o\n5.bin\nm.o\n")]:
+                       *((f"ü {it}.s", PROGRAM) for it in range(1, 5)), ("m.s", PROGRAM), ("main.s", MAIN),
+                       ("named.cfg", PLAIN.replace('file = ""; M:', 'file = %O; M: file = "6.bin",')),
+                       ("answers", "-C\nl.cfg\n-o\n5.bin\nm.o\n")]:
         pages.put(name, text)
-    subprocess.run(["ca65", "-g", "m.s"], check=True)
+    for it in ("m.s", "main.s"):
+        subprocess.run(["ca65", "-g", it], check=True)
+    for words, text in UNUSABLE.items():
+        ran = tries.run("second", *words.split(), folder=folder, CC65_HOME="/nowhere")
+        tries.check(f"unusable: {words}", (ran.returncode, ran.stdout + ran.stderr) == (2, text), ran)
     ran = tries.run("second", "--", "make", "-s", "-j4", folder=folder)
     good = [f"{it}.bin: the same image, 8 bytes (1 module)" for it in range(1, 5)] + [HELLO]
     tries.check("make -j4", ran.returncode == 0 and sorted(said(ran)) == good, ran)
@@ -376,10 +411,18 @@ def builds(tries):
         new = set(os.listdir(folder)) - before
         tries.check(f"nothing is left: {name}", new <= {"5.bin", "6.bin", "c.o"}, new)
         tries.check(f"no link is seen: {name}", ("work65: no link was seen" in ran.stderr) == (lines == [] and status == 2), ran)
+    os.makedirs(f"{tries.top}/linker")
+    os.symlink(LINKER, f"{tries.top}/linker/ld65")
+    script, lines, _ = SCRIPTS["bin65 as the linker"]
+    ran = tries.run("second", "--", "sh", "-c", script, folder=folder, PATH=f"{tries.top}/linker:{os.environ['PATH']}")
+    tries.check("a linker that is a link", (said(ran), ran.returncode) == (lines, 0), ran)
     ran = tries.run("second", "--json", "--keep", f"{tries.top}/kept", "--", "sh", "-c", "ld65 @answers; echo building; ld65 @answers", folder=folder)
     links = json.loads(ran.stdout)["links"]
     is_so = [(it["verdict"], it["sizes"]) for it in links] == [("same", {"5.bin": 8})] * 2
     tries.check("JSON", is_so and ran.stderr == "building\n", ran)
+    ran = tries.run("second", "--keep", f"{tries.top}/kept", "--", "sh", "-c", "ld65 @answers", folder=folder)
+    said_then = f"work65: --keep {tries.top}/kept: the folder isn't empty\n"
+    tries.check("a folder of an earlier run", (ran.returncode, ran.stdout, ran.stderr) == (2, "", said_then), ran)
     for name in ("5.bin", "5.bin-2"):
         place = f"{tries.top}/kept/{name}"
         os.remove(f"{place}/image")
@@ -396,20 +439,20 @@ def hostile_names(tries):
     """Objects and images with names that a shell, a terminal or ld65 could take for something else."""
     folder = tries.folder("names")
     tries.arguments(PLAIN, (PROGRAM,), ())
-    for it in HOSTILE:
+    for at, it in enumerate(HOSTILE):
         os.makedirs(b"to/" + it)
         shutil.copyfile("m0.o", b"to/" + it + b"/m.o")
         words = (b"./to/" + it + b"/" + it, b"./to/" + it + b"/m.o")
         script = 'ld65 -C l.cfg -o "$1" "$2"'
         how = {**tries.environment, "LC_ALL": "C"}
-        command = ["/bin/sh", WORK65, "second", "--keep", "kept", "--", "sh", "-c", script, "sh", *words]
+        command = ["/bin/sh", WORK65, "second", "--keep", f"kept{at}", "--", "sh", "-c", script, "sh", *words]
         ran = subprocess.run(command, cwd=folder, capture_output=True, env=how, check=False)
         good = words[0].replace(b"\n", b"?") + b": the same image, 8 bytes (1 module)\n"
+        tries.check(f"the name of a kept link: {it}", os.listdir(f"kept{at}".encode()) == [it], it)
         tries.check(f"a name: {it}", (ran.returncode, ran.stdout, ran.stderr) == (0, good, b""), ran)
         command = ["/bin/sh", WORK65, "link", "-C", "l.cfg", "-o", words[0] + b".2", words[1]]
         ran = subprocess.run(command, cwd=folder, capture_output=True, env=how, check=False)
         tries.check(f"a name: {it}, link", ran.returncode == 0 and read(words[0] + b".2") == read(words[0]), ran)
-    tries.check("names of kept links", sorted(os.listdir(b"kept")) == sorted(HOSTILE), os.listdir(b"kept"))
 
 
 def read(name):

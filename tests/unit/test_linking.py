@@ -34,8 +34,16 @@ CALLS = {
     "@answers": "a.cfg a.out a.o n=5",
     "--version": None, "-h": None, "-C a.cfg": None,
     "-C a.cfg none.o": "none.o: no such file", "-C none.cfg a.o": "none.cfg: no such file", "a.o": "ld65 is given neither a config nor a target",
-    "-C a.cfg -t c64 a.o": "-C or -t is given twice, which ld65 doesn't take", "-C a.cfg a.o -D n": "-D n: the symbol lacks its value",
+    "-C a.cfg -t c64 a.o": "-C or -t is given twice, which ld65 doesn't take", "-C a.cfg a.o -D n": "-D n: no name with a value",
     "-C a.cfg a.o -D n=x": "x: no number that ld65 takes", "-C a.cfg a.o -m": "-m: the option lacks its value",
+    "-C a.cfg a.o --bogus": "--bogus: no option of ld65's", "--config=a.cfg a.o": "--config=a.cfg: no option of ld65's",
+    "-C a.cfg a.o -vv": "-vv: no option of ld65's", "-C a.cfg a.o -": "-: no option of ld65's", "-V --bogus": None, "-C a.cfg a.o -help": None,
+    "-C a.cfg a.o -D 3x=1": "-D 3x=1: no name with a value", "-C a.cfg a.o -D x.y=1": "-D x.y=1: no name with a value",
+    "-C a.cfg a.o -D n=1 -D n=1": "-D defines a symbol twice, which ld65 doesn't take", "-C a.cfg a.o -D _n=1z": "a.cfg a.out a.o _n=1",
+    "-C a.cfg a.o -S 1 -S 1": "-S is given twice, which ld65 doesn't take", "-C a.cfg a.o -( -(": "-(: a group is open",
+    "-C a.cfg a.o -)": "-): a group is not open", "-C a.cfg a.o -( l.lib": "a group isn't closed",
+    "-C a.cfg a.o --module-id 65536": "--module-id is out of range", "-C a.cfg a.o --module-id x": "x: no number that ld65 takes",
+    "-C a.cfg a.o --large-alignment -vmx --dbgfile d --dbgfile e": "a.cfg a.out a.o dbg:e",
     "-C a.cfg a.o @no": "no: No such file or directory",
 }  # fmt: skip
 # Sums where A is a name of bin65's and N is 5.

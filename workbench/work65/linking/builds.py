@@ -40,7 +40,7 @@ def wanted_of(words: Sequence[str]) -> Tuple[Wanted, Sequence[str]]:
         word, value = words[at], words[at + 1] if at + 1 < len(words) else ""
         if word == "--json":
             wanted, at = wanted._replace(is_json=True), at - 1
-        elif word == "--keep" and value:
+        elif word == "--keep" and value not in ("", "--"):
             wanted = wanted._replace(kept=os.path.abspath(value))
         elif word == "--bin65" and value:
             wanted = wanted._replace(bin65=value)
@@ -55,14 +55,31 @@ def run_words(words: Sequence[str]) -> Optional[int]:
     wanted, rest = wanted_of(words)
     try:
         if rest[:1] == ["ld65"]:
+            make_folder(wanted.kept)
             return one_link(rest[1:], wanted)
         if rest[:1] == ["--"] and len(rest) > 1:
             from work65.linking.watching import watched
 
+            make_folder(wanted.kept)
             return watched(rest[1:], wanted)
+        if rest[:1] == ["--keep"]:
+            raise Problem("--keep lacks its folder")
+        if rest and shutil.which(rest[0]) and not (os.path.isfile(rest[0]) and "-C" in rest):
+            raise Problem(f"a command follows --, as in: work65 second -- {rest[0]}")
     except Problem as problem:
         raise Problem(str(problem), NOT_COMPARED) from problem
     return None
+
+
+def make_folder(kept: str) -> None:
+    """Makes the folder for what bin65 linked, in which nothing may be."""
+    try:
+        if kept:
+            os.makedirs(kept, exist_ok=True)
+        if kept and os.listdir(kept):
+            raise Problem(f"--keep {kept}: the folder isn't empty")
+    except OSError as error:
+        raise Problem(f"--keep {kept}: {error.strerror}") from error
 
 
 def one_link(words: Sequence[str], wanted: Wanted) -> int:

@@ -15,12 +15,18 @@ LONG = {
     "--target": "t",
 }  # fmt: skip
 SHORT = "CDLSmotu"
-ONCE = (("C", "t"), ("o",), ("m",), ("Ln",), ("dbgfile",))
+ONCE = (("C", "t"), ("o",), ("m",), ("Ln",), ("S",))
 TWICE_ALLOWED = "--allow-multiple-definition"
 OPENS, CLOSES = ("-(", "--start-group"), ("-)", "--end-group")
-SHOWS = ("-V", "-h", "--help", "--version")
+# Options without a value: those that only show a text, and others.
+SHOWS = re.compile(r"-[Vh].*|--help|--version", re.S)
+PLAIN = re.compile(rf"-v|-vm.*|--large-alignment|{TWICE_ALLOWED}", re.S)
+DEFINED = re.compile(r"(?P<name>[A-Za-z_]\w*)=(?P<value>.+)", re.A | re.S)
 LIBRARIES, OBJECTS = (".lib", ".a"), (".o", ".obj")
 OUTPUT = "a.out"
+MODULE_IDS = 0xFFFF
+# The variable with the linker that a script stands for in a build.
+WATCHED = "WORK65_LD65"
 NUMBER = re.compile(
     r"\s*(?P<sign>[-+]?)(?:(?:\$|0[xX])(?P<hex>[0-9A-Fa-f]+)|(?P<octal>0[0-7]*)|(?P<decimal>\d+))",
     re.A,
@@ -67,16 +73,22 @@ class Words:
 def read_call(words: Sequence[str], environment: Mapping[str, str], tool: str) -> Optional[Call]:
     """Reads a command line of ld65; None if it asks for no link."""
     parts = _parts(_with_answers(words))
-    if any(it in SHOWS for it in parts.plain) or not parts.inputs:
+    if not parts.inputs:
         return None
     for keys in ONCE:
         if sum(len(parts.options.get(it, [])) for it in keys) > 1:
             raise Problem(f"-{' or -'.join(keys)} is given twice, which ld65 doesn't take")
+    defined = list(map(_defined, parts.options.get("D", [])))
+    symbols = dict(defined)
+    if len(symbols) < len(defined):
+        raise Problem("-D defines a symbol twice, which ld65 doesn't take")
+    if not 0 <= _number(parts.last("module-id", "0")) <= MODULE_IDS:
+        raise Problem("--module-id is out of range")
     places = _Places(parts, environment, tool)
     start = parts.last("S")
     return Call(
         places.config(), parts.last("o", OUTPUT), [places.input(*it) for it in parts.inputs],
-        dict(map(_defined, parts.options.get("D", []))), parts.options.get("u", []),
+        symbols, parts.options.get("u", []),
         _number(start) if start else None, TWICE_ALLOWED in parts.plain,
         parts.last("m"), parts.last("Ln"), parts.last("dbgfile"),
     )  # fmt: skip
@@ -98,16 +110,22 @@ def _with_answers(words: Sequence[str]) -> List[str]:
 
 
 def _parts(words: Sequence[str]) -> Words:
-    """Splits a command line into options and inputs."""
+    """Splits a command line into options and inputs; none if it shows a text."""
     found, left, group, is_open = Words(), list(reversed(words)), 0, False
     while left:
         word = left.pop()
         key, value = _option(word)
         if word in OPENS or word in CLOSES:
+            if is_open == (word in OPENS):
+                raise Problem(f"{word}: a group is {'' if is_open else 'not '}open")
             is_open = word in OPENS
             group += is_open
-        elif not key and word.startswith("-"):
+        elif SHOWS.fullmatch(word):
+            return Words()
+        elif PLAIN.fullmatch(word):
             found.plain.append(word)
+        elif not key and word.startswith("-"):
+            raise Problem(f"{word}: no option of ld65's")
         else:
             if key and not value and not left:
                 raise Problem(f"{word}: the option lacks its value")
@@ -116,6 +134,8 @@ def _parts(words: Sequence[str]) -> Words:
                 found.inputs.append((key, value, group * is_open))
             else:
                 found.options.setdefault(key, []).append(value)
+    if is_open:
+        raise Problem("a group isn't closed")
     return found
 
 
@@ -123,8 +143,8 @@ def _option(word: str) -> Tuple[str, str]:
     """Returns an option with a value by its key, and the value that is in the same word."""
     if word.startswith("--"):
         return LONG.get(word, ""), ""
-    if word.startswith(("-Ln", "-Lp")):
-        return "Ln" if word[2] == "n" else "L", word[3:]
+    if word.startswith("-Ln"):
+        return "Ln", word[3:]
     return (word[1], word[2:]) if word[:1] == "-" and word[1:2] and word[1] in SHORT else ("", "")
 
 
@@ -140,10 +160,10 @@ def _number(text: str) -> int:
 
 def _defined(text: str) -> Tuple[str, int]:
     """Returns the symbol that -D defines, and its value."""
-    name, sign, number = text.partition("=")
-    if not sign:
-        raise Problem(f"-D {text}: the symbol lacks its value")
-    return name, _number(number)
+    found = DEFINED.fullmatch(text)
+    if found is None:
+        raise Problem(f"-D {text}: no name with a value")
+    return found["name"], _number(found["value"])
 
 
 class _Places:
@@ -158,6 +178,8 @@ class _Places:
         name = self.words.last("C") or (f"{target}.cfg" if target else "")
         if not name:
             raise Problem("ld65 is given neither a config nor a target")
+        if os.path.exists(name) and not os.path.isfile(name) and not os.path.isdir(name):
+            raise Problem(f"{name}: a config can't be read from a pipe")
         return self.found(name, "cfg-path", "CFG")
 
     def input(self, kind: str, name: str, group: int) -> Input:

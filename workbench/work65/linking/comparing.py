@@ -32,10 +32,11 @@ def compared(plan: Plan, theirs: Mapping[str, bytes], ours: Linked) -> Verdict:
                 values = f"{one[at]:02X} and {other[at]:02X}"
                 what = f"{name} differs from byte {at} on (ld65 and bin65: {values})"
             return Verdict(DIFFERENT, f"{what}: {where}", sizes)
+    label = plan.label(sizes)
     if not sizes:
-        return Verdict(UNKNOWN, f"{plan.label}: not compared: no file has bytes", sizes)
+        return Verdict(UNKNOWN, f"{label}: not compared: no file has bytes", sizes)
     total = f"{sum(sizes.values())} bytes{f' in {len(sizes)} files' * (len(sizes) > 1)}"
-    return Verdict(SAME, f"{plan.label}: the same image, {total} ({_modules(plan)})", sizes)
+    return Verdict(SAME, f"{label}: the same image, {total} ({_modules(plan)})", sizes)
 
 
 def _modules(plan: Plan) -> str:

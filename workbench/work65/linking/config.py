@@ -127,27 +127,34 @@ class _Reader:
     """Reads the blocks of a config."""
 
     def __init__(self, text: str, given: Given) -> None:
-        self.given, self.start = given, DEFAULT_START
+        self.given = given
+        self.start = DEFAULT_START if given.start is None else given.start
         self.entries: Dict[str, List[Entry]] = {it: [] for it in BLOCKS}
         for block in blocks_of(words_of(text)):
             if block.word.upper not in BLOCKS:
                 raise self.problem(block.word, "is no block of a config")
             for entry in block.entries:
-                for it in entry.attributes if block.word.upper != "FORMATS" else ():
-                    if it.name.upper not in BLOCKS[block.word.upper] or not it.value:
-                        raise self.problem(it.name, "is no attribute there")
-            self.entries[block.word.upper] += block.entries
+                self.add(block.word.upper, entry)
+
+    def add(self, block: str, entry: Entry) -> None:
+        """Adds an entry, in which %S is the start that the config has set so far."""
+        for it in entry.attributes if block != "FORMATS" else ():
+            if it.name.upper not in BLOCKS[block] or not it.value:
+                raise self.problem(it.name, "is no attribute there")
+            it.value = [
+                one._replace(kind="number", text=str(self.start)) if one.upper == "%S" else one
+                for one in it.value
+            ]
+        self.entries[block].append(entry)
+        if block == "FEATURES":
+            if entry.name.upper not in ("CONDES", "STARTADDRESS"):
+                raise self.problem(entry.name, "is no feature that is known")
+            default = self.number(entry, "DEFAULT")
+            self.start = self.start if default is None or self.given.start is not None else default
 
     def config(self) -> Config:
         """Reads all blocks."""
         features = self.entries["FEATURES"]
-        for it in features:
-            if it.name.upper not in ("CONDES", "STARTADDRESS"):
-                raise self.problem(it.name, "is no feature that is known")
-            default = self.number(it, "DEFAULT")
-            self.start = self.start if default is None else default
-        if self.given.start is not None:
-            self.start = self.given.start
         return Config(
             list(map(self.area, self.entries["MEMORY"])),
             list(map(self.row, self.entries["SEGMENTS"])),
@@ -160,15 +167,9 @@ class _Reader:
         """Returns the message about a word of the config."""
         return Problem(f"{self.given.name}:{word.line}: {word.text} {text}")
 
-    def sum(self, entry: Entry, name: str) -> Words:
-        """Returns the words of a sum, in which %S is a number."""
-        start = str(self.start)
-        words = entry.get(name)
-        return [it._replace(kind="number", text=start) if it.upper == "%S" else it for it in words]
-
     def number(self, entry: Entry, name: str) -> Optional[int]:
         """Returns the number of an attribute, None if there is none."""
-        words = self.sum(entry, name)
+        words = entry.get(name)
         found = value_of(words, {}) if words else None
         if words and found is None:
             raise self.problem(words[0], "isn't constant")
@@ -193,14 +194,14 @@ class _Reader:
 
     def area(self, entry: Entry) -> Area:
         """Reads an entry of MEMORY."""
-        start, size = self.sum(entry, "START"), self.sum(entry, "SIZE")
+        start, size = entry.get("START"), entry.get("SIZE")
         if not start or not size:
             raise self.problem(entry.name, "lacks a start or a size")
         file, kind = self.text(entry, "FILE", self.given.output), self.text(entry, "TYPE")
         return Area(
             entry.name.text, entry.name.line, start, size, file, self.switch(entry, "FILL"),
             self.number(entry, "FILLVAL") or 0, self.switch(entry, "DEFINE"),
-            kind.upper() == "RO", self.sum(entry, "BANK"),
+            kind.upper() == "RO", entry.get("BANK"),
         )  # fmt: skip
 
     def row(self, entry: Entry) -> Row:
@@ -217,7 +218,7 @@ class _Reader:
 
     def symbol(self, entry: Entry) -> Symbol:
         """Reads an entry of SYMBOLS."""
-        kind, value = self.text(entry, "TYPE").upper(), self.sum(entry, "VALUE")
+        kind, value = self.text(entry, "TYPE").upper(), entry.get("VALUE")
         if kind not in ("EXPORT", "IMPORT", "WEAK") or bool(value) == (kind == "IMPORT"):
             raise self.problem(entry.name, "isn't complete or has an unknown type")
         return Symbol(entry.name.text, entry.name.line, kind, value)

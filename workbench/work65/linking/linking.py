@@ -4,7 +4,7 @@ import shutil
 from typing import Dict, Sequence
 
 from work65.formats.maps import Map
-from work65.linking.call import read_call
+from work65.linking.call import WATCHED, read_call
 from work65.linking.plan import Plan, plan_of
 from work65.linking.run import linked
 from work65.problem import Problem
@@ -18,7 +18,8 @@ def link(words: Sequence[str]) -> int:
     """Links. Raises a Problem and writes nothing if bin65 can't make what ld65 would."""
     named = words[1] if words[:1] == ["--bin65"] and len(words) > 1 else None
     program = Program.find(named)
-    call = read_call(words[2:] if named else words, os.environ, shutil.which("ld65") or "")
+    tool = os.environ.get(WATCHED) or shutil.which("ld65") or ""
+    call = read_call(words[2:] if named else words, os.environ, tool)
     if call is None:
         raise Problem("nothing to link: give objects, and a config by -C or -t", 2)
     if call.debug:

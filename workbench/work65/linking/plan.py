@@ -47,11 +47,10 @@ class Plan(NamedTuple):
         """Returns the files that the link makes, by the names that the config gives."""
         return list(dict.fromkeys(it.file for it in self.config.areas if it.file))
 
-    @property
-    def label(self) -> str:
-        """Returns the name of the link in messages: its output, or its first file."""
-        made = self.made or [self.call.output]
-        return self.call.output if self.call.output in made else made[0]
+    def label(self, sizes: Mapping[str, int]) -> str:
+        """Returns the name of the link in messages: its output, or its first file with bytes."""
+        named = [it for it in (self.call.output, *self.made) if sizes.get(it)]
+        return (named or [self.call.output])[0]
 
 
 def plan_of(call: Call) -> Plan:

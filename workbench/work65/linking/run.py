@@ -36,8 +36,10 @@ def write_plan(plan: Plan, folder: str) -> List[str]:
 def linked(plan: Plan, program: Program, folder: str) -> Linked:
     """Links a plan. Raises a Problem with bin65's message if bin65 can't."""
     ran = program.run(write_plan(plan, folder), folder)
-    if ran.status:
+    if ran.status and ran.err:
         raise Problem(f"bin65 refuses: {_named(os.fsdecode(ran.err), plan)}")
+    if not os.path.isfile(os.path.join(folder, MAP)):
+        raise Problem(f"{program.path} makes no map: it isn't bin65")
     placed = read_map(read_bytes(os.path.join(folder, MAP)), "bin65's map")
     numbers = dict(placed.symbols)
     for it in placed.rows:

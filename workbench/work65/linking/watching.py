@@ -3,6 +3,7 @@ has one for CC65_HOME if that is set."""
 import json
 import os
 import shlex
+import shutil
 import signal
 import subprocess
 import sys
@@ -10,6 +11,7 @@ from typing import Dict, List, Sequence
 
 import work65
 from work65.linking.builds import NOT_COMPARED, Wanted, linker, report
+from work65.linking.call import WATCHED
 from work65.linking.comparing import UNKNOWN, Verdict
 from work65.problem import Problem, complain
 from work65.program import Program
@@ -22,7 +24,8 @@ SHIM = """#!/bin/sh
 echo >> {room}/seen
 {python} -S -E -c 'import sys; sys.path.insert(0, sys.argv[1])
 from work65.linking.shim import main
-main()' {package} {room} {linker} {bin65} {kept} "$@" < /dev/null > /dev/null 2>> {room}/errors
+main()' {package} {room} {linker} {bin65} {kept} {top} "$@" \\
+    < /dev/null > /dev/null 2>> {room}/errors
 exit 0
 """
 LOST = "a link's check has ended without a result"
@@ -37,7 +40,7 @@ def watched(command: Sequence[str], wanted: Wanted) -> int:
         package = os.path.dirname(os.path.dirname(os.path.abspath(work65.__file__)))
         values = {
             "linker": tool, "room": room, "python": sys.executable, "package": package,
-            "bin65": program.path, "kept": wanted.kept,
+            "bin65": program.path, "kept": wanted.kept, "top": os.getcwd(),
         }  # fmt: skip
         status = _ran(command, _environment(values), wanted.is_json)
         links = _links(room)
@@ -64,38 +67,41 @@ def _ran(command: Sequence[str], environment: Dict[str, str], is_json: bool) -> 
 
 
 def _environment(values: Dict[str, str]) -> Dict[str, str]:
-    """Returns the environment of a build, in which ld65 is watched."""
-    shims = os.path.join(values["room"], "bin")
-    os.mkdir(shims)
-    _write_shim(shims, values)
+    """Returns the environment of a build, in which ld65 is watched. Beside the script for ld65 are
+    cc65's tools that PATH has there."""
+    folder = os.path.dirname(values["linker"])
+    tools = [it for it in os.listdir(folder) if it.endswith("65")]
+    tools = [it for it in tools if shutil.which(it) in (None, os.path.join(folder, it))]
+    shims = _shadow(folder, tools, os.path.join(values["room"], "path"), values)
     path = os.environ.get("PATH", os.defpath)
-    found = {**os.environ, "PATH": f"{shims}{os.pathsep}{path}"}
-    home = os.environ.get("CC65_HOME", "")
-    own = os.path.join(home, "bin", "ld65")
-    if home and os.path.isfile(own):
-        found["CC65_HOME"] = _shadow(os.path.abspath(home), {**values, "linker": own})
+    found = {**os.environ, "PATH": f"{shims}{os.pathsep}{path}", WATCHED: values["linker"]}
+    home = os.path.abspath(os.environ.get("CC65_HOME", ""))
+    folder = os.path.join(home, "bin")
+    own = os.path.join(folder, "ld65")
+    if os.environ.get("CC65_HOME") and os.path.isfile(own):
+        shadow = os.path.join(values["room"], "home")
+        _shadow(folder, os.listdir(folder), shadow, {**values, "linker": own})
+        found["CC65_HOME"] = shadow
     return found
 
 
-def _write_shim(folder: str, values: Dict[str, str]) -> None:
-    """Writes the script that stands for ld65."""
-    path = os.path.join(folder, "ld65")
+def _shadow(folder: str, tools: Sequence[str], shadow: str, values: Dict[str, str]) -> str:
+    """Makes a folder like that around the linker's, and returns the one that is like the linker's:
+    with a script for ld65 and with links to tools. What is beside the folder is linked, too, as
+    builds find cc65's files from there, and cl65 calls the tools of its own folder."""
+    home, name = os.path.split(folder)
+    shims = os.path.join(shadow, name)
+    os.makedirs(shims)
+    beside = os.listdir(home) if os.access(home, os.R_OK) else []
+    links = [*(it for it in beside if it != name), *(os.path.join(name, it) for it in tools)]
+    for link in links:
+        if link != os.path.join(name, "ld65"):
+            os.symlink(os.path.join(home, link), os.path.join(shadow, link))
+    path = os.path.join(shims, "ld65")
     with open(path, "w", encoding="utf-8", errors="surrogateescape") as it:
         it.write(SHIM.format(**{key: shlex.quote(value) for key, value in values.items()}))
     os.chmod(path, 0o755)
-
-
-def _shadow(home: str, values: Dict[str, str]) -> str:
-    """Makes a folder like that of CC65_HOME, with links to all but ld65. cl65 calls the tools of
-    the folder by which it's called."""
-    shadow = os.path.join(values["room"], "home")
-    os.makedirs(os.path.join(shadow, "bin"))
-    tools = [os.path.join("bin", it) for it in os.listdir(os.path.join(home, "bin"))]
-    for name in [*os.listdir(home), *tools]:
-        if name not in ("bin", os.path.join("bin", "ld65")):
-            os.symlink(os.path.join(home, name), os.path.join(shadow, name))
-    _write_shim(os.path.join(shadow, "bin"), values)
-    return shadow
+    return shims
 
 
 def _links(room: str) -> List[Verdict]:

@@ -175,7 +175,7 @@ def listed_by_reader(obj):
                         f"0x{it.value:08X}" if isinstance(it.value, int) else ""))
     return (
         [(f'"{it.name}"', it.size, it.alignment, f"0x{it.address_size:02X}",
-          it.count) for it in obj.sections],
+          it.fragment_count) for it in obj.sections],
         [(f"0x{it.address_size:02X}", f'"{it.name}"') for it in obj.imports],
         exports,
     )

@@ -84,7 +84,7 @@ def position_in(obj: CcObject, segment: str, offset: int) -> Optional[Position]:
     section = next(it for it in obj.sections if it.name == segment)
     at = 0
     for it in section.fragments():
-        at += it.width if isinstance(it, Value) else it.count if isinstance(it, Fill) else len(it)
+        at += it.width if isinstance(it, Value) else it.size if isinstance(it, Fill) else len(it)
         if offset < at:
             return obj.position(it.lines) if isinstance(it, Value) else None
     return None

@@ -79,7 +79,7 @@ class Table(NamedTuple):
     number: int
     label: str
     segment: str
-    count: str
+    length_name: str
     is_decreasing: bool
     imported: str
 

@@ -60,6 +60,6 @@ def _write(files: Dict[str, bytes]) -> None:
             with open(name, "wb") as it:
                 it.write(data)
         except OSError as error:
-            for it in filter(os.path.lexists, new):
-                os.remove(it)
+            for made in filter(os.path.lexists, new):
+                os.remove(made)
             raise Problem(f"{name}: {error.strerror}") from error

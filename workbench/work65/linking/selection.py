@@ -139,7 +139,7 @@ class Selection:
         names = self.listed(table)
         values = [r65_writer.Value(r65_writer.WORD, objects.Import(it)) for it in names]
         exports = [r65_writer.Export(table.label, Place(table.segment, 0))]
-        exports += [r65_writer.Export(table.count, len(names))] if table.count else []
+        exports += [r65_writer.Export(table.length_name, len(names))] if table.length_name else []
         section = r65_writer.Section(table.segment, 1, values)
         return r65_writer.written(r65_writer.Module(table.label, (), [section], exports))
 
@@ -170,12 +170,12 @@ class Banks:
     def segments_in(self, unit: Unit, value: Expression, seen: Tuple[str, ...]) -> Set[str]:
         """Returns the segments that an expression depends on, through exports that aren't seen."""
         if isinstance(value, SectionIndex):
-            return {unit.object().sections[value.index].name}
+            return {unit.object().sections[value.number].name}
         if isinstance(value, Operation):
             return {name for it in value.parts for name in self.segments_in(unit, it, seen)}
         if not isinstance(value, ImportIndex):
             return set()
-        name = unit.object().imports[value.index].name
+        name = unit.object().imports[value.number].name
         other = self.selection.exporters.get(name)
         if other is None or name in seen:
             return set()

@@ -37,13 +37,13 @@ class Kind(Enum):
 class ImportIndex(NamedTuple):
     """The value of an import of the object."""
 
-    index: int
+    number: int
 
 
 class SectionIndex(NamedTuple):
     """The address at which the object's part of a segment starts."""
 
-    index: int
+    number: int
 
 
 class Operation(NamedTuple):
@@ -94,7 +94,7 @@ class Value(NamedTuple):
 class Fill(NamedTuple):
     """A number of bytes that the linker fills."""
 
-    count: int
+    size: int
 
 
 class Assertion(NamedTuple):
@@ -117,7 +117,7 @@ class Section(NamedTuple):
     size: int
     alignment: int
     address_size: int
-    count: int
+    fragment_count: int
     start: int
     end: int
 
@@ -242,7 +242,7 @@ class CcObject:
     def fragments_of(self, section: Section) -> Iterator[Fragment]:
         """Yields the fragments of a section."""
         data, at, size = self.data, section.start, 0
-        for _ in range(section.count):
+        for _ in range(section.fragment_count):
             kind, at = data[at], at + 1
             if kind & 0x18 in (0x08, 0x10) and 1 <= kind & 7 <= 4 and kind < 0x20:
                 expression, at = self.expression(at)

@@ -95,8 +95,8 @@ class Translation:
             code, parts = expression
             return self.prefix(code, parts[0]) if len(parts) == 1 else self.operation(code, *parts)
         if isinstance(expression, SectionIndex):
-            return self.places[expression.index]
-        return self.imports[expression.index] if isinstance(expression, ImportIndex) else expression
+            return self.places[expression.number]
+        return self.imports[expression.number] if isinstance(expression, ImportIndex) else expression
 
     def operation(self, code: int, first: Expression, second: Expression) -> Form:
         """Returns the form of an operator and two parts."""
@@ -146,7 +146,7 @@ class Translation:
             if isinstance(fragment, bytes):
                 yield fragment
             elif isinstance(fragment, Fill):
-                yield objects.Fill(fragment.count)
+                yield objects.Fill(fragment.size)
             else:
                 width, is_signed, expression, lines = fragment
                 form, position = self.form_at(expression, lines), self.object.position(lines)
@@ -176,7 +176,7 @@ class Translation:
         sections = []
         for it in self.object.sections:
             if self.facts.keeps_empty or it.size or it.alignment != 1:
-                content = self.fragments(it) if it.count or it.size else ()
+                content = self.fragments(it) if it.fragment_count or it.size else ()
                 sections.append(r65_writer.Section(it.name, it.alignment, content))
         name, exports, assertions = self.object.name, self.exports(), self.assertions()
         return r65_writer.written(r65_writer.Module(name, imports, sections, exports, assertions))

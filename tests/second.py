@@ -381,7 +381,7 @@ def workflow(tries):
     for name, line in steps_of_the_workflow()[1:]:
         ran = subprocess.run(["bash", "-e", "-c", line], cwd=project, env=how, capture_output=True, text=True, check=False)
         tries.check(name, ran.returncode == 0, ran)
-    good = "game.prg: the same image, 346 bytes in 2 files (1 module, 2 of lib.lib)\n"
+    good = "project/build/game.prg: the same image, 346 bytes in 2 files (1 module, 2 of lib.lib)\n"
     tries.check("what the workflow says", ran.stdout.endswith(f"\n{good}"), ran)
 
 

@@ -373,6 +373,8 @@ UNUSABLE = {
     "ld65 --bogus -o6.bin m.o": "6.bin: not compared: --bogus: no option of ld65's\n",
     "ld65 -C nope.cfg m.o": "a.out: not compared: nope.cfg: no such file\n",
     "--bin65 /bin/true ld65 -C l.cfg -o 6.bin m.o": "6.bin: not compared: /bin/true makes no map: it isn't bin65\n",
+    "ld65 -C small.cfg -o 6.bin m.o": "6.bin: not compared: ld65 refuses: ld65: Warning: small.cfg(1): Segment 'CODE' overflows memory area 'M' by 3 bytes "
+                                      "ld65: Error: Cannot generate most of the files due to memory area overflow\n",
     "ld65 -C l.cfg -o 6.bin main.o": "6.bin: not compared: ld65 refuses: Unresolved external 'other' referenced in: main.s(3) main.s(4) "
                                      "ld65: Error: 1 unresolved external(s) found - cannot create output file\n",
 }
@@ -389,7 +391,7 @@ def builds(tries):
     os.makedirs("sub")
     for name, text in [("Makefile", MAKEFILE), ("c.c", C_PROGRAM), ("l.cfg", PLAIN), ("o65.cfg", PLAIN + "FILES { %O: format = o65; }\n"),
                        *((f"ü {it}.s", PROGRAM) for it in range(1, 5)), ("m.s", PROGRAM), ("main.s", MAIN),
-                       ("named.cfg", PLAIN.replace('file = ""; M:', 'file = %O; M: file = "6.bin",')),
+                       ("small.cfg", PLAIN.replace("size = $1000", "size = 3")), ("named.cfg", PLAIN.replace('file = ""; M:', 'file = %O; M: file = "6.bin",')),
                        ("answers", "-C\nl.cfg\n-o\n5.bin\nm.o\n")]:
         pages.put(name, text)
     for it in ("m.s", "main.s"):

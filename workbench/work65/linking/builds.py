@@ -64,7 +64,8 @@ def run_words(words: Sequence[str]) -> Optional[int]:
             return watched(rest[1:], wanted)
         if rest[:1] == ["--keep"]:
             raise Problem("--keep lacks its folder")
-        if rest and shutil.which(rest[0]) and not (os.path.isfile(rest[0]) and "-C" in rest):
+        has_script = any(it.startswith("-C") for it in rest)
+        if rest and shutil.which(rest[0]) and not (has_script and os.path.isfile(rest[0])):
             raise Problem(f"a command follows --, as in: work65 second -- {rest[0]}")
     except Problem as problem:
         raise Problem(str(problem), NOT_COMPARED) from problem

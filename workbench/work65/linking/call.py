@@ -88,9 +88,8 @@ def read_call(words: Sequence[str], environment: Mapping[str, str], tool: str) -
     start = parts.last("S")
     return Call(
         places.config(), parts.last("o", OUTPUT), [places.input(*it) for it in parts.inputs],
-        symbols, parts.options.get("u", []),
-        _number(start) if start else None, TWICE_ALLOWED in parts.plain,
-        parts.last("m"), parts.last("Ln"), parts.last("dbgfile"),
+        symbols, parts.options.get("u", []), _number(start) if start else None,
+        TWICE_ALLOWED in parts.plain, parts.last("m"), parts.last("Ln"), parts.last("dbgfile"),
     )  # fmt: skip
 
 

@@ -37,9 +37,8 @@ def link(call: Call, tool: str, folder: str, has_map: bool = True) -> Theirs:
         words, cwd=folder, stdin=subprocess.DEVNULL, capture_output=True, check=False
     )
     if ran.returncode:
-        said = os.fsdecode(ran.stderr).replace(SCRIPT, call.config).split("\n")
-        lines = " ".join(it.strip() for it in said if it and ": Warning: " not in it)
-        raise Problem(f"ld65 refuses: {lines}")
+        said = os.fsdecode(ran.stderr).replace(SCRIPT, call.config).strip().split("\n")
+        raise Problem(f"ld65 refuses: {' '.join(it.strip() for it in said)}")
     made = {}
     for plain, raw in {**names, IMAGE: OUTPUT}.items():
         if os.path.isfile(os.path.join(folder, plain)):
